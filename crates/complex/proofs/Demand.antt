@@ -1,0 +1,68 @@
+-- Demand 3, of the definitions: every command keeps a drawing sound and changes the Euler number by its shift. Assumes nothing.
+use Prim.Native.Nat.{ℕ}
+use mathlib.Core.Path.{_≡_, refl, sym, ap, subst}
+use mathlib.Core.Bool.{Bool, true, false}
+use mathlib.Core.List.{List}
+use lib.Dec.{T, eqb}
+use borrow.Author.Tests.{eqb-true}
+use Rattle.coordinate.specs.declared.Position.{Position}
+use Rattle.complex.specs.Cells.{Sheet}
+use Rattle.complex.specs.Decode.{Command, create, move, delete, glueVertices, glueEdges, unglue, cutEdge, cutFaceVertex, cutFaceOpen, cutFaceClosed, uncut}
+use Rattle.complex.specs.Commands.{result}
+use Rattle.complex.specs.Demands.{Demand3}
+use Rattle.complex.proofs.Keep.{Sound}
+use Rattle.complex.proofs.Adds.{Passes, KeepsSound, create-sound, move-sound, glue-sound}
+use Rattle.complex.proofs.Split.{split-sound}
+use Rattle.complex.proofs.Euler.{Balanced, create-balanced, delete-balanced, split-balanced}
+use Rattle.complex.proofs.Delete.{delete-sound}
+use Rattle.complex.proofs.Faces.{move-balanced, glue-balanced, dot-sound, dot-balanced, round-sound, round-balanced, bridge-sound, bridge-balanced}
+use Rattle.complex.proofs.Edges.{glue-edges-sound, glue-edges-balanced}
+use Rattle.complex.proofs.CutEdge.{cut-edge-sound, cut-edge-balanced}
+use Rattle.complex.proofs.UnglueVertex.{unglue-sound, unglue-balanced}
+use Rattle.complex.proofs.Uncut.{uncut-sound, uncut-balanced}
+use Rattle.complex.proofs.Obey.{demand3-from}
+
+cut-sound : (f c1 s1 c2 s2 : ℕ) (bs : List Position) (ms : List ℕ) → KeepsSound (cutFaceOpen f c1 s1 c2 s2 bs ms)
+cut-sound f c1 s1 c2 s2 bs ms s S p = go (eqb c1 c2) refl
+  where
+    go : (b : Bool) → eqb c1 c2 ≡ b → Sound (result s (cutFaceOpen f c1 s1 c2 s2 bs ms))
+    go true e =
+        let z = eqb-true c1 c2 e in
+        subst (λ (c : ℕ). Passes s (cutFaceOpen f c1 s1 c s2 bs ms) → Sound (result s (cutFaceOpen f c1 s1 c s2 bs ms))) z (split-sound f c1 s1 s2 bs ms s S) p
+    go false e = bridge-sound f c1 s1 c2 s2 bs ms s S p e
+
+cut-balanced : (f c1 s1 c2 s2 : ℕ) (bs : List Position) (ms : List ℕ) (s : Sheet) → Sound s → Passes s (cutFaceOpen f c1 s1 c2 s2 bs ms) → Balanced s (cutFaceOpen f c1 s1 c2 s2 bs ms)
+cut-balanced f c1 s1 c2 s2 bs ms s S p = go (eqb c1 c2) refl
+  where
+    go : (b : Bool) → eqb c1 c2 ≡ b → Balanced s (cutFaceOpen f c1 s1 c2 s2 bs ms)
+    go true e = subst (λ (c : ℕ). Passes s (cutFaceOpen f c1 s1 c s2 bs ms) → Balanced s (cutFaceOpen f c1 s1 c s2 bs ms)) (eqb-true c1 c2 e) (split-balanced f c1 s1 s2 bs ms s S) p
+    go false e = bridge-balanced f c1 s1 c2 s2 bs ms s S p e
+
+pub keeps : (c : Command) → KeepsSound c
+keeps (create x) = create-sound x
+keeps (move v p) = move-sound v p
+keeps (delete i) = delete-sound i
+keeps (glueVertices a b) = glue-sound a b
+keeps (glueEdges a b flag) = glue-edges-sound a b flag
+keeps (unglue i) = unglue-sound i
+keeps (cutEdge e q) = cut-edge-sound e q
+keeps (cutFaceVertex f p) = dot-sound f p
+keeps (cutFaceOpen f c1 s1 c2 s2 bs ms) = cut-sound f c1 s1 c2 s2 bs ms
+keeps (cutFaceClosed f bs ms) = round-sound f bs ms
+keeps (uncut i) = λ s S p. uncut-sound s S i p
+
+pub balances : (c : Command) (s : Sheet) → Sound s → Passes s c → Balanced s c
+balances (create x) = λ s S q. create-balanced s x
+balances (move v p) = move-balanced v p
+balances (delete i) = λ s S q. delete-balanced s i
+balances (glueVertices a b) = glue-balanced a b
+balances (glueEdges a b flag) = glue-edges-balanced a b flag
+balances (unglue i) = unglue-balanced i
+balances (cutEdge e q) = cut-edge-balanced e q
+balances (cutFaceVertex f p) = dot-balanced f p
+balances (cutFaceOpen f c1 s1 c2 s2 bs ms) = cut-balanced f c1 s1 c2 s2 bs ms
+balances (cutFaceClosed f bs ms) = round-balanced f bs ms
+balances (uncut i) = λ s S p. uncut-balanced s S i p
+
+pub demand3 : Demand3
+demand3 = demand3-from keeps balances

@@ -1,0 +1,570 @@
+-- 09 at a vertex: ends that a passage joins get one vertex, so every cycle stays joined. Soundness and shift. Assumes nothing.
+use Prim.Native.Nat.{ℕ, zero, suc, _+_, _-_, _≤_, _<_}
+use native.Mathlib.Omega.{arith}
+use mathlib.Core.Path.{_≡_, refl, sym, ap, _∙_, subst}
+use mathlib.Core.Logic.{_⊎_, inl, inr}
+use mathlib.Core.Bool.{Bool, true, false, not, _&&_, _||_, cond, true≢false, or-assoc, or-true}
+use mathlib.Core.List.{List, [], _∷_, _++_, map}
+use mathlib.Core.Option.{Option, none, some}
+use lib.ListN.{length, replicate}
+use lib.Dec.{T, eqb, ltb, leb, eqb→eq, eqb-refl}
+use borrow.Author.Tests.{eq-eqb, ne-eqb, eqb-true, eqb-false}
+use Rattle.number.specs.Readers.{spread}
+use Rattle.coordinate.specs.declared.Position.{Position}
+use Rattle.coordinate.specs.Bounds.{within}
+use Rattle.complex.specs.Lists.{all, any, filter, consIf, total, one}
+use Rattle.complex.specs.Cells.{Halfedge, Cycle, lone, path, Figure, vertex, openEdge, closedEdge, face, LiveCell, Sheet, Look, someIf, lookup, isVertex, isOpen, isClosed, startOf, endOf, cyclesOf, stepsOf, along, against, flipped, same, tailOf, headOf, cellAt, isVertexOrEdge}
+use Rattle.complex.specs.Sound.{Walk, idsEnd, leads, cycleOk, figureOk, ceilings, joins, over}
+use Rattle.complex.specs.Decode.{Command, unglue}
+use Rattle.complex.specs.Edits.{keepIds, numbered, rebuild, everyId}
+use Rattle.complex.specs.Uses.{figureEnds, endsAt, Passage, passage, passagesFrom, passages, allCycles, passagesAt, isIn, touches, joinGroups, joinAll, groups, groupOf, loneUse, usesBy, earlier, counting, onUses}
+use Rattle.complex.specs.Unglue.{copyOf, copies, newLone, newEnd, newEnds, parts, ungluing, unglued}
+use Rattle.complex.specs.Commands.{question4, question6, result}
+use Rattle.complex.proofs.Gains.{gain, loss, Shift, shift}
+use Rattle.complex.proofs.Bools.{truth, true-of, either, both, pair, cases, or-left, or-right, equal}
+use Rattle.complex.proofs.Walks.{walk-of, Round, Ring, Some, joins-cases, round-joins, ring-joins}
+use Rattle.complex.proofs.Keep.{Sound, Look′, rebuild-sound, same-eq, same-refl}
+use Rattle.complex.proofs.Adds.{stays-at, new-at, Passes}
+use Rattle.complex.proofs.Unglue.{asPart, unglue-open-sound, unglue-closed-sound, unglue-open-balanced, unglue-closed-balanced, uses-within, total-replicate, total-none, lookup-copies, length-counting}
+use Rattle.complex.proofs.Euler.{over-rebuild, over-reshape, keep-all, Balanced}
+
+-- ---- groups: what is together stays together
+abbrev Groups : Type 0
+Groups = List (List Halfedge)
+
+-- x and y are in the same groups
+abbrev pub Together : Groups → Halfedge → Halfedge → Type 0
+Together [] x y = Unit {0}
+Together (g ∷ gs) x y = (isIn g x ≡ isIn g y) × Together gs x y
+
+-- x is in one of them
+abbrev pub Among : Groups → Halfedge → Type 0
+Among [] x = ⊥
+Among (g ∷ gs) x = T (isIn g x) ⊎ Among gs x
+
+in-append : (g k : List Halfedge) (x : Halfedge) → isIn (g ++ k) x ≡ (isIn g x || isIn k x)
+in-append [] k x = refl
+in-append (h ∷ g) k x = ap (λ (b : Bool). same x h || b) (in-append g k x) ∙ sym (or-assoc (same x h) (isIn g x) (isIn k x))
+
+in-left : (g k : List Halfedge) (x : Halfedge) → T (isIn g x) → T (isIn (g ++ k) x)
+in-left g k x t = subst T (sym (in-append g k x)) (or-left (isIn g x) (isIn k x) t)
+
+in-right : (g k : List Halfedge) (x : Halfedge) → T (isIn k x) → T (isIn (g ++ k) x)
+in-right g k x t = subst T (sym (in-append g k x)) (or-right (isIn g x) (isIn k x) t)
+
+abbrev flat : Groups → List Halfedge
+flat gs = spread (λ (x : List Halfedge). x) gs
+
+module _ (p : List Halfedge → Bool) where
+  together-filter : (gs : Groups) (x y : Halfedge) → Together gs x y → Together (filter p gs) x y
+  together-filter [] x y t = tt
+  together-filter (g ∷ gs) x y t = go (p g) (together-filter gs x y (t .1))
+    where
+      go : (b : Bool) → Together (filter p gs) x y → Together (consIf b g (filter p gs)) x y
+      go true r = (t .0, r)
+      go false r = r
+
+  together-flat : (gs : Groups) (x y : Halfedge) → Together gs x y → isIn (flat (filter p gs)) x ≡ isIn (flat (filter p gs)) y
+  together-flat [] x y t = refl
+  together-flat (g ∷ gs) x y t = go (p g) (together-flat gs x y (t .1))
+    where
+      go : (b : Bool) → isIn (flat (filter p gs)) x ≡ isIn (flat (filter p gs)) y → isIn (flat (consIf b g (filter p gs))) x ≡ isIn (flat (consIf b g (filter p gs))) y
+      go true r = in-append g (flat (filter p gs)) x ∙ (λ i. t .0 i || r i) ∙ sym (in-append g (flat (filter p gs)) y)
+      go false r = r
+
+  among-filter : (gs : Groups) (x : Halfedge) → Among gs x → Among (filter p gs) x ⊎ T (isIn (flat (filter (λ (g : List Halfedge). not (p g)) gs)) x)
+  among-filter [] x a = absurd a
+  among-filter (g ∷ gs) x (inl t) = go (p g)
+    where
+      go : (b : Bool) → Among (consIf b g (filter p gs)) x ⊎ T (isIn (flat (consIf (not b) g (filter (λ (k : List Halfedge). not (p k)) gs))) x)
+      go true = inl (inl t)
+      go false = inr (in-left g (flat (filter (λ (k : List Halfedge). not (p k)) gs)) x t)
+  among-filter (g ∷ gs) x (inr a) = go (p g) (among-filter gs x a)
+    where
+      go : (b : Bool) → Among (filter p gs) x ⊎ T (isIn (flat (filter (λ (k : List Halfedge). not (p k)) gs)) x)
+          → Among (consIf b g (filter p gs)) x ⊎ T (isIn (flat (consIf (not b) g (filter (λ (k : List Halfedge). not (p k)) gs))) x)
+      go true (inl r) = inl (inr r)
+      go true (inr r) = inr r
+      go false (inl r) = inl r
+      go false (inr r) = inr (in-right g (flat (filter (λ (k : List Halfedge). not (p k)) gs)) x r)
+
+module _ (t : Passage) where
+  pub together-join : (gs : Groups) (x y : Halfedge) → Together gs x y → Together (joinGroups t gs) x y
+  together-join [] x y h = h
+  together-join (g ∷ gs) x y h = go (touches t g) (together-join gs x y (h .1))
+    where
+      go : (b : Bool) → Together (joinGroups t gs) x y → Together (cond b ((g ++ flat (filter (touches t) gs)) ∷ filter (λ (k : List Halfedge). not (touches t k)) gs) (g ∷ joinGroups t gs)) x y
+      go true r = (
+        in-append g (flat (filter (touches t) gs)) x ∙ (λ i. h .0 i || together-flat (touches t) gs x y (h .1) i) ∙ sym (in-append g (flat (filter (touches t) gs)) y),
+        together-filter (λ (k : List Halfedge). not (touches t k)) gs x y (h .1),
+      )
+      go false r = (h .0, r)
+
+  -- untouched groups hold neither end
+  untouched : (g : List Halfedge) → touches t g ≡ false → isIn g (t .arrives) ≡ isIn g (t .leaves)
+  untouched g q = go (isIn g (t .arrives)) (isIn g (t .leaves)) q
+    where
+      go : (a b : Bool) → (a || b) ≡ false → a ≡ b
+      go true b z = absurd (true≢false z)
+      go false true z = absurd (true≢false z)
+      go false false z = refl
+
+  untouched-all : (gs : Groups) → Together (filter (λ (k : List Halfedge). not (touches t k)) gs) (t .arrives) (t .leaves)
+  untouched-all [] = tt
+  untouched-all (g ∷ gs) = go (touches t g) refl (untouched-all gs)
+    where
+      go : (b : Bool) → touches t g ≡ b → Together (filter (λ (k : List Halfedge). not (touches t k)) gs) (t .arrives) (t .leaves)
+          → Together (consIf (not b) g (filter (λ (k : List Halfedge). not (touches t k)) gs)) (t .arrives) (t .leaves)
+      go true q r = r
+      go false q r = (untouched g q, r)
+
+  -- an end of t that is among gs is in what t touches
+  touched : (x : Halfedge) → ((g : List Halfedge) → T (isIn g x) → T (touches t g)) → (gs : Groups) → Among gs x → T (isIn (flat (filter (touches t) gs)) x)
+  touched x f [] a = absurd a
+  touched x f (g ∷ gs) (inl i) = rw (true-of (touches t g) (f g i)) (in-left g (flat (filter (touches t) gs)) x i)
+  touched x f (g ∷ gs) (inr a) = go (touches t g) (touched x f gs a)
+    where
+      go : (b : Bool) → T (isIn (flat (filter (touches t) gs)) x) → T (isIn (flat (consIf b g (filter (touches t) gs))) x)
+      go true r = in-right g (flat (filter (touches t) gs)) x r
+      go false r = r
+
+  by-arrives : (g : List Halfedge) → T (isIn g (t .arrives)) → T (touches t g)
+  by-arrives g i = or-left (isIn g (t .arrives)) (isIn g (t .leaves)) i
+
+  by-leaves : (g : List Halfedge) → T (isIn g (t .leaves)) → T (touches t g)
+  by-leaves g i = or-right (isIn g (t .arrives)) (isIn g (t .leaves)) i
+
+  pub join-together : (gs : Groups) → Among gs (t .arrives) → Among gs (t .leaves) → Together (joinGroups t gs) (t .arrives) (t .leaves)
+  join-together [] a b = tt
+  join-together (g ∷ gs) a b = go (touches t g) refl (λ c d. join-together gs c d)
+    where
+      here : (x : Halfedge) → ((k : List Halfedge) → T (isIn k x) → T (touches t k)) → Among (g ∷ gs) x → T (isIn (g ++ flat (filter (touches t) gs)) x)
+      here x f (inl i) = in-left g (flat (filter (touches t) gs)) x i
+      here x f (inr c) = in-right g (flat (filter (touches t) gs)) x (touched x f gs c)
+
+      later : (x : Halfedge) → ((k : List Halfedge) → T (isIn k x) → T (touches t k)) → touches t g ≡ false → Among (g ∷ gs) x → Among gs x
+      later x f q (inl i) = absurd (subst T q (f g i))
+      later x f q (inr c) = c
+
+      go : (b : Bool) → touches t g ≡ b → (Among gs (t .arrives) → Among gs (t .leaves) → Together (joinGroups t gs) (t .arrives) (t .leaves))
+          → Together (cond b ((g ++ flat (filter (touches t) gs)) ∷ filter (λ (k : List Halfedge). not (touches t k)) gs) (g ∷ joinGroups t gs)) (t .arrives) (t .leaves)
+      go true q r = (true-of (isIn (g ++ flat (filter (touches t) gs)) (t .arrives)) (here (t .arrives) by-arrives a) ∙ sym (true-of (isIn (g ++ flat (filter (touches t) gs)) (t .leaves)) (here (t .leaves) by-leaves b)), untouched-all gs)
+      go false q r = (untouched g q, r (later (t .arrives) by-arrives q a) (later (t .leaves) by-leaves q b))
+
+  pub among-join : (gs : Groups) (x : Halfedge) → Among gs x → Among (joinGroups t gs) x
+  among-join [] x a = a
+  among-join (g ∷ gs) x (inl i) = go (touches t g)
+    where
+      go : (b : Bool) → Among (cond b ((g ++ flat (filter (touches t) gs)) ∷ filter (λ (k : List Halfedge). not (touches t k)) gs) (g ∷ joinGroups t gs)) x
+      go true = inl (in-left g (flat (filter (touches t) gs)) x i)
+      go false = inl i
+  among-join (g ∷ gs) x (inr a) = go (touches t g) (among-join gs x a)
+    where
+      other : Among (filter (λ (k : List Halfedge). not (touches t k)) gs) x ⊎ T (isIn (flat (filter (λ (k : List Halfedge). not (not (touches t k))) gs)) x) → Among ((g ++ flat (filter (touches t) gs)) ∷ filter (λ (k : List Halfedge). not (touches t k)) gs) x
+      other (inl r) = inr r
+      other (inr r) = inl (in-right g (flat (filter (touches t) gs)) x (subst (λ (ks : Groups). T (isIn (flat ks) x)) (twice gs) r))
+        where
+          twice : (ks : Groups) → filter (λ (k : List Halfedge). not (not (touches t k))) ks ≡ filter (touches t) ks
+          twice [] = refl
+          twice (k ∷ ks) = go (touches t k) (twice ks)
+            where
+              go : (b : Bool) → filter (λ (k : List Halfedge). not (not (touches t k))) ks ≡ filter (touches t) ks → consIf (not (not b)) k (filter (λ (k : List Halfedge). not (not (touches t k))) ks) ≡ consIf b k (filter (touches t) ks)
+              go true z = ap (λ (l : Groups). k ∷ l) z
+              go false z = z
+
+      go : (b : Bool) → Among (joinGroups t gs) x → Among (cond b ((g ++ flat (filter (touches t) gs)) ∷ filter (λ (k : List Halfedge). not (touches t k)) gs) (g ∷ joinGroups t gs)) x
+      go true r = other (among-filter (λ (k : List Halfedge). not (touches t k)) gs x a)
+      go false r = inr r
+
+-- ---- all passages joined
+module _ {A : Type 0} (Q : A → Type 0) where
+  abbrev pub Every : List A → Type 0
+  Every [] = Unit {0}
+  Every (x ∷ xs) = Q x × Every xs
+
+  pub every-left : (xs ys : List A) → Every (xs ++ ys) → Every xs
+  every-left [] ys e = tt
+  every-left (x ∷ xs) ys e = (e .0, every-left xs ys (e .1))
+
+  pub every-right : (xs ys : List A) → Every (xs ++ ys) → Every ys
+  every-right [] ys e = e
+  every-right (x ∷ xs) ys e = every-right xs ys (e .1)
+
+together-all : (ts : List Passage) (gs : Groups) (x y : Halfedge) → Together gs x y → Together (joinAll ts gs) x y
+together-all [] gs x y h = h
+together-all (t ∷ ts) gs x y h = together-all ts (joinGroups t gs) x y (together-join t gs x y h)
+
+among-all : (ts : List Passage) (gs : Groups) (x : Halfedge) → Among gs x → Among (joinAll ts gs) x
+among-all [] gs x a = a
+among-all (t ∷ ts) gs x a = among-all ts (joinGroups t gs) x (among-join t gs x a)
+
+abbrev Ends : Groups → Passage → Type 0
+Ends gs t = Among gs (t .arrives) × Among gs (t .leaves)
+
+ends-join : (u : Passage) (gs : Groups) (ts : List Passage) → Every (Ends gs) ts → Every (Ends (joinGroups u gs)) ts
+ends-join u gs [] e = tt
+ends-join u gs (t ∷ ts) e = ((among-join u gs (t .arrives) (e .0 .0), among-join u gs (t .leaves) (e .0 .1)), ends-join u gs ts (e .1))
+
+pub join-all : (ts : List Passage) (gs : Groups) → Every (Ends gs) ts → Every (λ (t : Passage). Together (joinAll ts gs) (t .arrives) (t .leaves)) ts
+join-all [] gs e = tt
+join-all (u ∷ us) gs e = (together-all us (joinGroups u gs) (u .arrives) (u .leaves) (join-together u gs (e .0 .0) (e .0 .1)), join-all us (joinGroups u gs) (ends-join u gs us (e .1)))
+
+pub together-group : (gs : Groups) (x y : Halfedge) → Together gs x y → groupOf gs x ≡ groupOf gs y
+together-group [] x y h = refl
+together-group (g ∷ gs) x y h = λ i. cond (h .0 i) 0 (suc (together-group gs x y (h .1) i))
+
+pub among-group : (gs : Groups) (x : Halfedge) → Among gs x → groupOf gs x < length gs
+among-group [] x a = absurd a
+among-group (g ∷ gs) x a = go (isIn g x) refl a (λ r. among-group gs x r)
+  where
+    go : (b : Bool) → isIn g x ≡ b → Among (g ∷ gs) x → (Among gs x → groupOf gs x < length gs) → cond b 0 (suc (groupOf gs x)) < suc (length gs)
+    go true q a r = omega arith
+    go false q (inl i) r = absurd (subst T q i)
+    go false q (inr c) r = let h = r c in omega arith
+
+-- ---- every edge end at a vertex is listed
+among-one : (xs : List Halfedge) (h : Halfedge) → T (isIn xs h) → Among (map one xs) h
+among-one [] h t = t
+among-one (x ∷ xs) h t = elim (cases (same h x) (isIn xs h) t) [
+  | inl a ↦ inl (or-left (same h x) false a)
+  | inr b ↦ inr (among-one xs h b)
+]
+
+pub end-in : (cs : List LiveCell) (v : ℕ) (h : Halfedge) (a b : ℕ) (bs : List Position) → lookup cs (h .edge) ≡ some (openEdge a b bs) → cond (h .backward) b a ≡ v → T (isIn (endsAt cs v) h)
+end-in [] v h a b bs e q = absurd (let z : _≡_ {A = ℕ} 0 1 = cc in omega arith)
+end-in (c ∷ cs) v h a b bs e q = go (eqb (c .id) (h .edge)) refl e (λ r. end-in cs v h a b bs r q)
+  where
+    here : (bw : Bool) → h .backward ≡ bw → c .id ≡ h .edge → cond bw b a ≡ v → T (isIn (figureEnds v (c .id) (openEdge a b bs)) h)
+    here true z i k =
+        let w : T (same h (against (c .id))) = pair (eqb (h .edge) (c .id)) (mathlib.Core.Bool.Bool·beq (h .backward) true) (equal (sym i)) (rw z tt) in
+        let y : T (isIn (against (c .id) ∷ []) h) = or-left (same h (against (c .id))) false w in
+        rw (eq-eqb b v k) (first (eqb a v) y)
+      where
+        first : (x : Bool) → T (isIn (against (c .id) ∷ []) h) → T (isIn (consIf x (along (c .id)) (against (c .id) ∷ [])) h)
+        first true y = or-right (same h (along (c .id))) (isIn (against (c .id) ∷ []) h) y
+        first false y = y
+    here false z i k =
+        let w : T (same h (along (c .id))) = pair (eqb (h .edge) (c .id)) (mathlib.Core.Bool.Bool·beq (h .backward) false) (equal (sym i)) (rw z tt) in
+        rw (eq-eqb a v k) (or-left (same h (along (c .id))) _ w)
+
+    go : (x : Bool) → eqb (c .id) (h .edge) ≡ x → someIf x (c .figure) (lookup cs (h .edge)) ≡ some (openEdge a b bs) → (lookup cs (h .edge) ≡ some (openEdge a b bs) → T (isIn (endsAt cs v) h)) → T (isIn (endsAt (c ∷ cs) v) h)
+    go true i e r =
+        let z : c .figure ≡ openEdge a b bs = cc in
+        in-left (figureEnds v (c .id) (c .figure)) (endsAt cs v) h (subst (λ (t : Figure). T (isIn (figureEnds v (c .id) t) h)) (sym z) (here (h .backward) refl (eqb-true (c .id) (h .edge) i) q))
+    go false i e r = in-right (figureEnds v (c .id) (c .figure)) (endsAt cs v) h (r e)
+
+pub open-at : (look : Look) (e : ℕ) → T (isOpen (look e)) → (a b : ℕ) × (bs : List Position) × (look e ≡ some (openEdge a b bs))
+open-at look e t = go (look e) refl t
+  where
+    go : (o : Option Figure) → look e ≡ o → T (isOpen o) → (a b : ℕ) × (bs : List Position) × (look e ≡ some (openEdge a b bs))
+    go none q k = absurd k
+    go (some (vertex p)) q k = absurd k
+    go (some (openEdge a b bs)) q k = (a, b, bs, q)
+    go (some (closedEdge bs)) q k = absurd k
+    go (some (face ks)) q k = absurd k
+
+-- ---- lists of lists
+module _ {A : Type 0} (p : A → Bool) where
+  pub filter-append : (xs ys : List A) → filter p (xs ++ ys) ≡ filter p xs ++ filter p ys
+  filter-append [] ys = refl
+  filter-append (x ∷ xs) ys = go (p x) (filter-append xs ys)
+    where
+      go : (b : Bool) → filter p (xs ++ ys) ≡ filter p xs ++ filter p ys → consIf b x (filter p (xs ++ ys)) ≡ consIf b x (filter p xs) ++ filter p ys
+      go true h = ap (λ (l : List A). x ∷ l) h
+      go false h = h
+
+spread-append : {A B : Type 0} (g : A → List B) (xs ys : List A) → spread g (xs ++ ys) ≡ spread g xs ++ spread g ys
+spread-append g [] ys = refl
+spread-append g (x ∷ xs) ys = ap (λ (l : List _). g x ++ l) (spread-append g xs ys) ∙ sym (mathlib.Core.List.append-assoc (g x) (spread g xs) (spread g ys))
+
+pub every-both : {A : Type 0} (Q : A → Type 0) (xs ys : List A) → Every Q xs → Every Q ys → Every Q (xs ++ ys)
+every-both Q [] ys a b = b
+every-both Q (x ∷ xs) ys a b = (a .0, every-both Q xs ys (a .1) b)
+
+abbrev pub turnsOf : List Cycle → List Passage
+turnsOf ks = spread (λ (k : Cycle). passages (stepsOf k)) ks
+
+-- ---- what holds of all passages holds of each face's
+pub passages-in : (Q : Passage → Type 0) (Here : Passage → Bool) (cs : List LiveCell) → Every Q (filter Here (turnsOf (allCycles cs))) → (j : ℕ) (t : Figure) → lookup cs j ≡ some t → Every Q (filter Here (turnsOf (cyclesOf (some t))))
+passages-in Q Here [] e j t q = absurd (let z : _≡_ {A = ℕ} 0 1 = cc in omega arith)
+passages-in Q Here (c ∷ cs) e j t q = go (eqb (c .id) j) q (λ r. passages-in Q Here cs (every-right Q (filter Here (turnsOf (cyclesOf (some (c .figure))))) (filter Here (turnsOf (allCycles cs))) split) j t r)
+  where
+    split : Every Q (filter Here (turnsOf (cyclesOf (some (c .figure)))) ++ filter Here (turnsOf (allCycles cs)))
+    split = subst (Every Q) (ap (filter Here) (spread-append (λ (k : Cycle). passages (stepsOf k)) (cyclesOf (some (c .figure))) (allCycles cs)) ∙ filter-append Here (turnsOf (cyclesOf (some (c .figure)))) (turnsOf (allCycles cs))) e
+
+    go : (y : Bool) → someIf y (c .figure) (lookup cs j) ≡ some t → (lookup cs j ≡ some t → Every Q (filter Here (turnsOf (cyclesOf (some t))))) → Every Q (filter Here (turnsOf (cyclesOf (some t))))
+    go true q r = let z : c .figure ≡ t = cc in subst (λ (x : Figure). Every Q (filter Here (turnsOf (cyclesOf (some x))))) z (every-left Q (filter Here (turnsOf (cyclesOf (some (c .figure))))) (filter Here (turnsOf (allCycles cs))) split)
+    go false q r = r q
+
+-- ---- the vertex
+module _ (s : Sheet) (S : Sound s) (v : ℕ) (p : Position) (at : cellAt s v ≡ some (vertex p)) where
+  abbrev gs₀ : Groups
+  gs₀ = map one (endsAt (s .cells) v)
+
+  abbrev gs : Groups
+  gs = groups (s .cells) v
+
+  abbrev Here : Passage → Bool
+  Here t = isOpen (cellAt s (t .leaves .edge)) && eqb (tailOf (cellAt s) (t .leaves)) v
+
+  abbrev turns : List Cycle → List Passage
+  turns ks = spread (λ (k : Cycle). passages (stepsOf k)) ks
+
+  end-among : (h : Halfedge) → T (isOpen (cellAt s (h .edge))) → tailOf (cellAt s) h ≡ v → Among gs₀ h
+  end-among h o q =
+      let k = open-at (cellAt s) (h .edge) o in
+      among-one (endsAt (s .cells) v) h (end-in (s .cells) v h (k .0) (k .1) (k .2) (k .3) (ap (λ (x : Option Figure). cond (h .backward) (endOf x) (startOf x)) (sym (k .3)) ∙ q))
+
+  flipped-tail : (h : Halfedge) → tailOf (cellAt s) (flipped h) ≡ headOf (cellAt s) h
+  flipped-tail h = go (h .backward)
+    where
+      go : (b : Bool) → cond (not b) (endOf (cellAt s (h .edge))) (startOf (cellAt s (h .edge))) ≡ cond b (startOf (cellAt s (h .edge))) (endOf (cellAt s (h .edge)))
+      go true = refl
+      go false = refl
+
+  passage-ends : (h k : Halfedge) (ts : List Passage) → T (isOpen (cellAt s (h .edge))) → T (isOpen (cellAt s (k .edge))) → headOf (cellAt s) h ≡ tailOf (cellAt s) k → Every (Ends gs₀) ts → Every (Ends gs₀) (consIf (Here (passage h k)) (passage h k) ts)
+  passage-ends h k ts a b e r = go (Here (passage h k)) refl
+    where
+      go : (x : Bool) → Here (passage h k) ≡ x → Every (Ends gs₀) (consIf x (passage h k) ts)
+      go true q =
+          let z : tailOf (cellAt s) k ≡ v = eqb→eq (tailOf (cellAt s) k) v (both (isOpen (cellAt s (k .edge))) (eqb (tailOf (cellAt s) k) v) (truth q) .1) in
+          ((end-among (flipped h) a (flipped-tail h ∙ e ∙ z), end-among k b z), r)
+      go false q = r
+
+  passages-ends : (f h : Halfedge) (hs : List Halfedge) → T (isOpen (cellAt s (h .edge))) → T (isOpen (cellAt s (f .edge))) → Walk (cellAt s) (headOf (cellAt s) h) hs (tailOf (cellAt s) f) → Every (Ends gs₀) (filter Here (passagesFrom f h hs))
+  passages-ends f h [] a b w = passage-ends h f [] a b w tt
+  passages-ends f h (k ∷ ks) a b w = passage-ends h k (filter Here (passagesFrom f k ks)) a (w .0) (w .1) (passages-ends f k ks (w .0) b (w .2))
+
+  -- a closed edge passes no vertex
+  passages-ring : (f h : Halfedge) (hs : List Halfedge) → T (isClosed (cellAt s (f .edge))) → T (all (same f) hs) → Every (Ends gs₀) (filter Here (passagesFrom f h hs))
+  passages-ring f h [] c t = go (isOpen (cellAt s (f .edge))) refl
+    where
+      go : (x : Bool) → isOpen (cellAt s (f .edge)) ≡ x → Every (Ends gs₀) (consIf (x && eqb (tailOf (cellAt s) f) v) (passage h f) [])
+      go true q = absurd (Rattle.complex.proofs.Split.apart (cellAt s (f .edge)) c (truth q))
+      go false q = tt
+  passages-ring f h (k ∷ ks) c t =
+      let b = both (same f k) (all (same f) ks) t in
+      go (isOpen (cellAt s (k .edge))) refl (subst (λ (x : Halfedge). T (isClosed (cellAt s (x .edge)))) (same-eq f k (b .0)) c) (passages-ring f k ks c (b .1))
+    where
+      go : (x : Bool) → isOpen (cellAt s (k .edge)) ≡ x → T (isClosed (cellAt s (k .edge))) → Every (Ends gs₀) (filter Here (passagesFrom f k ks)) → Every (Ends gs₀) (consIf (x && eqb (tailOf (cellAt s) k) v) (passage h k) (filter Here (passagesFrom f k ks)))
+      go true q d r = absurd (Rattle.complex.proofs.Split.apart (cellAt s (k .edge)) d (truth q))
+      go false q d r = r
+
+  cycle-ends : (k : Cycle) → T (cycleOk (cellAt s) k) → Every (Ends gs₀) (filter Here (passages (stepsOf k)))
+  cycle-ends (lone u) t = tt
+  cycle-ends (path []) t = tt
+  cycle-ends (path (h ∷ hs)) t = elim (joins-cases (cellAt s) (h ∷ hs) t) [
+    | inl w ↦ let k = w .1 .1 in passages-ends h h hs (k .0) (k .0) (subst (λ (u : ℕ). Walk (cellAt s) (headOf (cellAt s) h) hs u) (k .1) (k .2))
+    | inr g ↦ passages-ring h h hs (g .0) (g .1)
+  ]
+
+  cycles-ends : (ks : List Cycle) → T (all (cycleOk (cellAt s)) ks) → Every (Ends gs₀) (filter Here (turns ks))
+  cycles-ends [] t = tt
+  cycles-ends (k ∷ ks) t =
+      let b = both (cycleOk (cellAt s) k) (all (cycleOk (cellAt s)) ks) t in
+      subst (Every (Ends gs₀)) (sym (filter-append Here (passages (stepsOf k)) (turns ks))) (every-both (Ends gs₀) (filter Here (passages (stepsOf k))) (filter Here (turns ks)) (cycle-ends k (b .0)) (cycles-ends ks (b .1)))
+
+  all-cycles : (cs : List LiveCell) → T (all (λ (c : LiveCell). figureOk (cellAt s) (c .figure)) cs) → T (all (cycleOk (cellAt s)) (allCycles cs))
+  all-cycles [] t = tt
+  all-cycles (c ∷ cs) t =
+      let b = both (figureOk (cellAt s) (c .figure)) (all (λ (d : LiveCell). figureOk (cellAt s) (d .figure)) cs) t in
+      Rattle.complex.proofs.Bools.all-append (cycleOk (cellAt s)) (cyclesOf (some (c .figure))) (allCycles cs) (go (c .figure) (b .0)) (all-cycles cs (b .1))
+    where
+      go : (t : Figure) → T (figureOk (cellAt s) t) → T (all (cycleOk (cellAt s)) (cyclesOf (some t)))
+      go (vertex p) o = tt
+      go (openEdge a b bs) o = tt
+      go (closedEdge bs) o = tt
+      go (face ks) o = o
+
+  abbrev Joined : Passage → Type 0
+  Joined t = Together gs (t .arrives) (t .leaves)
+
+  joined : Every Joined (filter Here (turns (allCycles (s .cells))))
+  joined =
+      join-all (passagesAt (s .cells) v) gs₀
+      (cycles-ends (allCycles (s .cells)) (all-cycles (s .cells) (Rattle.complex.proofs.Lookup.all-from (figureOk (cellAt s)) 0 (s .cells) (s .next) (S .rises) (S .figures))))
+
+  -- ---- afterwards
+  abbrev uᵛ : Cycle → ℕ
+  uᵛ = loneUse v
+
+  abbrev N : ℕ
+  N = length gs + usesBy uᵛ (s .cells)
+
+  abbrev fᵛ : ℕ → Figure → Figure
+  fᵛ = newEnds v (s .next) gs (s .cells)
+
+  abbrev new : List Figure
+  new = replicate (N - 1) (vertex p)
+
+  abbrev lookᵛ : Look
+  lookᵛ = Look′ everyId fᵛ new s
+
+  vertex-left : (u : ℕ) → T (isVertex (cellAt s u)) → T (isVertex (lookᵛ u))
+  vertex-left u t = let w = Rattle.complex.proofs.Faces.vertex-at s u t in rw (stays-at everyId fᵛ new s u (vertex (w .0)) tt (w .1)) tt
+
+  vertex-new : (n : ℕ) → n < N → T (isVertex (lookᵛ (copyOf v (s .next) n)))
+  vertex-new zero l = rw (stays-at everyId fᵛ new s v (vertex p) tt at) tt
+  vertex-new (suc k) l = let e = new-at everyId fᵛ new s S (s .next + k) (omega arith) ∙ lookup-copies (s .next) (N - 1) k (vertex p) (omega arith) in rw e tt
+
+  closed-left : (e : ℕ) → T (isClosed (cellAt s e)) → T (isClosed (lookᵛ e))
+  closed-left e t = go (cellAt s e) refl t
+    where
+      go : (o : Option Figure) → cellAt s e ≡ o → T (isClosed o) → T (isClosed (lookᵛ e))
+      go none q k = absurd k
+      go (some (vertex r)) q k = absurd k
+      go (some (openEdge a b bs)) q k = absurd k
+      go (some (closedEdge bs)) q k = rw (stays-at everyId fᵛ new s e (closedEdge bs) tt q) tt
+      go (some (face ks)) q k = absurd k
+
+  -- an open edge's halfedge: its tail and head, by its groups
+  ends-new : (h : Halfedge) → T (isOpen (cellAt s (h .edge)))
+      → T (isOpen (lookᵛ (h .edge))) × (tailOf lookᵛ h ≡ newEnd v (s .next) gs (tailOf (cellAt s) h) h) × (headOf lookᵛ h ≡ newEnd v (s .next) gs (headOf (cellAt s) h) (flipped h))
+  ends-new h o =
+      let k = open-at (cellAt s) (h .edge) o in
+      let z = stays-at everyId fᵛ new s (h .edge) (openEdge (k .0) (k .1) (k .2)) tt (k .3) in
+      go (k .0) (k .1) (k .2) (h .backward) refl (k .3) z
+    where
+      go : (a b : ℕ) (bs : List Position) (x : Bool) → h .backward ≡ x → cellAt s (h .edge) ≡ some (openEdge a b bs)
+          → lookᵛ (h .edge) ≡ some (openEdge (newEnd v (s .next) gs a (along (h .edge))) (newEnd v (s .next) gs b (against (h .edge))) bs)
+          → T (isOpen (lookᵛ (h .edge))) × (tailOf lookᵛ h ≡ newEnd v (s .next) gs (tailOf (cellAt s) h) h) × (headOf lookᵛ h ≡ newEnd v (s .next) gs (headOf (cellAt s) h) (flipped h))
+      go a b bs true x c z =
+          let i : against (h .edge) ≡ h = λ j. record { edge = h .edge; backward = sym x j } in
+          let k : along (h .edge) ≡ flipped h = λ j. record { edge = h .edge; backward = not (sym x j) } in (
+            rw z tt,
+            (λ j. cond (x j) (endOf (z j)) (startOf (z j))) ∙ (λ j. newEnd v (s .next) gs (cond (sym x j) (endOf (sym c j)) (startOf (sym c j))) (i j)),
+            (λ j. cond (x j) (startOf (z j)) (endOf (z j))) ∙ (λ j. newEnd v (s .next) gs (cond (sym x j) (startOf (sym c j)) (endOf (sym c j))) (k j)),
+          )
+      go a b bs false x c z =
+          let i : along (h .edge) ≡ h = λ j. record { edge = h .edge; backward = sym x j } in
+          let k : against (h .edge) ≡ flipped h = λ j. record { edge = h .edge; backward = not (sym x j) } in (
+            rw z tt,
+            (λ j. cond (x j) (endOf (z j)) (startOf (z j))) ∙ (λ j. newEnd v (s .next) gs (cond (sym x j) (endOf (sym c j)) (startOf (sym c j))) (i j)),
+            (λ j. cond (x j) (startOf (z j)) (endOf (z j))) ∙ (λ j. newEnd v (s .next) gs (cond (sym x j) (startOf (sym c j)) (endOf (sym c j))) (k j)),
+          )
+
+  -- across a passage
+  across : (h k : Halfedge) (ts : List Passage) → T (isOpen (cellAt s (h .edge))) → T (isOpen (cellAt s (k .edge))) → headOf (cellAt s) h ≡ tailOf (cellAt s) k
+      → Every Joined (consIf (Here (passage h k)) (passage h k) ts) → (headOf lookᵛ h ≡ tailOf lookᵛ k) × Every Joined ts
+  across h k ts a b e r = (ends-new h a .2 ∙ meet ∙ sym (ends-new k b .1), after (Here (passage h k)) r)
+    where
+      after : (x : Bool) → Every Joined (consIf x (passage h k) ts) → Every Joined ts
+      after true r = r .1
+      after false r = r
+
+      meet : newEnd v (s .next) gs (headOf (cellAt s) h) (flipped h) ≡ newEnd v (s .next) gs (tailOf (cellAt s) k) k
+      meet = ap (λ (u : ℕ). newEnd v (s .next) gs u (flipped h)) e ∙ go (eqb v (tailOf (cellAt s) k)) refl
+        where
+          go : (x : Bool) → eqb v (tailOf (cellAt s) k) ≡ x → cond x (copyOf v (s .next) (groupOf gs (flipped h))) (tailOf (cellAt s) k) ≡ cond x (copyOf v (s .next) (groupOf gs k)) (tailOf (cellAt s) k)
+          go true q =
+              let z : Here (passage h k) ≡ true = true-of (Here (passage h k)) (pair (isOpen (cellAt s (k .edge))) (eqb (tailOf (cellAt s) k) v) b (equal (sym (eqb-true v (tailOf (cellAt s) k) q)))) in
+              let j : Every Joined (passage h k ∷ ts) = subst (λ (y : Bool). Every Joined (consIf y (passage h k) ts)) z r in
+              ap (copyOf v (s .next)) (together-group gs (flipped h) k (j .0))
+          go false q = refl
+
+  ended-walk : (f h : Halfedge) (hs : List Halfedge) → T (isOpen (cellAt s (h .edge))) → T (isOpen (cellAt s (f .edge))) → Walk (cellAt s) (headOf (cellAt s) h) hs (tailOf (cellAt s) f) → Every Joined (filter Here (passagesFrom f h hs)) → Walk lookᵛ (headOf lookᵛ h) hs (tailOf lookᵛ f)
+  ended-walk f h [] a b w e = across h f [] a b w e .0
+  ended-walk f h (k ∷ ks) a b w e = let x = across h k (filter Here (passagesFrom f k ks)) a (w .0) (w .1) e in (ends-new k (w .0) .0, x .0, ended-walk f k ks (w .0) b (w .2) (x .1))
+
+  path-ended : (hs : List Halfedge) → T (joins (cellAt s) hs) → Every Joined (filter Here (passages hs)) → T (joins lookᵛ hs)
+  path-ended [] t e = t
+  path-ended (h ∷ hs) t e = elim (joins-cases (cellAt s) (h ∷ hs) t) [
+    | inl w ↦ let k = w .1 .1 in round-joins lookᵛ (h ∷ hs) tt (tailOf lookᵛ h, (ends-new h (k .0) .0, refl, ended-walk h h hs (k .0) (k .0) (subst (λ (u : ℕ). Walk (cellAt s) (headOf (cellAt s) h) hs u) (k .1) (k .2)) e))
+    | inr g ↦ ring-joins lookᵛ (h ∷ hs) (closed-left (h .edge) (g .0), g .1)
+  ]
+
+  cycle-ended : (n : ℕ) (k : Cycle) → n + loneUse v k ≤ N → T (cycleOk (cellAt s) k) → Every Joined (filter Here (passages (stepsOf k))) → T (cycleOk lookᵛ (newLone v (s .next) n k))
+  cycle-ended n (lone w) l t e = go (eqb v w) l
+    where
+      go : (x : Bool) → n + cond x 1 0 ≤ N → T (isVertex (lookᵛ (cond x (copyOf v (s .next) n) w)))
+      go true l = vertex-new n (omega arith)
+      go false l = vertex-left w t
+  cycle-ended n (path hs) l t e = path-ended hs t e
+
+  cycles-ended : (n : ℕ) (ks : List Cycle) → n + total uᵛ ks ≤ N → T (all (cycleOk (cellAt s)) ks) → Every Joined (filter Here (turns ks)) → T (all (cycleOk lookᵛ) (counting uᵛ (newLone v (s .next)) n ks))
+  cycles-ended n [] l t e = tt
+  cycles-ended n (k ∷ ks) l t e =
+      let b = both (cycleOk (cellAt s) k) (all (cycleOk (cellAt s)) ks) t in
+      let d = subst (Every Joined) (filter-append Here (passages (stepsOf k)) (turns ks)) e in
+      pair (cycleOk lookᵛ (newLone v (s .next) n k)) (all (cycleOk lookᵛ) (counting uᵛ (newLone v (s .next)) (n + loneUse v k) ks))
+      (cycle-ended n k (omega arith) (b .0) (every-left Joined (filter Here (passages (stepsOf k))) (filter Here (turns ks)) d))
+      (cycles-ended (n + loneUse v k) ks (omega arith) (b .1) (every-right Joined (filter Here (passages (stepsOf k))) (filter Here (turns ks)) d))
+
+  end-vertex : (u : ℕ) (h : Halfedge) → T (isVertex (cellAt s u)) → (u ≡ v → Among gs₀ h) → T (isVertex (lookᵛ (newEnd v (s .next) gs u h)))
+  end-vertex u h t a = go (eqb v u) refl
+    where
+      go : (x : Bool) → eqb v u ≡ x → T (isVertex (lookᵛ (cond x (copyOf v (s .next) (groupOf gs h)) u)))
+      go true q = vertex-new (groupOf gs h) (let l = among-group gs h (among-all (passagesAt (s .cells) v) gs₀ h (a (sym (eqb-true v u q)))) in omega arith)
+      go false q = vertex-left u t
+
+  old-ok : (j : ℕ) (t : Figure) → cellAt s j ≡ some t → T (figureOk (cellAt s) t) → T (figureOk lookᵛ (fᵛ j t))
+  old-ok j (vertex r) e o = o
+  old-ok j (openEdge a b bs) e o =
+      let x = both (isVertex (cellAt s a)) (isVertex (cellAt s b) && all within bs) o in
+      let y = both (isVertex (cellAt s b)) (all within bs) (x .1) in
+      let q : T (isOpen (cellAt s j)) = rw e tt in
+      pair (isVertex (lookᵛ (newEnd v (s .next) gs a (along j)))) (isVertex (lookᵛ (newEnd v (s .next) gs b (against j))) && all within bs)
+      (end-vertex a (along j) (x .0) (λ z. end-among (along j) q (ap startOf e ∙ z)))
+      (pair (isVertex (lookᵛ (newEnd v (s .next) gs b (against j)))) (all within bs) (end-vertex b (against j) (y .0) (λ z. end-among (against j) q (ap endOf e ∙ z))) (y .1))
+  old-ok j (closedEdge bs) e o = o
+  old-ok j (face ks) e o =
+      let w = uses-within (λ (x : Figure). total uᵛ (cyclesOf (some x))) (s .cells) j (face ks) e in
+      cycles-ended (length gs + usesBy uᵛ (earlier j (s .cells))) ks (omega arith) o (passages-in Joined Here (s .cells) joined j (face ks) e)
+
+  new-ok : (n : ℕ) → T (all (figureOk lookᵛ) (replicate n (vertex p)))
+  new-ok zero = tt
+  new-ok (suc n) = pair (within p) (all (figureOk lookᵛ) (replicate n (vertex p))) (S .figures v (vertex p) at) (new-ok n)
+
+  pub vertex-unglued : T (leb (rebuild everyId fᵛ new s .next) idsEnd) → T (ceilings (rebuild everyId fᵛ new s .cells)) → Sound (rebuild everyId fᵛ new s)
+  vertex-unglued seven eight = rebuild-sound everyId fᵛ new s S seven eight (λ j t k e. old-ok j t e (S .figures j t e)) (new-ok (N - 1))
+
+  gain-ends : (j : ℕ) (t : Figure) → gain (fᵛ j t) ≡ gain t
+  gain-ends j (vertex r) = refl
+  gain-ends j (openEdge a b bs) = refl
+  gain-ends j (closedEdge bs) = refl
+  gain-ends j (face ks) = refl
+
+  loss-ends : (j : ℕ) (t : Figure) → loss (fᵛ j t) ≡ loss t
+  loss-ends j (vertex r) = refl
+  loss-ends j (openEdge a b bs) = refl
+  loss-ends j (closedEdge bs) = refl
+  loss-ends j (face ks) = length-counting uᵛ (newLone v (s .next)) (length gs + usesBy uᵛ (earlier j (s .cells))) ks
+
+  pub vertex-unglued-over : (over gain (rebuild everyId fᵛ new s .cells) ≡ over gain (s .cells) + (N - 1)) × (over loss (rebuild everyId fᵛ new s .cells) ≡ over loss (s .cells) + 0)
+  vertex-unglued-over =
+      let a = over-rebuild gain everyId fᵛ new s in
+      let b = over-rebuild loss everyId fᵛ new s in
+      let c = over-reshape gain fᵛ gain-ends (keepIds everyId (s .cells)) ∙ ap (over gain) (keep-all (s .cells)) in
+      let d = over-reshape loss fᵛ loss-ends (keepIds everyId (s .cells)) ∙ ap (over loss) (keep-all (s .cells)) in
+      let e = total-replicate gain (N - 1) (vertex p) refl in
+      let f = total-none loss (N - 1) (vertex p) refl in
+      (omega arith, omega arith)
+
+-- ---- the command
+module _ (i : ℕ) (s : Sheet) (S : Sound s) (q : Passes s (unglue i)) where
+  pub unglue-sound : Sound (result s (unglue i))
+  unfolding question4
+  unglue-sound = go (cellAt s i) refl
+    where
+      go : (o : Option Figure) → cellAt s i ≡ o → Sound (result s (unglue i))
+      go none z = absurd (subst (λ (o : Option Figure). T (isVertexOrEdge o)) z (q .1))
+      go (some (vertex p)) z = let r = asPart i s S q (some (vertex p)) z in rw r (vertex-unglued s S i p z (rw r at (q .4)) (rw r at (q .5)))
+      go (some (openEdge a b bs)) z = unglue-open-sound i s S q a b bs z
+      go (some (closedEdge bs)) z = unglue-closed-sound i s S q bs z
+      go (some (face ks)) z = absurd (subst (λ (o : Option Figure). T (isVertexOrEdge o)) z (q .1))
+
+  pub unglue-balanced : Balanced s (unglue i)
+  unfolding question4
+  unglue-balanced = go (cellAt s i) refl
+    where
+      go : (o : Option Figure) → cellAt s i ≡ o → Balanced s (unglue i)
+      go none z = absurd (subst (λ (o : Option Figure). T (isVertexOrEdge o)) z (q .1))
+      go (some (vertex p)) z =
+          let r = asPart i s S q (some (vertex p)) z in
+          let w = vertex-unglued-over s S i p z in
+          let x = w .0 in
+          let y = w .1 in
+          rw (r, z) (omega arith)
+      go (some (openEdge a b bs)) z = unglue-open-balanced i s S q a b bs z
+      go (some (closedEdge bs)) z = unglue-closed-balanced i s S q bs z
+      go (some (face ks)) z = absurd (subst (λ (o : Option Figure). T (isVertexOrEdge o)) z (q .1))

@@ -1,0 +1,98 @@
+-- What is asked of the whole: the claims, each as one statement. Definitions only.
+use Prim.Native.Nat.{ℕ, zero, suc, _+_, _≤_, _<_}
+use mathlib.Core.Path.{_≡_}
+use mathlib.Core.Logic.{_⊎_, _↔_}
+use mathlib.Core.Bool.{Bool, cond}
+use mathlib.Core.List.{List, [], _∷_, _++_}
+use lib.ListN.{length, drop}
+use lib.IntN.{ℤ, pos, _+ℤ_}
+use lib.Dec.{T, eqb, ltb}
+use Rattle.number.specs.Readers.{Read, got, bad}
+use Rattle.complex.specs.Lists.{all, holds, rising}
+use Rattle.complex.specs.Cells.{Sheet, empty, cellAt, isLive}
+use Rattle.complex.specs.Sound.{sound, doubles}
+use Rattle.complex.specs.Boundary.{RestsOn, boundsAt, star}
+use Rattle.complex.specs.Euler.{euler}
+use Rattle.complex.specs.Decode.{Command, delete, decode}
+use Rattle.complex.specs.Commands.{share}
+use Rattle.complex.specs.Answer.{Answer, command}
+use Rattle.complex.specs.File.{fileOf, readFile}
+use Rattle.complex.specs.Calls.{starCall, eulerCall}
+
+-- ---- a list of commands, each any bytes
+-- the drawing after them
+abbrev pub after : Sheet → List (List ℕ) → Sheet
+after s [] = s
+after s (b ∷ bs) = after (command s b .sheet) bs
+
+-- accepted means that its number is 0
+abbrev pub accepted : Sheet → List ℕ → Bool
+accepted s b = eqb (command s b .number) 0
+
+abbrev pub shareRead : Sheet → Read Command → ℤ
+shareRead s (got c t) = share s c
+shareRead s bad = pos 0
+
+-- the shares of the accepted commands, each from its bytes and the drawing that it was handed
+abbrev pub shares : Sheet → List (List ℕ) → ℤ
+shares s [] = pos 0
+shares s (b ∷ bs) = cond (accepted s b) (shareRead s (decode b)) (pos 0) +ℤ shares (command s b .sheet) bs
+
+abbrev pub live : Sheet → ℕ → Type 0
+live s i = T (isLive (cellAt s i))
+
+-- the ids live in s and not in t are i and those of the cells that rested on it
+abbrev pub Took : Sheet → Sheet → ℕ → Type 0
+Took s t i = (j : ℕ) → (live s j × (live t j → ⊥)) ↔ ((j ≡ i) ⊎ RestsOn (cellAt s) i j)
+
+abbrev pub DeleteExact : Sheet → List ℕ → Type 0
+DeleteExact s b = (i : ℕ) (t : List ℕ) → decode b ≡ got (delete i) t → T (accepted s b) → Took s (command s b .sheet) i
+
+-- each accepted delete took exactly its target and the cells that rested on it
+abbrev pub Deletes : Sheet → List (List ℕ) → Type 0
+Deletes s [] = Unit {0}
+Deletes s (b ∷ bs) = DeleteExact s b × Deletes (command s b .sheet) bs
+
+-- ---- star for a live id of a drawing: exactly the cells whose boundary holds it, rising, in the buffer's first places; 9 and the same count where it is too short
+pub record StarRight (s : Sheet) (i : ℕ) : Type 0 where
+  pub exact : (j : ℕ) → T (holds j (star (s .cells) i)) ↔ T (boundsAt (cellAt s) i (cellAt s j))
+  pub rises : T (rising 0 (star (s .cells) i) (s .next))
+  pub fits : (buffer : List ℕ) → length (star (s .cells) i) ≤ length buffer
+      → starCall s i buffer ≡ record { number = 0; count = length (star (s .cells) i); buffer = star (s .cells) i ++ drop (length (star (s .cells) i)) buffer }
+  pub short : (buffer : List ℕ) → length buffer < length (star (s .cells) i)
+      → starCall s i buffer ≡ record { number = 9; count = length (star (s .cells) i); buffer = buffer }
+
+-- ---- demand 3: after any list of commands from the empty drawing
+pub record AfterAll (bs : List (List ℕ)) : Type 0 where
+  pub stays-sound : T (sound (after empty bs))
+  pub stars-right : (i : ℕ) → live (after empty bs) i → StarRight (after empty bs) i
+  pub euler-known : eulerCall (after empty bs) ≡ record { number = 0; value = euler (after empty bs .cells) }
+  pub euler-sum : euler (after empty bs .cells) ≡ shares empty bs
+  pub deletes-exact : Deletes empty bs
+
+abbrev pub Demand3 : Type 0
+Demand3 = (bs : List (List ℕ)) → AfterAll bs
+
+-- ---- a refused command gives three zeros and the drawing back
+abbrev pub Refusals : Type 0
+Refusals = (s : Sheet) (b : List ℕ) → (command s b .number ≡ 0 → ⊥)
+    → command s b ≡ record { number = command s b .number; first = 0; new = 0; removed = 0; sheet = s }
+
+-- ---- an accepted command issues the ids from the next id on, as many as it says, and no others become live
+pub record Issues (s : Sheet) (b : List ℕ) : Type 0 where
+  pub next-id : command s b .sheet .next ≡ s .next + command s b .new
+  pub first-id : 0 < command s b .new → command s b .first ≡ s .next
+  pub live-before : (i : ℕ) → i < s .next → live (command s b .sheet) i → live s i
+
+-- no id is issued twice: an id that was issued and is dead stays dead
+abbrev pub NeverAgain : Type 0
+NeverAgain = (bs cs : List (List ℕ)) (i : ℕ) → i < after empty bs .next → (live (after empty bs) i → ⊥) → live (after (after empty bs) cs) i → ⊥
+
+-- ---- files: bytes are below 256
+abbrev pub areBytes : List ℕ → Bool
+areBytes s = all (λ (b : ℕ). ltb b 256) s
+
+-- a sound drawing's file is read as it, and bytes that are read as a drawing are its file, all of them
+pub record OneFile : Type 0 where
+  pub read-back : (s : Sheet) → T (sound s) → T (doubles s) → readFile (fileOf s) ≡ record { number = 0; sheet = s }
+  pub written-back : (bytes : List ℕ) (s : Sheet) → T (areBytes bytes) → readFile bytes ≡ record { number = 0; sheet = s } → fileOf s ≡ bytes

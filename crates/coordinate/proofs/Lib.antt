@@ -1,0 +1,4 @@
+pub mod Bytes
+pub mod Within
+pub mod Laws
+pub mod Held
