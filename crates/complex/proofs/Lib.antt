@@ -21,3 +21,9 @@ pub mod Uncut
 pub mod Star
 pub mod Obey
 pub mod Demand
+pub mod FileReaders
+pub mod ReadDoubles
+pub mod Doubles
+pub mod Files
+pub mod Claims
+pub mod Groups

@@ -69,7 +69,7 @@ flip-tail look h = go (h .backward)
 no-lone : (s : Sheet) (v : ℕ) → usesBy (loneUse v) (s .cells) ≡ 0 → (j : ℕ) (ks : List Cycle) → cellAt s j ≡ some (face ks) → total (loneUse v) ks ≡ 0
 no-lone s v z j ks q = let l = over-at (λ (t : Figure). total (loneUse v) (cyclesOf (some t))) (s .cells) j (face ks) q in omega arith
 
-all-filter : {A : Type 0} (p p′ q : A → Bool) → ((x : A) → T (q x) → T (p x) → T (p′ x)) → (xs : List A) → T (all p xs) → T (all p′ (filter q xs))
+pub all-filter : {A : Type 0} (p p′ q : A → Bool) → ((x : A) → T (q x) → T (p x) → T (p′ x)) → (xs : List A) → T (all p xs) → T (all p′ (filter q xs))
 all-filter p p′ q h [] t = tt
 all-filter p p′ q h (x ∷ xs) t = let b = parts (p x) (all p xs) t in go (q x) refl (b .0) (all-filter p p′ q h xs (b .1))
   where
@@ -171,7 +171,7 @@ module _ (s : Sheet) (S : Sound s) (v : ℕ) (p : Position) (at : cellAt s v ≡
       let g = over-others (λ (t : Figure). total (loneUse v) (cyclesOf (some t))) v (vertex p) 0 (s .cells) (s .next) (S .rises) at in
       omega arith
 
-all-reverse : {A : Type 0} (q : A → Bool) (xs : List A) → T (all q xs) → T (all q (reverse xs))
+pub all-reverse : {A : Type 0} (q : A → Bool) (xs : List A) → T (all q xs) → T (all q (reverse xs))
 all-reverse q xs t = go xs [] t tt
   where
     go : (xs ys : List _) → T (all q xs) → T (all q ys) → T (all q (reverseAux xs ys))

@@ -29,7 +29,7 @@ use Rattle.complex.proofs.Unglue.{asPart, unglue-open-sound, unglue-clo
 use Rattle.complex.proofs.Euler.{over-rebuild, over-reshape, keep-all, Balanced}
 
 -- ---- groups: what is together stays together
-abbrev Groups : Type 0
+abbrev pub Groups : Type 0
 Groups = List (List Halfedge)
 
 -- x and y are in the same groups
@@ -42,17 +42,17 @@ abbrev pub Among : Groups → Halfedge → Type 0
 Among [] x = ⊥
 Among (g ∷ gs) x = T (isIn g x) ⊎ Among gs x
 
-in-append : (g k : List Halfedge) (x : Halfedge) → isIn (g ++ k) x ≡ (isIn g x || isIn k x)
+pub in-append : (g k : List Halfedge) (x : Halfedge) → isIn (g ++ k) x ≡ (isIn g x || isIn k x)
 in-append [] k x = refl
 in-append (h ∷ g) k x = ap (λ (b : Bool). same x h || b) (in-append g k x) ∙ sym (or-assoc (same x h) (isIn g x) (isIn k x))
 
-in-left : (g k : List Halfedge) (x : Halfedge) → T (isIn g x) → T (isIn (g ++ k) x)
+pub in-left : (g k : List Halfedge) (x : Halfedge) → T (isIn g x) → T (isIn (g ++ k) x)
 in-left g k x t = subst T (sym (in-append g k x)) (or-left (isIn g x) (isIn k x) t)
 
-in-right : (g k : List Halfedge) (x : Halfedge) → T (isIn k x) → T (isIn (g ++ k) x)
+pub in-right : (g k : List Halfedge) (x : Halfedge) → T (isIn k x) → T (isIn (g ++ k) x)
 in-right g k x t = subst T (sym (in-append g k x)) (or-right (isIn g x) (isIn k x) t)
 
-abbrev flat : Groups → List Halfedge
+abbrev pub flat : Groups → List Halfedge
 flat gs = spread (λ (x : List Halfedge). x) gs
 
 module _ (p : List Halfedge → Bool) where
@@ -194,7 +194,7 @@ together-all : (ts : List Passage) (gs : Groups) (x y : Halfedge) → Together g
 together-all [] gs x y h = h
 together-all (t ∷ ts) gs x y h = together-all ts (joinGroups t gs) x y (together-join t gs x y h)
 
-among-all : (ts : List Passage) (gs : Groups) (x : Halfedge) → Among gs x → Among (joinAll ts gs) x
+pub among-all : (ts : List Passage) (gs : Groups) (x : Halfedge) → Among gs x → Among (joinAll ts gs) x
 among-all [] gs x a = a
 among-all (t ∷ ts) gs x a = among-all ts (joinGroups t gs) x (among-join t gs x a)
 
@@ -223,7 +223,7 @@ among-group (g ∷ gs) x a = go (isIn g x) refl a (λ r. among-group gs x r)
     go false q (inr c) r = let h = r c in omega arith
 
 -- ---- every edge end at a vertex is listed
-among-one : (xs : List Halfedge) (h : Halfedge) → T (isIn xs h) → Among (map one xs) h
+pub among-one : (xs : List Halfedge) (h : Halfedge) → T (isIn xs h) → Among (map one xs) h
 among-one [] h t = t
 among-one (x ∷ xs) h t = elim (cases (same h x) (isIn xs h) t) [
   | inl a ↦ inl (or-left (same h x) false a)
@@ -379,7 +379,7 @@ module _ (s : Sheet) (S : Sound s) (v : ℕ) (p : Position) (at : cellAt s v ≡
   abbrev Joined : Passage → Type 0
   Joined t = Together gs (t .arrives) (t .leaves)
 
-  joined : Every Joined (filter Here (turns (allCycles (s .cells))))
+  pub joined : Every Joined (filter Here (turns (allCycles (s .cells))))
   joined =
       join-all (passagesAt (s .cells) v) gs₀
       (cycles-ends (allCycles (s .cells)) (all-cycles (s .cells) (Rattle.complex.proofs.Lookup.all-from (figureOk (cellAt s)) 0 (s .cells) (s .next) (S .rises) (S .figures))))

@@ -78,11 +78,15 @@ abbrev pub Refusals : Type 0
 Refusals = (s : Sheet) (b : List ℕ) → (command s b .number ≡ 0 → ⊥)
     → command s b ≡ record { number = command s b .number; first = 0; new = 0; removed = 0; sheet = s }
 
--- ---- an accepted command issues the ids from the next id on, as many as it says, and no others become live
+-- ---- a command issues the ids from the next id on, as many as it says; they are live, and no other id becomes live
 pub record Issues (s : Sheet) (b : List ℕ) : Type 0 where
   pub next-id : command s b .sheet .next ≡ s .next + command s b .new
   pub first-id : 0 < command s b .new → command s b .first ≡ s .next
+  pub issued : (i : ℕ) → s .next ≤ i → i < command s b .sheet .next → live (command s b .sheet) i
   pub live-before : (i : ℕ) → i < s .next → live (command s b .sheet) i → live s i
+
+abbrev pub IdsIssued : Type 0
+IdsIssued = (s : Sheet) (b : List ℕ) → Issues s b
 
 -- no id is issued twice: an id that was issued and is dead stays dead
 abbrev pub NeverAgain : Type 0

@@ -1,7 +1,7 @@
 -- Where a drawing uses a cell. An edge end is written as the halfedge that leaves by it: e for the start, e⁻ for the end. Definitions only.
 use Prim.Native.Nat.{ℕ, zero, suc, _+_}
 use mathlib.Core.Bool.{Bool, true, false, not, _&&_, _||_, cond}
-use mathlib.Core.List.{List, [], _∷_, _++_, map}
+use mathlib.Core.List.{List, [], _∷_, _++_, map, List·Memᴰ}
 use mathlib.Core.Option.{Option, none, some}
 use lib.ListN.{length}
 use lib.Dec.{eqb, ltb}
@@ -64,6 +64,13 @@ joinAll (t ∷ ts) gs = joinAll ts (joinGroups t gs)
 -- the groups of a vertex's ends, by their first members
 abbrev pub groups : List LiveCell → ℕ → List (List Halfedge)
 groups cs v = joinAll (passagesAt cs v) (map one (endsAt cs v))
+
+-- two edge ends belong together if some cycle passes from one to the other, and so on through chains. ts are the passages
+pub data Together (ts : List Passage) : Halfedge → Halfedge → Type 0 where
+  passes : (t : Passage) → List·Memᴰ t ts → Together ts (t .arrives) (t .leaves)
+  itself : (x : Halfedge) → Together ts x x
+  back : {x y : Halfedge} → Together ts x y → Together ts y x
+  chain : {x y z : Halfedge} → Together ts x y → Together ts y z → Together ts x z
 
 -- the place of the group that holds an end
 abbrev pub groupOf : List (List Halfedge) → Halfedge → ℕ
