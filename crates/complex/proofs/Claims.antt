@@ -6,22 +6,21 @@ use mathlib.Core.Logic.{inl, inr}
 use mathlib.Core.Bool.{Bool, true, false, not, cond}
 use mathlib.Core.List.{List, [], _∷_}
 use mathlib.Core.Option.{Option, none, some}
-use lib.ListN.{length}
-use lib.Dec.{T, eqb}
+use lib.ListN.{length, length-append, length-map}
+use lib.Dec.{T, eqb, ltb}
 use borrow.Author.Tests.{eq-eqb, ne-eqb, eqb-false}
-use Rattle.complex.specs.Lists.{filter}
-use Rattle.complex.specs.Cells.{Figure, vertex, openEdge, closedEdge, face, LiveCell, Sheet, empty, someIf, lookup, cellAt, isLive}
+use Rattle.complex.specs.Lists.{all, filter, consIf, rising}
+use Rattle.complex.specs.Cells.{Figure, LiveCell, Sheet, empty, someIf, lookup, cellAt, ids, isLive}
 use Rattle.complex.specs.Sound.{sound}
-use Rattle.complex.specs.Edits.{numbered, rebuild}
-use Rattle.complex.specs.Unglue.{copies, parts}
-use Rattle.complex.specs.Cut.{cutFigure}
-use Rattle.complex.specs.Uncut.{Uncut, refused, lonely, loop, joint, twoFaces, oneCycle, rings, uncutCase, uncutResult}
-use Rattle.complex.specs.Decode.{Command, create, move, delete, glueVertices, glueEdges, unglue, cutEdge, cutFaceVertex, cutFaceOpen, cutFaceClosed, uncut}
+use Rattle.complex.specs.Edits.{keepIds, reshape, numbered, rebuild}
+use Rattle.complex.specs.Decode.{Command}
 use Rattle.complex.specs.Commands.{result}
 use Rattle.complex.specs.Answer.{Answer, no, removedFrom, command}
 use Rattle.complex.specs.Demands.{after, live, Refusals, Issues, NeverAgain, IdsIssued}
-use Rattle.complex.proofs.Bools.{truth, true-of, either}
-use Rattle.complex.proofs.Lookup.{orElse, changed, lookup-rebuild}
+use Rattle.complex.proofs.Bools.{truth, true-of, either, both, pair}
+use Rattle.complex.proofs.Lookup.{orElse, changed, lookup-rebuild, rising-lt}
+use Rattle.complex.proofs.Keep.{Sound}
+use Rattle.complex.proofs.Rebuilt.{Rebuilt, same, rebuilt, result-rebuilt}
 use Rattle.complex.proofs.Obey.{Outcome, refusal, obeyed, outcome}
 
 -- every command's outcome: an unsound drawing is refused by 1
@@ -78,40 +77,13 @@ follows p f new s =
     go i true (some x) l = tt
     go i false o l = absurd l
 
--- ---- so does every kind's result
-follows-cut : (s : Sheet) (e q : ℕ) (o : Option Figure) → Follows s (cutFigure s e q o)
-follows-cut s e q none = follows-self s
-follows-cut s e q (some (vertex p)) = follows-self s
-follows-cut s e q (some (openEdge a b bs)) = follows _ _ (_ ∷ _ ∷ _ ∷ []) s
-follows-cut s e q (some (closedEdge bs)) = follows _ _ (_ ∷ _ ∷ []) s
-follows-cut s e q (some (face ks)) = follows-self s
-
-follows-either : (x : Bool) (s t u : Sheet) → Follows s t → Follows s u → Follows s (cond x t u)
-follows-either true s t u a b = a
-follows-either false s t u a b = b
-
-follows-uncut : (s : Sheet) (i : ℕ) (c : Uncut) → Follows s (uncutResult s i c)
-follows-uncut s i refused = follows-self s
-follows-uncut s i lonely = follows _ _ [] s
-follows-uncut s i (loop e) = follows _ _ (_ ∷ []) s
-follows-uncut s i (joint x y) = follows _ _ (_ ∷ []) s
-follows-uncut s i (twoFaces u w) = follows _ _ [] s
-follows-uncut s i (oneCycle u w) = follows _ _ [] s
-follows-uncut s i (rings u w) = follows _ _ [] s
+-- so does every kind's result
+follows-of : {s t : Sheet} → Rebuilt s t → Follows s t
+follows-of {s} same = follows-self s
+follows-of {s} (rebuilt p f new) = follows p f new s
 
 follows-result : (s : Sheet) (c : Command) → Follows s (result s c)
-unfolding result
-follows-result s (create x) = follows _ _ (_ ∷ []) s
-follows-result s (move v p) = follows _ _ [] s
-follows-result s (delete i) = follows _ _ [] s
-follows-result s (glueVertices a b) = follows _ _ [] s
-follows-result s (glueEdges a b flag) = follows _ _ [] s
-follows-result s (unglue i) = follows _ _ (copies (parts (s .cells) i (cellAt s i)) (cellAt s i)) s
-follows-result s (cutEdge e q) = follows-cut s e q (cellAt s e)
-follows-result s (cutFaceVertex f p) = follows _ _ (_ ∷ []) s
-follows-result s (cutFaceOpen f c1 s1 c2 s2 bs ms) = follows-either (eqb c1 c2) s _ _ (follows _ _ (_ ∷ _ ∷ []) s) (follows _ _ (_ ∷ []) s)
-follows-result s (cutFaceClosed f bs ms) = follows _ _ (_ ∷ _ ∷ []) s
-follows-result s (uncut i) = follows-uncut s i (uncutCase s i)
+follows-result s c = follows-of (result-rebuilt s c)
 
 -- ---- ids
 pub issues : IdsIssued
@@ -141,18 +113,65 @@ never-again bs cs i h d = stays-dead (after empty bs) cs i h d
 
 -- ---- the removed
 -- every cell is live where it stands
-removed-none : (cs ds : List LiveCell) → ((i : ℕ) → T (isLive (lookup ds i)) → T (isLive (lookup cs i))) → filter (λ (c : LiveCell). not (isLive (lookup cs (c .id)))) ds ≡ []
-removed-none cs [] h = refl
-removed-none cs (d ∷ ds) h =
-    rw (true-of (isLive (lookup cs (d .id))) (h (d .id) (rw (eq-eqb (d .id) (d .id) refl) tt)))
-    (removed-none cs ds (λ i l. h i (more i (eqb (d .id) i) l)))
+live-in : (cs ds : List LiveCell) → ((i : ℕ) → T (isLive (lookup ds i)) → T (isLive (lookup cs i))) → T (all (λ (c : LiveCell). isLive (lookup cs (c .id))) ds)
+live-in cs [] h = tt
+live-in cs (d ∷ ds) h =
+    pair (isLive (lookup cs (d .id))) _ (h (d .id) (rw (eq-eqb (d .id) (d .id) refl) tt)) (live-in cs ds (λ i l. h i (more i (eqb (d .id) i) l)))
   where
     more : (i : ℕ) (y : Bool) → T (isLive (lookup ds i)) → T (isLive (someIf y (d .figure) (lookup ds i)))
     more i true l = tt
     more i false l = l
 
+pub all-live : (cs : List LiveCell) → T (all (λ (c : LiveCell). isLive (lookup cs (c .id))) cs)
+all-live cs = live-in cs cs (λ i l. l)
+
+removed-none : (cs ds : List LiveCell) → T (all (λ (c : LiveCell). isLive (lookup cs (c .id))) ds) → filter (λ (c : LiveCell). not (isLive (lookup cs (c .id)))) ds ≡ []
+removed-none cs [] h = refl
+removed-none cs (d ∷ ds) h =
+    let b = both (isLive (lookup cs (d .id))) (all (λ (c : LiveCell). isLive (lookup cs (c .id))) ds) h in
+    rw (true-of (isLive (lookup cs (d .id))) (b .0)) (removed-none cs ds (b .1))
+
 pub removed-count : (s : Sheet) (b : List ℕ) → command s b .removed ≡ length (removedFrom s (command s b .sheet))
 removed-count s b = elim (answered s b) [
-  | refusal n z q ↦ rw (q, removed-none (s .cells) (s .cells) (λ i l. l))
+  | refusal n z q ↦ rw (q, removed-none (s .cells) (s .cells) (all-live (s .cells)))
   | obeyed c t e p q ↦ rw q
 ]
+
+-- ---- of the cells of a rebuild: those that went and those that are there are those that were and the new ones
+module _ (p : ℕ → Bool) (f : ℕ → Figure → Figure) (new : List Figure) (s : Sheet) where
+  abbrev gone : LiveCell → Bool
+  gone c = not (isLive (cellAt (rebuild p f new s) (c .id)))
+
+  live-after : (i : ℕ) → i < s .next → T (isLive (cellAt s i)) → isLive (cellAt (rebuild p f new s) i) ≡ p i
+  live-after i h l = ap isLive (lookup-rebuild p f new s i) ∙ rw (lookup-below (s .next) new i h) (go (p i) (cellAt s i) l)
+    where
+      go : (b : Bool) (o : Option Figure) → T (isLive o) → isLive (orElse (changed (f i) (cond b o none)) none) ≡ b
+      go b none l = absurd l
+      go true (some x) l = refl
+      go false (some x) l = refl
+
+  split-cells : (lo : ℕ) (cs : List LiveCell) → T (rising lo (ids cs) (s .next)) → T (all (λ (c : LiveCell). isLive (cellAt s (c .id))) cs) → length (filter gone cs) + length (keepIds p cs) ≡ length cs
+  split-cells lo [] r a = refl
+  split-cells lo (c ∷ cs) r a =
+      let b = both (ltb lo (c .id)) (rising (c .id) (ids cs) (s .next)) r in
+      let l = both (isLive (cellAt s (c .id))) (all (λ (d : LiveCell). isLive (cellAt s (d .id))) cs) a in
+      let e = live-after (c .id) (rising-lt (c .id) (ids cs) (s .next) (b .1)) (l .0) in
+      go (p (c .id)) (ap not e) (split-cells (c .id) cs (b .1) (l .1))
+    where
+      go : (x : Bool) → gone c ≡ not x → length (filter gone cs) + length (keepIds p cs) ≡ length cs → length (consIf (gone c) c (filter gone cs)) + length (consIf x c (keepIds p cs)) ≡ suc (length cs)
+      go true e h = rw e (omega arith)
+      go false e h = rw e (omega arith)
+
+-- how many went is known from how many there are
+pub removed-rebuilt : (s : Sheet) → Sound s → (t : Sheet) → Rebuilt s t → length (removedFrom s t) + length (t .cells) ≡ length (s .cells) + (t .next - s .next)
+removed-rebuilt s S t same = let e = ap length (removed-none (s .cells) (s .cells) (all-live (s .cells))) in omega arith
+removed-rebuilt s S t (rebuilt p f new) =
+    let a = split-cells p f new s 0 (s .cells) (S .rises) (all-live (s .cells)) in
+    let b = length-append (reshape f (keepIds p (s .cells))) (numbered (s .next) new) in
+    let c = length-map {B = LiveCell} (keepIds p (s .cells)) (λ (x : LiveCell). record { id = x .id; figure = f (x .id) (x .figure) }) in
+    let d = length-numbered (s .next) new in
+    omega arith
+  where
+    length-numbered : (n : ℕ) (xs : List Figure) → length (numbered n xs) ≡ length xs
+    length-numbered n [] = refl
+    length-numbered n (x ∷ xs) = ap suc (length-numbered (suc n) xs)

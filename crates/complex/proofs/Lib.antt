@@ -25,5 +25,7 @@ pub mod FileReaders
 pub mod ReadDoubles
 pub mod Doubles
 pub mod Files
+pub mod Rebuilt
 pub mod Claims
+pub mod Asked
 pub mod Groups
