@@ -155,8 +155,8 @@ module _ (s : Sheet) (S : Sound s) (e q a b : ℕ) (bs : List Position) (at : ce
 
   pub open-cut-over : over gain (rebuild (others e) (rewired sameVertex σ) new s .cells) + over loss (s .cells) ≡ over gain (s .cells) + over loss (rebuild (others e) (rewired sameVertex σ) new s .cells)
   open-cut-over =
-      let m = swapped-over s S e E σ new gain gain-rewired (openEdge a b bs) at in
-      let n = swapped-over s S e E σ new loss loss-rewired (openEdge a b bs) at in
+      let m = swapped-over s S e E σ new gain (gain-rewired sameVertex σ) (openEdge a b bs) at in
+      let n = swapped-over s S e E σ new loss (loss-rewired sameVertex σ) (openEdge a b bs) at in
       omega arith
 
 -- ---- a closed edge: its steps become those of a loop at the new vertex
@@ -232,8 +232,8 @@ module _ (s : Sheet) (S : Sound s) (e q : ℕ) (bs : List Position) (at : cellAt
 
   pub closed-cut-over : over gain (rebuild (others e) (rewired sameVertex σᶜ) newᶜ s .cells) + over loss (s .cells) ≡ over gain (s .cells) + over loss (rebuild (others e) (rewired sameVertex σᶜ) newᶜ s .cells)
   closed-cut-over =
-      let m = swapped-over s S e Eᶜ σᶜ newᶜ gain gain-rewired (closedEdge bs) at in
-      let n = swapped-over s S e Eᶜ σᶜ newᶜ loss loss-rewired (closedEdge bs) at in
+      let m = swapped-over s S e Eᶜ σᶜ newᶜ gain (gain-rewired sameVertex σᶜ) (closedEdge bs) at in
+      let n = swapped-over s S e Eᶜ σᶜ newᶜ loss (loss-rewired sameVertex σᶜ) (closedEdge bs) at in
       omega arith
 
 -- ---- both

@@ -26,8 +26,8 @@ use Rattle.complex.proofs.Walks.{walk-append, Round, Ring, Some, round-
 use Rattle.complex.proofs.Keep.{Sound, Look′, rebuild-sound, same-eq, Carries, ring-carried, round-carried, some-spread, shape-carried}
 use Rattle.complex.proofs.Adds.{Alike, vertex-of, open-of, closed-of, stays-at, new-at, Passes, KeepsSound}
 use Rattle.complex.proofs.Split.{all-getD, apart}
-use Rattle.complex.proofs.Euler.{Balanced}
-use Rattle.complex.proofs.Faces.{over-others, over-rewired, gain-rewired, loss-rewired}
+use Rattle.complex.proofs.Euler.{over-kept, Balanced}
+use Rattle.complex.proofs.Faces.{over-others, gain-rewired, loss-rewired}
 
 alike-rewired : (σ : Halfedge → List Halfedge) (i : ℕ) (t : Figure) → Alike (some t) (some (rewired sameVertex σ i t))
 alike-rewired σ i (vertex p) = tt
@@ -91,10 +91,10 @@ module _ (s : Sheet) (S : Sound s) (e : ℕ) (E : T (isEdge (cellAt s e))) (σ :
     swapped-sound seven eight fresh =
         rebuild-sound (others e) (rewired sameVertex σ) new s S seven eight (λ i t k q. shape-carried (cellAt s) swapped sameVertex σ carried i t (S .figures i t q)) fresh
 
-  pub swapped-over : (g : Figure → ℕ) → ((r : ℕ → ℕ) (σ : Halfedge → List Halfedge) (i : ℕ) (t : Figure) → g (rewired r σ i t) ≡ g t) → (u : Figure) → cellAt s e ≡ some u
+  pub swapped-over : (g : Figure → ℕ) → ((i : ℕ) (t : Figure) → g (rewired sameVertex σ i t) ≡ g t) → (u : Figure) → cellAt s e ≡ some u
       → over g (rebuild (others e) (rewired sameVertex σ) new s .cells) + g u ≡ over g (s .cells) + Rattle.complex.specs.Lists.total g new
   swapped-over g h u q =
-      let a = over-rewired g h sameVertex σ (others e) new s in
+      let a = over-kept g (rewired sameVertex σ) h (others e) new s in
       let b = over-others g e u 0 (s .cells) (s .next) (S .rises) q in
       omega arith
 
@@ -180,7 +180,7 @@ module _ (a b flag : ℕ) (s : Sheet) (S : Sound s) (q : Passes s (glueEdges a b
   unfolding result gluedEdges
   glue-edges-balanced = go (cellAt s a) (cellAt s b) refl refl
     where
-      sums : (g : Figure → ℕ) → ((r : ℕ → ℕ) (σ : Halfedge → List Halfedge) (i : ℕ) (t : Figure) → g (rewired r σ i t) ≡ g t) → (u : Figure) → cellAt s b ≡ some u
+      sums : (g : Figure → ℕ) → ((i : ℕ) (t : Figure) → g (rewired sameVertex σ₈ i t) ≡ g t) → (u : Figure) → cellAt s b ≡ some u
           → over g (rebuild (others b) (rewired sameVertex σ₈) [] s .cells) + g u ≡ over g (s .cells) + 0
       sums = swapped-over s S b (edges .1) σ₈ []
 
@@ -190,13 +190,13 @@ module _ (a b flag : ℕ) (s : Sheet) (S : Sound s) (q : Passes s (glueEdges a b
       go x (some (vertex p)) d e = absurd (subst (λ (o : Option Figure). T (isEdge o)) e (edges .1))
       go x (some (openEdge u w bs)) d e =
           let o : T (isOpen (cellAt s a)) = elim rule [ inl c ↦ absurd (subst (λ (z : Option Figure). T (isClosed z)) e (c .1)) | inr r ↦ r .0 ] in
-          let m = sums gain gain-rewired (openEdge u w bs) e in
-          let n = sums loss loss-rewired (openEdge u w bs) e in
+          let m = sums gain (gain-rewired sameVertex σ₈) (openEdge u w bs) e in
+          let n = sums loss (loss-rewired sameVertex σ₈) (openEdge u w bs) e in
           rw (true-of (isOpen (cellAt s a)) o) (omega arith)
       go x (some (closedEdge bs)) d e =
           let c : T (isClosed (cellAt s a)) = elim rule [ inl r ↦ r .0 | inr r ↦ absurd (subst (λ (z : Option Figure). T (isOpen z)) e (r .1)) ] in
-          let m = sums gain gain-rewired (closedEdge bs) e in
-          let n = sums loss loss-rewired (closedEdge bs) e in
+          let m = sums gain (gain-rewired sameVertex σ₈) (closedEdge bs) e in
+          let n = sums loss (loss-rewired sameVertex σ₈) (closedEdge bs) e in
           let f : isOpen (cellAt s a) ≡ false = elim (either (isOpen (cellAt s a))) [ inl t ↦ absurd (apart (cellAt s a) c (truth t)) | inr t ↦ t ] in
           rw f (omega arith)
       go x (some (face ks)) d e = absurd (subst (λ (o : Option Figure). T (isEdge o)) e (edges .1))

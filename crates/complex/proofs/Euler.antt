@@ -1,14 +1,14 @@
 -- What a change does to the Euler number: over naturals, and one law that carries it to the integers. Assumes nothing.
-use Prim.Native.Nat.{ℕ, zero, suc, _+_, _-_, _≤_, _<_}
+use Prim.Native.Nat.{ℕ, zero, suc, _+_, _-_, _≤_}
 use native.Mathlib.Omega.{arith}
 use mathlib.Core.Path.{_≡_, refl, sym, ap, _∙_, subst}
 use mathlib.Core.Logic.{_⊎_, inl, inr}
-use mathlib.Core.Bool.{Bool, true, false, not, _&&_, _||_, cond}
+use mathlib.Core.Bool.{Bool, true, false, not, _&&_, cond}
 use mathlib.Core.List.{List, [], _∷_, _++_, map}
 use mathlib.Core.Option.{Option, none, some}
 use lib.ListN.{length, getD, set, length-append, length-set, length-map}
 use lib.IntN.{ℤ, pos, negsuc, subℕ, _+ℤ_}
-use lib.Dec.{T, eqb, ltb, leb, ltb→lt, leb→le}
+use lib.Dec.{T, eqb, ltb, ltb→lt}
 use borrow.Author.Tests.{eq-eqb, ne-eqb, eqb-true, eqb-false, ltb-true, ltb-false, lt-ltb, le-ltb}
 use Rattle.coordinate.specs.declared.Position.{Position}
 use Rattle.complex.specs.Lists.{all, consIf, filter, total, holds, rising, places, one, without, chosen}
@@ -21,11 +21,12 @@ use Rattle.complex.specs.Delete.{goes, deleted, going}
 use Rattle.complex.specs.Cut.{noCycle, corner, stretch, remainder, splitInTwo, faceCutAlong, cornerExists}
 use Rattle.complex.specs.Commands.{question4, question5, result, share}
 use Rattle.complex.proofs.Gains.{gain, loss, shift, sub-equal, sub-add, euler-sub, share-sub}
-use Rattle.complex.proofs.Bools.{truth, true-of, both, pair}
-use Rattle.complex.proofs.Lookup.{lookup-upto}
+use Rattle.complex.proofs.Bools.{truth, true-of, both}
+use Rattle.complex.proofs.Lookup.{lookup-upto, lookup-keep, rising-filter}
 use Rattle.complex.proofs.Keep.{Sound}
 use Rattle.complex.proofs.Adds.{Passes}
 use Rattle.complex.proofs.Split.{is-face}
+use Rattle.complex.proofs.Sums.{total-by, length-left}
 
 -- ---- sums over cells
 pub keep-all : (cs : List LiveCell) → keepIds everyId cs ≡ cs
@@ -50,9 +51,12 @@ module _ (g : Figure → ℕ) where
       go true h = omega arith
       go false h = omega arith
 
+  -- each figure changed, which takes d from its part of the sum and adds h to it
+  pub over-reshaped : (d h : Figure → ℕ) (f : ℕ → Figure → Figure) → ((i : ℕ) (t : Figure) → g (f i t) + d t ≡ g t + h t) → (cs : List LiveCell) → over g (reshape f cs) + over d cs ≡ over g cs + over h cs
+  over-reshaped d h f e cs = total-by (λ (c : LiveCell). record { id = c .id; figure = f (c .id) (c .figure) }) (λ (c : LiveCell). g (c .figure)) (λ (c : LiveCell). g (c .figure)) (λ (c : LiveCell). d (c .figure)) (λ (c : LiveCell). h (c .figure)) (λ c. e (c .id) (c .figure)) cs
+
   pub over-reshape : (f : ℕ → Figure → Figure) → ((i : ℕ) (t : Figure) → g (f i t) ≡ g t) → (cs : List LiveCell) → over g (reshape f cs) ≡ over g cs
-  over-reshape f h [] = refl
-  over-reshape f h (c ∷ cs) = let e = h (c .id) (c .figure) in let r = over-reshape f h cs in omega arith
+  over-reshape f h cs = let a = over-reshaped g g f (λ i t. ap (λ (k : ℕ). k + g t) (h i t)) cs in omega arith
 
   -- the cell of an id, and the others
   over-none : (i : ℕ) (t : Figure) (lo : ℕ) (cs : List LiveCell) (hi : ℕ) → T (rising lo (ids cs) hi) → i ≤ lo → over g (reshape (replaced i t) cs) ≡ over g cs
@@ -98,15 +102,29 @@ balanced-euler s c h =
 pub over-rebuild : (g : Figure → ℕ) (p : ℕ → Bool) (f : ℕ → Figure → Figure) (new : List Figure) (s : Sheet) → over g (rebuild p f new s .cells) ≡ over g (reshape f (keepIds p (s .cells))) + total g new
 over-rebuild g p f new s = over-append g (reshape f (keepIds p (s .cells))) (numbered (s .next) new) ∙ ap (λ (k : ℕ). over g (reshape f (keepIds p (s .cells))) + k) (over-new g (s .next) new)
 
+-- a change that leaves each figure's part of the sum as it was
+pub over-kept : (g : Figure → ℕ) (f : ℕ → Figure → Figure) → ((i : ℕ) (t : Figure) → g (f i t) ≡ g t) → (p : ℕ → Bool) (new : List Figure) (s : Sheet) → over g (rebuild p f new s .cells) ≡ over g (keepIds p (s .cells)) + total g new
+over-kept g f h p new s = over-rebuild g p f new s ∙ ap (λ (k : ℕ). k + total g new) (over-reshape g f h (keepIds p (s .cells)))
+
+pub over-all : (g : Figure → ℕ) (f : ℕ → Figure → Figure) → ((i : ℕ) (t : Figure) → g (f i t) ≡ g t) → (new : List Figure) (s : Sheet) → over g (rebuild everyId f new s .cells) ≡ over g (s .cells) + total g new
+over-all g f h new s = over-kept g f h everyId new s ∙ ap (λ (cs : List LiveCell). over g cs + total g new) (keep-all (s .cells))
+
 pub over-added : (g : Figure → ℕ) (new : List Figure) (s : Sheet) → over g (rebuild everyId asItIs new s .cells) ≡ over g (s .cells) + total g new
-over-added g new s = over-rebuild g everyId asItIs new s ∙ ap (λ (k : ℕ). k + total g new) (over-reshape g asItIs (λ i t. refl) (keepIds everyId (s .cells)) ∙ ap (over g) (keep-all (s .cells)))
+over-added g new s = over-all g asItIs (λ i t. refl) new s
+
+-- one cell becomes t, where it is kept
+pub over-put : (g : Figure → ℕ) (p : ℕ → Bool) (i : ℕ) (t u : Figure) (new : List Figure) (s : Sheet) → Sound s → T (p i) → lookup (s .cells) i ≡ some u
+    → over g (rebuild p (replaced i t) new s .cells) + g u ≡ over g (keepIds p (s .cells)) + g t + total g new
+over-put g p i t u new s S k e =
+    let a = over-rebuild g p (replaced i t) new s in
+    let b = over-replaced g i t u 0 (keepIds p (s .cells)) (s .next) (rising-filter (λ (c : LiveCell). p (c .id)) 0 (s .cells) (s .next) (S .rises)) (lookup-keep p (s .cells) i ∙ rw (true-of (p i) k) e) in
+    omega arith
 
 pub over-changed : (g : Figure → ℕ) (i : ℕ) (t u : Figure) (new : List Figure) (s : Sheet) → Sound s → lookup (s .cells) i ≡ some u
     → over g (rebuild everyId (replaced i t) new s .cells) + g u ≡ over g (s .cells) + g t + total g new
 over-changed g i t u new s S e =
-    let a = over-rebuild g everyId (replaced i t) new s in
-    let b = ap (λ (cs : List LiveCell). over g (reshape (replaced i t) cs)) (keep-all (s .cells)) in
-    let c = over-replaced g i t u 0 (s .cells) (s .next) (S .rises) e in
+    let a = over-put g everyId i t u new s S tt e in
+    let b = ap (over g) (keep-all (s .cells)) in
     omega arith
 
 -- ---- 01 to 04
@@ -127,71 +145,6 @@ delete-balanced s i =
     let e = over-keep gain p (s .cells) in
     let f = over-keep loss p (s .cells) in
     omega arith
-
--- ---- places taken out of a list
-module _ {A : Type 0} where
-  without-past : (m : ℕ) (ms : List ℕ) (n : ℕ) (xs : List A) → m < n → without (m ∷ ms) n xs ≡ without ms n xs
-  without-past m ms n [] h = refl
-  without-past m ms n (x ∷ xs) h = rw (ne-eqb n m (λ e. omega arith), without-past m ms (suc n) xs (omega arith))
-
-  pub without-none : (n : ℕ) (xs : List A) → without [] n xs ≡ xs
-  without-none n [] = refl
-  without-none n (x ∷ xs) = ap (λ (ys : List A). x ∷ ys) (without-none (suc n) xs)
-
-above : (n lo : ℕ) (ms : List ℕ) (hi : ℕ) → T (places lo ms hi) → n < lo → holds n ms ≡ false
-above n lo [] hi t h = refl
-above n lo (m ∷ ms) hi t h =
-    let b = both (leb lo m) (ltb m hi && places (suc m) ms hi) t in
-    let c = both (ltb m hi) (places (suc m) ms hi) (b .1) in
-    let l = leb→le lo m (b .0) in
-    rw (ne-eqb n m (λ e. omega arith)) (above n (suc m) ms hi (c .1) (omega arith))
-
-module _ {A : Type 0} where
-  pub length-without : (ms : List ℕ) (n : ℕ) (xs : List A) → T (places n ms (n + length xs)) → length (without ms n xs) + length ms ≡ length xs
-  length-without [] n [] t = refl
-  length-without (m ∷ ms) n [] t =
-      let b = both (leb n m) (ltb m (n + 0) && places (suc m) ms (n + 0)) t in
-      let c = both (ltb m (n + 0)) (places (suc m) ms (n + 0)) (b .1) in
-      let l = leb→le n m (b .0) in
-      let k = ltb→lt m (n + 0) (c .0) in
-      absurd (omega arith)
-  length-without [] n (x ∷ xs) t = let e = ap length (without-none (suc n) xs) in omega arith
-  length-without (m ∷ ms) n (x ∷ xs) t = go (λ p. length-without ms (suc n) xs p) (λ p. length-without (m ∷ ms) (suc n) xs p) (eqb n m) refl
-    where
-      parts : (n ≤ m) × (m < n + suc (length xs)) × T (places (suc m) ms (n + suc (length xs)))
-      parts =
-          let b = both (leb n m) (ltb m (n + suc (length xs)) && places (suc m) ms (n + suc (length xs))) t in
-          let c = both (ltb m (n + suc (length xs))) (places (suc m) ms (n + suc (length xs))) (b .1) in
-          (leb→le n m (b .0), ltb→lt m (n + suc (length xs)) (c .0), c .1)
-
-      hi : n + suc (length xs) ≡ suc n + length xs
-      hi = omega arith
-
-      here : (T (places (suc n) ms (suc n + length xs)) → length (without ms (suc n) xs) + length ms ≡ length xs) → n ≡ m → length (without (m ∷ ms) (suc n) xs) + length (m ∷ ms) ≡ length (x ∷ xs)
-      here again e =
-          let p : T (places (suc n) ms (suc n + length xs)) = subst (λ (k : ℕ). T (places (suc n) ms k)) hi (subst (λ (k : ℕ). T (places (suc k) ms (n + suc (length xs)))) (sym e) (parts .2)) in
-          let h = again p in
-          let w = ap length (without-past m ms (suc n) xs (omega arith)) in
-          omega arith
-
-      later : (T (places (suc n) (m ∷ ms) (suc n + length xs)) → length (without (m ∷ ms) (suc n) xs) + length (m ∷ ms) ≡ length xs) → n < m → length (without (m ∷ ms) (suc n) xs) + length (m ∷ ms) ≡ length xs
-      later again l =
-          again
-          (pair (leb (suc n) m) (ltb m (suc n + length xs) && places (suc m) ms (suc n + length xs)) (lib.Dec.le→leb (suc n) m l)
-          (pair (ltb m (suc n + length xs)) (places (suc m) ms (suc n + length xs)) (lib.Dec.lt→ltb m (suc n + length xs) (let k = parts .1 in omega arith))
-          (subst (λ (k : ℕ). T (places (suc m) ms k)) hi (parts .2))))
-
-      go : (T (places (suc n) ms (suc n + length xs)) → length (without ms (suc n) xs) + length ms ≡ length xs)
-          → (T (places (suc n) (m ∷ ms) (suc n + length xs)) → length (without (m ∷ ms) (suc n) xs) + length (m ∷ ms) ≡ length xs)
-          → (y : Bool) → eqb n m ≡ y → length (consIf (not (y || holds n ms)) x (without (m ∷ ms) (suc n) xs)) + length (m ∷ ms) ≡ length (x ∷ xs)
-      go a b true q = here a (eqb-true n m q)
-      go a b false q =
-          let l : n < m = let z = eqb-false n m q in let k = parts .0 in omega arith in
-          let h = later b l in
-          rw (above n (suc m) ms (n + suc (length xs)) (parts .2) (omega arith)) (omega arith)
-
-  pub length-left : (ms : List ℕ) (xs : List A) → T (places 0 ms (length xs)) → length (without ms 0 xs) + length ms ≡ length xs
-  length-left ms xs t = length-without ms 0 xs (subst (λ (n : ℕ). T (places 0 ms n)) (omega arith) t)
 
 -- ---- 0C with c1 = c2
 pub split-balanced : (f c s1 s2 : ℕ) (bs : List Position) (ms : List ℕ) (s : Sheet) → Sound s → Passes s (cutFaceOpen f c s1 c s2 bs ms) → Balanced s (cutFaceOpen f c s1 c s2 bs ms)
@@ -220,6 +173,6 @@ split-balanced f c s1 s2 bs ms s S q =
         let u = over-changed gain f t (face ks) new s S e in
         let v = over-changed loss f t (face ks) new s S e in
         let l : length x ≡ length ks = length-set ks c _ in
-        let n = length-left ms x (subst (λ (z : ℕ). T (places 0 ms z)) (sym l) p) in
+        let n = length-left noCycle ms x (subst (λ (z : ℕ). T (places 0 ms z)) (sym l) p) in
         let r : length (chosen noCycle ms ks) ≡ length ms = length-map ms _ in
         omega arith

@@ -8,7 +8,7 @@ use mathlib.Core.List.{List, [], _∷_, _++_, map}
 use mathlib.Core.Option.{Option, none, some}
 use lib.ListN.{length, getD, take, drop, set, length-append, length-set, length-map}
 use lib.Seq.{drop-cons}
-use lib.Dec.{T, eqb, ltb, leb, ltb→lt, lt→ltb, leb→le, le→leb}
+use lib.Dec.{T, eqb, ltb, leb, ltb→lt, leb→le}
 use borrow.Author.Tests.{eq-eqb, ne-eqb, eqb-true, eqb-false}
 use Rattle.coordinate.specs.declared.Position.{Position}
 use Rattle.coordinate.specs.Bounds.{within}
@@ -28,7 +28,8 @@ use Rattle.complex.proofs.Walks.{walk-append, Round, round-rotated, Rin
 use Rattle.complex.proofs.Keep.{Sound, Look′, Keeps, walk-kept, cycle-kept}
 use Rattle.complex.proofs.Adds.{Alike, new-at, replaced-keeps, replaced-sound, Passes, KeepsSound}
 use Rattle.complex.proofs.Split.{all-getD, all-set, all-without, all-chosen, ring-no-corner, corner-vertex, is-face}
-use Rattle.complex.proofs.Euler.{over-keep, over-rebuild, over-reshape, over-changed, length-left, Balanced}
+use Rattle.complex.proofs.Sums.{length-left, length-but-one}
+use Rattle.complex.proofs.Euler.{over-keep, over-kept, over-changed, Balanced}
 
 -- ---- sums without a cell
 module _ (g : Figure → ℕ) where
@@ -75,6 +76,16 @@ over-less g i u p s S e k =
     ap (λ (cs : List LiveCell). over g cs + g u) (keep-keep (others i) p (s .cells))
     ∙ over-others g i u 0 (keepIds p (s .cells)) (s .next) (rising-filter (λ (c : LiveCell). p (c .id)) 0 (s .cells) (s .next) (S .rises)) (lookup-keep p (s .cells) i ∙ rw (true-of (p i) k) e)
 
+-- the cells that p keeps are all but us, whatever is summed
+abbrev pub Without : Sheet → (ℕ → Bool) → List Figure → Type 0
+Without s p us = (g : Figure → ℕ) → over g (keepIds p (s .cells)) + total g us ≡ over g (s .cells)
+
+pub without-one : (i : ℕ) (u : Figure) (s : Sheet) → Sound s → lookup (s .cells) i ≡ some u → Without s (others i) (one u)
+without-one i u s S e g = let a = over-others g i u 0 (s .cells) (s .next) (S .rises) e in omega arith
+
+pub without-more : (i : ℕ) (u : Figure) (p : ℕ → Bool) (us : List Figure) (s : Sheet) → Sound s → lookup (s .cells) i ≡ some u → T (p i) → Without s p us → Without s (λ (j : ℕ). others i j && p j) (u ∷ us)
+without-more i u p us s S e k w g = let a = over-less g i u p s S e k in let b = w g in omega arith
+
 pub gain-rewired : (r : ℕ → ℕ) (σ : Halfedge → List Halfedge) (i : ℕ) (t : Figure) → gain (rewired r σ i t) ≡ gain t
 gain-rewired r σ i (vertex p) = refl
 gain-rewired r σ i (openEdge a b bs) = refl
@@ -106,17 +117,12 @@ move-balanced v p s S q =
     let b = over-changed loss v (vertex p) (vertex (u .0)) [] s S (u .1) in
     omega arith
 
--- the sums where one cell goes and the others are rewired
-pub over-rewired : (g : Figure → ℕ) → ((r : ℕ → ℕ) (σ : Halfedge → List Halfedge) (i : ℕ) (t : Figure) → g (rewired r σ i t) ≡ g t)
-    → (r : ℕ → ℕ) (σ : Halfedge → List Halfedge) (p : ℕ → Bool) (new : List Figure) (s : Sheet) → over g (rebuild p (rewired r σ) new s .cells) ≡ over g (keepIds p (s .cells)) + total g new
-over-rewired g h r σ p new s = over-rebuild g p (rewired r σ) new s ∙ ap (λ (k : ℕ). k + total g new) (over-reshape g (rewired r σ) (h r σ) (keepIds p (s .cells)))
-
 pub glue-balanced : (a b : ℕ) (s : Sheet) → Sound s → Passes s (glueVertices a b) → Balanced s (glueVertices a b)
 unfolding question4 result gluedVertices
 glue-balanced a b s S q =
     let v = vertex-at s b (both (isVertex (cellAt s a)) (isVertex (cellAt s b)) (q .1) .1) in
-    let x = over-rewired gain gain-rewired (renamed a b) one (others b) [] s in
-    let y = over-rewired loss loss-rewired (renamed a b) one (others b) [] s in
+    let x = over-kept gain (rewired (renamed a b) one) (gain-rewired (renamed a b) one) (others b) [] s in
+    let y = over-kept loss (rewired (renamed a b) one) (loss-rewired (renamed a b) one) (others b) [] s in
     let m = over-others gain b (vertex (v .0)) 0 (s .cells) (s .next) (S .rises) (v .1) in
     let n = over-others loss b (vertex (v .0)) 0 (s .cells) (s .next) (S .rises) (v .1) in
     omega arith
@@ -221,7 +227,7 @@ module _ (f : ℕ) (bs : List Position) (ms : List ℕ) (s : Sheet) (S : Sound s
       let a = refaced-over s S f isF rks′ rnew gain in
       let b = refaced-over s S f isF rks′ rnew loss in
       let l = length-append (without ms 0 rks) (one (path (one (along (s .next))))) in
-      let n = length-left ms rks (counts .1) in
+      let n = length-left noCycle ms rks (counts .1) in
       let r : length (chosen noCycle ms rks) ≡ length ms = length-map ms _ in
       omega arith
 
@@ -331,5 +337,5 @@ module _ (f c1 s1 c2 s2 : ℕ) (bs : List Position) (ms : List ℕ) (s : Sheet) 
       let x = set bks c1 (path joinedPath) in
       let l : length x ≡ length bks = length-set bks c1 _ in
       let h : c2 < length x = let z = corners .1 in omega arith in
-      let n = length-left (one c2) x (pair (leb 0 c2) (ltb c2 (length x) && true) (le→leb 0 c2 (omega arith)) (pair (ltb c2 (length x)) true (lt→ltb c2 (length x) h) tt)) in
+      let n = length-but-one noCycle c2 x h in
       rw cut-two (omega arith)

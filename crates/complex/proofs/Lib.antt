@@ -6,6 +6,7 @@ pub mod Keep
 pub mod Gains
 pub mod Adds
 pub mod Split
+pub mod Sums
 pub mod Euler
 pub mod Delete
 pub mod Faces
@@ -18,6 +19,11 @@ pub mod UncutFaces
 pub mod UncutCycle
 pub mod UncutVertex
 pub mod Uncut
+pub mod Sizes
+pub mod SizesCut
+pub mod SizesUnglue
+pub mod SizesUncut
+pub mod SizesAfter
 pub mod Star
 pub mod Obey
 pub mod Demand

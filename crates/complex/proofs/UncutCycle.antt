@@ -23,10 +23,10 @@ use Rattle.complex.proofs.Bools.{truth, pair, all-append}
 use Rattle.complex.proofs.Walks.{walk-split, Round}
 use Rattle.complex.proofs.Keep.{Sound}
 use Rattle.complex.proofs.Split.{all-getD, walk-begins}
-use Rattle.complex.proofs.Faces.{over-others}
+use Rattle.complex.proofs.Faces.{without-one}
 use Rattle.complex.proofs.UnglueVertex.{Every}
 use Rattle.complex.proofs.UncutEdge.{every-from, following-walk, walk-stays, all-but-set}
-use Rattle.complex.proofs.UncutFaces.{lookˣ, no-face, vertex-stays, steps-stay, cycle-left, refaced-sound, refaced-over, path-or-ok, walk-edges, Placed, round-of, opposite-ends, head-vertex}
+use Rattle.complex.proofs.UncutFaces.{lookˣ, no-face, vertex-stays, steps-stay, cycle-left, refaced-sound, refaced-over, following-length, path-or-ok, walk-edges, Placed, round-of, opposite-ends, head-vertex}
 
 -- ---- the steps of a cycle after place a, up to place b
 module _ (hs : List Halfedge) (a b : ℕ) (la : a < length hs) (lb : b < length hs) (ne : a ≡ b → ⊥) where
@@ -37,7 +37,7 @@ module _ (hs : List Halfedge) (a b : ℕ) (la : a < length hs) (lb : b < length 
   d = distance (length hs) (suc a) b
 
   length-F : length F + 1 ≡ length hs
-  length-F = let x = length-append (drop (suc a) hs) (take a hs) in let y = length-drop (suc a) hs in let z = length-take-le a hs (omega arith) in omega arith
+  length-F = following-length hs a la
 
   -- either b comes after a in the list, or before it
   where-b : ((a < b) × (d ≡ b - suc a)) ⊎ ((b < a) × (d ≡ length (drop (suc a) hs) + b))
@@ -71,6 +71,9 @@ module _ (hs : List Halfedge) (a b : ℕ) (la : a < length hs) (lb : b < length 
       let z : rotated (suc a) hs ≡ F ++ (getD hs a noStep ∷ []) = ap (λ (ks : List Halfedge). drop (suc a) hs ++ ks) (take-suc hs a noStep la) ∙ sym (append-assoc (drop (suc a) hs) (take a hs) (getD hs a noStep ∷ [])) in
       ap (take d) z ∙ take-append-le d F (getD hs a noStep ∷ []) (let l = d-lt in omega arith)
 
+  pub stretch-length : length (stretch (suc a) b hs) ≡ d
+  stretch-length = ap length stretch-F ∙ length-take-le d F (let l = d-lt in omega arith)
+
   stretch-every : (Q : Halfedge → Type 0) → ((j : ℕ) → j < length hs → (j ≡ a → ⊥) → (j ≡ b → ⊥) → Q (getD hs j noStep)) → Every Q (stretch (suc a) b hs)
   stretch-every Q h = subst (Every Q) (sym stretch-F) (every-from Q (take d F) noStep (λ i l. let m : i < d = (let z = length-take-le d F (let w = d-lt in omega arith) in omega arith) in subst Q (sym (getD-take d F i noStep m)) (at i m (ltb i (length (drop (suc a) hs))) refl)))
     where
@@ -100,10 +103,26 @@ module _ (hs : List Halfedge) (a b : ℕ) (la : a < length hs) (lb : b < length 
       let e : m .0 ≡ tailOf look k = walk-begins look (m .0) F (tailOf look h) d noStep d-lt (m .2) ∙ ap (tailOf look) (F-at-d ∙ q) in
       subst (λ (ks : List Halfedge). Walk look (headOf look h) ks (tailOf look k)) (sym stretch-F) (subst (λ (v : ℕ). Walk look (headOf look h) (take d F) v) e (m .1))
 
+-- the two stretches between two places are all the steps but the two
+pub stretches-length : (hs : List Halfedge) (a b : ℕ) → a < length hs → b < length hs → (a ≡ b → ⊥) → length (stretch (suc a) b hs) + length (stretch (suc b) a hs) + 2 ≡ length hs
+stretches-length hs a b la lb ne =
+    let x = stretch-length hs a b la lb ne in
+    let y = stretch-length hs b a lb la (λ z. ne (sym z)) in
+    let m = length-drop (suc a) hs in
+    let n = length-drop (suc b) hs in
+    elim (where-b hs a b la lb ne) [
+      | inl p ↦ let p0 = p .0 in let p1 = p .1 in elim (where-b hs b a lb la (λ z. ne (sym z))) [ inl q ↦ absurd (let q0 = q .0 in omega arith) | inr q ↦ let q1 = q .1 in omega arith ]
+      | inr p ↦ let p0 = p .0 in let p1 = p .1 in elim (where-b hs b a lb la (λ z. ne (sym z))) [ inl q ↦ let q1 = q .1 in omega arith | inr q ↦ absurd (let q0 = q .0 in omega arith) ]
+    ]
+
 -- ---- the two uses in one cycle
-module _ (s : Sheet) (S : Sound s) (e : ℕ) (E : T (isEdge (cellAt s e))) (o : T (isOpen (cellAt s e))) (u w : Use) (ru : Placed (cellAt s) e u) (rw′ : Placed (cellAt s) e w)
-    (L : (f : ℕ) (ks : List Cycle) → cellAt s f ≡ some (face ks) → (c : ℕ) → c < length ks → (j : ℕ) → j < length (stepsOf (getD ks c noCycle)) → getD (stepsOf (getD ks c noCycle)) j noStep .edge ≡ e
-    → (_≡_ {A = Use} (record { face = f; cycle = c; step = j; halfedge = getD (stepsOf (getD ks c noCycle)) j noStep }) u) ⊎ (_≡_ {A = Use} (record { face = f; cycle = c; step = j; halfedge = getD (stepsOf (getD ks c noCycle)) j noStep }) w))
+-- no step of e is another use
+abbrev pub Only : Sheet → ℕ → Use → Use → Type 0
+Only s e u w =
+    (f : ℕ) (ks : List Cycle) → cellAt s f ≡ some (face ks) → (c : ℕ) → c < length ks → (j : ℕ) → j < length (stepsOf (getD ks c noCycle)) → getD (stepsOf (getD ks c noCycle)) j noStep .edge ≡ e
+    → (_≡_ {A = Use} (record { face = f; cycle = c; step = j; halfedge = getD (stepsOf (getD ks c noCycle)) j noStep }) u) ⊎ (_≡_ {A = Use} (record { face = f; cycle = c; step = j; halfedge = getD (stepsOf (getD ks c noCycle)) j noStep }) w)
+
+module _ (s : Sheet) (S : Sound s) (e : ℕ) (E : T (isEdge (cellAt s e))) (o : T (isOpen (cellAt s e))) (u w : Use) (ru : Placed (cellAt s) e u) (rw′ : Placed (cellAt s) e w) (L : Only s e u w)
     (opp : T (opposite u w)) (ef : u .face ≡ w .face) (ec : u .cycle ≡ w .cycle) where
   abbrev ks : List Cycle
   ks = cyclesOf (cellAt s (u .face))
@@ -114,13 +133,13 @@ module _ (s : Sheet) (S : Sound s) (e : ℕ) (E : T (isEdge (cellAt s e))) (o : 
   same-cycle : cycleOfUse (cellAt s) w ≡ hs
   same-cycle = λ i. stepsOf (getD (cyclesOf (cellAt s (sym ef i))) (sym ec i) noCycle)
 
-  w-lt : w .step < length hs
+  pub w-lt : w .step < length hs
   w-lt = subst (λ (l : List Halfedge). w .step < length l) same-cycle (rw′ .2)
 
   w-at : getD hs (w .step) noStep ≡ w .halfedge
   w-at = subst (λ (l : List Halfedge). getD l (w .step) noStep ≡ w .halfedge) same-cycle (rw′ .3)
 
-  distinct : u .step ≡ w .step → ⊥
+  pub distinct : u .step ≡ w .step → ⊥
   distinct z =
       let q : u .halfedge ≡ w .halfedge = sym (ru .3) ∙ ap (λ (n : ℕ). getD hs n noStep) z ∙ w-at in
       go (u .halfedge .backward) (w .halfedge .backward) (ap (λ (h : Halfedge). h .backward) q) opp
@@ -165,7 +184,7 @@ module _ (s : Sheet) (S : Sound s) (e : ℕ) (E : T (isEdge (cellAt s e))) (o : 
       path-or-ok look₁ v X (vertex-stays s S e E (others e) (u .face) ks (ru .0) ks′ keeps v (head-vertex s S (u .halfedge) (subst (λ (i : ℕ). T (isOpen (cellAt s i))) (sym (ru .4)) o)))
       (piece v X (subst (λ (x : ℕ). Walk (cellAt s) v X x) (ends .1) k) (stretch-every hs (u .step) (w .step) (ru .2) w-lt distinct (λ (h : Halfedge). h .edge ≡ e → ⊥) (λ j l a b. not-e j l a b)))
 
-  Y-is : Y ≡ stretch (suc (w .step)) (u .step) hs
+  pub Y-is : Y ≡ stretch (suc (w .step)) (u .step) hs
   Y-is = ap (stretch (suc (w .step)) (u .step)) same-cycle
 
   Y-ok : T (cycleOk look₁ (pathOr (headOf (cellAt s) (w .halfedge)) Y))
@@ -191,14 +210,16 @@ module _ (s : Sheet) (S : Sound s) (e : ℕ) (E : T (isEdge (cellAt s e))) (o : 
       (λ m l n. cycle-left s S e E (others e) (u .face) ks (ru .0) ks′ keeps (getD ks m noCycle) (all-getD (cycleOk (cellAt s)) ks m noCycle (S .figures (u .face) (face ks) (ru .0)) l) (avoid (u .face) ks (ru .0) m l (λ z y. n y))) X-ok)
       (pair (cycleOk look₁ (pathOr (headOf (cellAt s) (w .halfedge)) Y)) true Y-ok tt))
 
+  pub one-less : (g : Figure → ℕ) (t : Figure) → cellAt s e ≡ some t → over g (rebuild (others e) (replaced (u .face) (face ks′)) [] s .cells) + g (face ks) + g t ≡ over g (s .cells) + g (face ks′)
+  one-less g t q =
+      let k : T (others e (u .face)) = rw (ne-eqb e (u .face) (λ z. no-face s S e E (others e) (u .face) ks (ru .0) ks keeps e (inr E) (sym z))) tt in
+      let x = refaced-over s S e E (others e) (u .face) ks (ru .0) ks′ keeps g k in
+      let m = without-one e t s S q g in
+      omega arith
+
+  pub more-cycles : length ks′ ≡ length ks + 1
+  more-cycles = length-append (set ks (u .cycle) (pathOr (headOf (cellAt s) (u .halfedge)) X)) (one (pathOr (headOf (cellAt s) (w .halfedge)) Y)) ∙ ap (λ (n : ℕ). n + 1) (length-set ks (u .cycle) (pathOr (headOf (cellAt s) (u .halfedge)) X))
+
   pub one-cycle-over : (a b : ℕ) (bs : List Position) → cellAt s e ≡ some (openEdge a b bs)
       → over gain (rebuild (others e) (replaced (u .face) (face ks′)) [] s .cells) + over loss (s .cells) ≡ over gain (s .cells) + over loss (rebuild (others e) (replaced (u .face) (face ks′)) [] s .cells)
-  one-cycle-over a b bs q =
-      let k : T (others e (u .face)) = rw (ne-eqb e (u .face) (λ z. no-face s S e E (others e) (u .face) ks (ru .0) ks keeps e (inr E) (sym z))) tt in
-      let x = refaced-over s S e E (others e) (u .face) ks (ru .0) ks′ keeps gain k in
-      let y = refaced-over s S e E (others e) (u .face) ks (ru .0) ks′ keeps loss k in
-      let m = over-others gain e (openEdge a b bs) 0 (s .cells) (s .next) (S .rises) q in
-      let n = over-others loss e (openEdge a b bs) 0 (s .cells) (s .next) (S .rises) q in
-      let l = length-append (set ks (u .cycle) (pathOr (headOf (cellAt s) (u .halfedge)) X)) (one (pathOr (headOf (cellAt s) (w .halfedge)) Y)) in
-      let r = length-set ks (u .cycle) (pathOr (headOf (cellAt s) (u .halfedge)) X) in
-      omega arith
+  one-cycle-over a b bs q = let x = one-less gain (openEdge a b bs) q in let y = one-less loss (openEdge a b bs) q in let l = more-cycles in omega arith

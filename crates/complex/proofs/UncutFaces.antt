@@ -7,24 +7,24 @@ use mathlib.Core.Bool.{Bool, true, false, not, _&&_, _||_, cond, Bool·beq}
 use mathlib.Core.List.{List, [], _∷_, _++_, map, append-assoc}
 use mathlib.Core.Option.{Option, none, some}
 use lib.ListN.{length, getD, take, drop, set, length-append, length-set}
-use lib.Dec.{T, eqb, ltb, leb, eqb→eq, eqb-refl, ltb→lt, lt→ltb, le→leb}
+use lib.Dec.{T, eqb, leb, eqb→eq, eqb-refl, ltb→lt}
 use borrow.Author.Tests.{eq-eqb, ne-eqb, eqb-true, eqb-false}
 use Rattle.coordinate.specs.declared.Position.{Position}
 use Rattle.coordinate.specs.Bounds.{within}
 use Rattle.complex.specs.Lists.{all, places, one, without}
-use Rattle.complex.specs.Cells.{Halfedge, Cycle, lone, path, Figure, vertex, openEdge, closedEdge, face, LiveCell, Sheet, Look, lookup, isVertex, isOpen, isClosed, isEdge, isFace, startOf, endOf, cyclesOf, stepsOf, same, tailOf, headOf, flipped, cellAt}
+use Rattle.complex.specs.Cells.{Halfedge, Cycle, lone, path, Figure, vertex, openEdge, closedEdge, face, Sheet, Look, lookup, isVertex, isOpen, isClosed, isEdge, isFace, startOf, endOf, cyclesOf, stepsOf, same, tailOf, headOf, flipped, cellAt}
 use Rattle.complex.specs.Sound.{Walk, idsEnd, cycleOk, figureOk, ceilings, joins, over}
 use Rattle.complex.specs.Edits.{keepIds, reshape, rebuild, replaced, others, both}
 use Rattle.complex.specs.Uses.{Use, usesOf}
 use Rattle.complex.specs.Cut.{noCycle, noStep}
 use Rattle.complex.specs.Uncut.{opposite, pathOr, cycleOfUse, following}
 use Rattle.complex.proofs.Gains.{gain, loss}
-use Rattle.complex.proofs.Bools.{truth, true-of, pair, equal, all-append, not-of}
+use Rattle.complex.proofs.Bools.{truth, pair, equal, all-append, not-of}
 use Rattle.complex.proofs.Bools.{both as parts, or-left, or-right}
-use Rattle.complex.proofs.Lookup.{lookup-keep, rising-filter}
 use Rattle.complex.proofs.Delete.{Edges, joins-edges}
-use Rattle.complex.proofs.Euler.{over-rebuild, over-replaced, length-left}
-use Rattle.complex.proofs.Faces.{over-others, over-less}
+use Rattle.complex.proofs.Sums.{length-but-one}
+use Rattle.complex.proofs.Euler.{over-put}
+use Rattle.complex.proofs.Faces.{without-one, without-more}
 use lib.Seq.{getD-drop, getD-take, length-take-le}
 use lib.ListN.{length-drop, length-take}
 use Rattle.complex.proofs.Walks.{walk-append, Round, Ring, Some, joins-cases, round-joins}
@@ -129,12 +129,12 @@ module _ (s : Sheet) (S : Sound s) (e : ℕ) (E : T (isEdge (cellAt s e))) (p : 
       old j t k q o false z = shape j t k q (λ w. eqb-false f j z (sym w)) o
 
   pub refaced-over : (g : Figure → ℕ) → T (p f) → over g (rebuild p (replaced f (face ks′)) [] s .cells) + g (face ks) ≡ over g (keepIds p (s .cells)) + g (face ks′)
-  refaced-over g k =
-      let a = over-rebuild g p (replaced f (face ks′)) [] s in
-      let b = over-replaced g f (face ks′) (face ks) 0 (keepIds p (s .cells)) (s .next) (rising-filter (λ (c : LiveCell). p (c .id)) 0 (s .cells) (s .next) (S .rises)) (lookup-keep p (s .cells) f ∙ rw (true-of (p f) k) at) in
-      omega arith
+  refaced-over g k = let a = over-put g p f (face ks′) (face ks) [] s S k at in omega arith
 
 -- the steps but one of a cycle
+pub following-length : (hs : List Halfedge) (n : ℕ) → n < length hs → length (drop (suc n) hs ++ take n hs) + 1 ≡ length hs
+following-length hs n l = let x = length-append (drop (suc n) hs) (take n hs) in let y = length-drop (suc n) hs in let z = length-take-le n hs (omega arith) in omega arith
+
 pub following-avoids : (Q : Halfedge → Type 0) (hs : List Halfedge) (n : ℕ) → n < length hs → ((j : ℕ) → j < length hs → (j ≡ n → ⊥) → Q (getD hs j noStep)) → Every Q (drop (suc n) hs ++ take n hs)
 following-avoids Q hs n l h =
     every-both Q (drop (suc n) hs) (take n hs)
@@ -221,6 +221,13 @@ module _ (s : Sheet) (S : Sound s) (e : ℕ) (u w : Use) (U : usesOf (s .cells) 
   others-avoid j ls k n q c l =
       avoids s S e E u w U j ls q c l (λ z y. n z) (λ z y. lib.Dec.T-not (eqb (w .face) j) (parts (others e j) (others (w .face) j) k .1) (equal (sym z)))
 
+  -- each use is the only one in its cycle
+  pub u-only : (j : ℕ) → j < length (cycleOfUse (cellAt s) u) → (j ≡ u .step → ⊥) → getD (cycleOfUse (cellAt s) u) j noStep .edge ≡ e → ⊥
+  u-only j l n z = elim (listed s S e E u w U (u .face) ks1 (ru .0) (u .cycle) (ru .1) j l z) [ inl x ↦ n (ap (λ (y : Use). y .step) x) | inr x ↦ ne (ap (λ (y : Use). y .face) x) ]
+
+  pub w-only : (j : ℕ) → j < length (cycleOfUse (cellAt s) w) → (j ≡ w .step → ⊥) → getD (cycleOfUse (cellAt s) w) j noStep .edge ≡ e → ⊥
+  w-only j l n z = elim (listed s S e E u w U (w .face) ks2 (rw′ .0) (w .cycle) (rw′ .1) j l z) [ inl x ↦ ne (sym (ap (λ (y : Use). y .face) x)) | inr x ↦ n (ap (λ (y : Use). y .step) x) ]
+
   module _ (ks′ : List Cycle) where
     abbrev look₂ : Look
     look₂ = lookˣ s S e E p₂ (u .face) ks1 (ru .0) ks′ keeps₂
@@ -266,12 +273,6 @@ module _ (s : Sheet) (S : Sound s) (e : ℕ) (u w : Use) (U : usesOf (s .cells) 
         (steps-stay s S e E p₂ (u .face) ks1 (ru .0) ks′ᵒ keeps₂ (following (cellAt s) x) (walk-edges s S (headOf (cellAt s) (x .halfedge)) (following (cellAt s) x) (tailOf (cellAt s) (x .halfedge)) (k .1))
         (following-avoids (λ (y : Halfedge). y .edge ≡ e → ⊥) (cycleOfUse (cellAt s) x) (x .step) (r .2) h)) (k .1)
 
-    u-only : (j : ℕ) → j < length (cycleOfUse (cellAt s) u) → (j ≡ u .step → ⊥) → getD (cycleOfUse (cellAt s) u) j noStep .edge ≡ e → ⊥
-    u-only j l n z = elim (listed s S e E u w U (u .face) ks1 (ru .0) (u .cycle) (ru .1) j l z) [ inl x ↦ n (ap (λ (y : Use). y .step) x) | inr x ↦ ne (ap (λ (y : Use). y .face) x) ]
-
-    w-only : (j : ℕ) → j < length (cycleOfUse (cellAt s) w) → (j ≡ w .step → ⊥) → getD (cycleOfUse (cellAt s) w) j noStep .edge ≡ e → ⊥
-    w-only j l n z = elim (listed s S e E u w U (w .face) ks2 (rw′ .0) (w .cycle) (rw′ .1) j l z) [ inl x ↦ ne (sym (ap (λ (y : Use). y .face) x)) | inr x ↦ n (ap (λ (y : Use). y .step) x) ]
-
     merged-ok : T (cycleOk look₃ merged)
     merged-ok =
         let a = part-stays u ru u-only in
@@ -290,32 +291,31 @@ module _ (s : Sheet) (S : Sound s) (e : ℕ) (u w : Use) (U : usesOf (s .cells) 
         (all-but-set (cycleOk look₃) ks1 (u .cycle) merged noCycle (λ m l n. first-left ks′ᵒ m l n) merged-ok) (left-of-two ks′ᵒ))
 
   -- ---- shares
-  two-less : (g : Figure → ℕ) (t : Figure) → cellAt s e ≡ some t → (ks′ : List Cycle) → over g (rebuild p₂ (replaced (u .face) (face ks′)) [] s .cells) + g (face ks1) + g (face ks2) + g t ≡ over g (s .cells) + g (face ks′)
+  pub two-less : (g : Figure → ℕ) (t : Figure) → cellAt s e ≡ some t → (ks′ : List Cycle) → over g (rebuild p₂ (replaced (u .face) (face ks′)) [] s .cells) + g (face ks1) + g (face ks2) + g t ≡ over g (s .cells) + g (face ks′)
   two-less g t q ks′ =
       let a = refaced-over s S e E p₂ (u .face) ks1 (ru .0) ks′ keeps₂ g (pair (others e (u .face)) (others (w .face) (u .face)) (rw (ne-eqb e (u .face) (λ z. no-face s S e E (λ (i : ℕ). true) (u .face) ks1 (ru .0) ks1 (λ x y k. tt) e (inr E) (sym z))) tt) (rw (ne-eqb (w .face) (u .face) (λ z. ne (sym z))) tt)) in
-      let b = over-less g e t (others (w .face)) s S q (rw (ne-eqb (w .face) e (λ z. no-face s S e E (λ (i : ℕ). true) (w .face) ks2 (rw′ .0) ks2 (λ x y k. tt) e (inr E) z)) tt) in
-      let c = over-others g (w .face) (face ks2) 0 (s .cells) (s .next) (S .rises) (rw′ .0) in
+      let k : T (others (w .face) e) = rw (ne-eqb (w .face) e (λ z. no-face s S e E (λ (i : ℕ). true) (w .face) ks2 (rw′ .0) ks2 (λ x y k. tt) e (inr E) z)) tt in
+      let b = without-more e t (others (w .face)) (one (face ks2)) s S q k (without-one (w .face) (face ks2) s S (rw′ .0)) g in
       omega arith
 
-  one-out : (n : ℕ) (xs : List Cycle) → n < length xs → length (without (one n) 0 xs) + 1 ≡ length xs
-  one-out n xs l = length-left (one n) xs (pair (leb 0 n) (ltb n (length xs) && true) (le→leb 0 n (omega arith)) (pair (ltb n (length xs)) true (lt→ltb n (length xs) l) tt))
+  pub merged-cycles : length ks′ᵒ + 1 ≡ length ks1 + length ks2
+  merged-cycles =
+      let l = length-append (set ks1 (u .cycle) merged) (without (one (w .cycle)) 0 ks2) in
+      let m = length-set ks1 (u .cycle) merged in
+      let n = length-but-one noCycle (w .cycle) ks2 (rw′ .1) in
+      omega arith
+
+  pub rings-cycles : length ks′ᶜ + 2 ≡ length ks1 + length ks2
+  rings-cycles =
+      let l = length-append (without (one (u .cycle)) 0 ks1) (without (one (w .cycle)) 0 ks2) in
+      let m = length-but-one noCycle (u .cycle) ks1 (ru .1) in
+      let n = length-but-one noCycle (w .cycle) ks2 (rw′ .1) in
+      omega arith
 
   pub merged-over : (a b : ℕ) (bs : List Position) → cellAt s e ≡ some (openEdge a b bs)
       → over gain (rebuild p₂ (replaced (u .face) (face ks′ᵒ)) [] s .cells) + over loss (s .cells) ≡ over gain (s .cells) + over loss (rebuild p₂ (replaced (u .face) (face ks′ᵒ)) [] s .cells)
-  merged-over a b bs q =
-      let x = two-less gain (openEdge a b bs) q ks′ᵒ in
-      let y = two-less loss (openEdge a b bs) q ks′ᵒ in
-      let l = length-append (set ks1 (u .cycle) merged) (without (one (w .cycle)) 0 ks2) in
-      let m = length-set ks1 (u .cycle) merged in
-      let n = one-out (w .cycle) ks2 (rw′ .1) in
-      omega arith
+  merged-over a b bs q = let x = two-less gain (openEdge a b bs) q ks′ᵒ in let y = two-less loss (openEdge a b bs) q ks′ᵒ in let n = merged-cycles in omega arith
 
   pub rings-over : (bs : List Position) → cellAt s e ≡ some (closedEdge bs)
       → over gain (rebuild p₂ (replaced (u .face) (face ks′ᶜ)) [] s .cells) + over loss (s .cells) ≡ over gain (s .cells) + over loss (rebuild p₂ (replaced (u .face) (face ks′ᶜ)) [] s .cells)
-  rings-over bs q =
-      let x = two-less gain (closedEdge bs) q ks′ᶜ in
-      let y = two-less loss (closedEdge bs) q ks′ᶜ in
-      let l = length-append (without (one (u .cycle)) 0 ks1) (without (one (w .cycle)) 0 ks2) in
-      let m = one-out (u .cycle) ks1 (ru .1) in
-      let n = one-out (w .cycle) ks2 (rw′ .1) in
-      omega arith
+  rings-over bs q = let x = two-less gain (closedEdge bs) q ks′ᶜ in let y = two-less loss (closedEdge bs) q ks′ᶜ in let n = rings-cycles in omega arith

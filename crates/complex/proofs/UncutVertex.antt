@@ -1,5 +1,5 @@
 -- 0E at a vertex: soundness and shift. Assumes nothing.
-use Prim.Native.Nat.{ℕ, zero, suc, _+_, _-_, _≤_, _<_}
+use Prim.Native.Nat.{ℕ, zero, _+_, _-_, _≤_, _<_}
 use native.Mathlib.Omega.{arith}
 use mathlib.Core.Path.{_≡_, refl, sym, ap, _∙_, subst}
 use mathlib.Core.Logic.{_⊎_, inl, inr}
@@ -14,8 +14,8 @@ use Rattle.coordinate.specs.declared.Position.{Position}
 use Rattle.coordinate.specs.Bounds.{within}
 use Rattle.complex.specs.Lists.{all, any, filter, consIf, total, one, isEmpty}
 use Rattle.complex.specs.Cells.{Halfedge, Cycle, lone, path, Figure, vertex, openEdge, closedEdge, face, LiveCell, Sheet, Look, someIf, lookup, ids, isVertex, isOpen, isClosed, isEdge, startOf, endOf, bendsOf, cyclesOf, positionOf, stepsOf, along, against, flipped, same, tailOf, headOf, cellAt}
-use Rattle.complex.specs.Sound.{Walk, idsEnd, cycleOk, figureOk, ceilings, joins, over}
-use Rattle.complex.specs.Edits.{keepIds, reshape, numbered, rebuild, rewired, rewiredCycle, sameVertex, others, both, inPlaceOf}
+use Rattle.complex.specs.Sound.{Walk, idsEnd, cycleOk, figureOk, ceilings, joins, stepCount, over}
+use Rattle.complex.specs.Edits.{keepIds, numbered, rebuild, rewired, rewiredCycle, sameVertex, others, both, inPlaceOf}
 use Rattle.complex.specs.Uses.{figureEnds, endsAt, Passage, passage, passagesFrom, passages, allCycles, passagesAt, isIn, loneUse, usesBy}
 use Rattle.complex.specs.Uncut.{isLone, withoutLone, inOne, bendsAlong, joined}
 use Rattle.complex.proofs.Gains.{gain, loss}
@@ -26,8 +26,9 @@ use Rattle.complex.proofs.Keep.{Sound, Look′, rebuild-sound, same-eq,
 use Rattle.complex.proofs.Adds.{stays-at, new-at}
 use Rattle.complex.proofs.Split.{apart}
 use Rattle.complex.proofs.Delete.{Edges, joins-edges}
-use Rattle.complex.proofs.Euler.{over-rebuild, over-reshape}
-use Rattle.complex.proofs.Faces.{over-others, over-less, over-rewired, gain-rewired, loss-rewired}
+use Rattle.complex.proofs.Sums.{total-zero, total-ones}
+use Rattle.complex.proofs.Euler.{over-reshaped, over-rebuild, over-kept}
+use Rattle.complex.proofs.Faces.{Without, without-one, without-more, gain-rewired, loss-rewired}
 use Rattle.complex.proofs.Unglue.{over-at}
 use Rattle.complex.proofs.UnglueVertex.{Every, every-left, every-right, every-both, end-in, open-at, turnsOf, passages-in, filter-append}
 use Rattle.complex.proofs.UncutFaces.{head-vertex}
@@ -141,35 +142,44 @@ module _ (s : Sheet) (S : Sound s) (v : ℕ) (p : Position) (at : cellAt s v ≡
   gain-same j (closedEdge bs) = refl
   gain-same j (face ks) = refl
 
-  cycles-less : (ks : List Cycle) → length (filter (λ (k : Cycle). not (isLone v k)) ks) + total (loneUse v) ks ≡ length ks
-  cycles-less [] = refl
-  cycles-less (lone w ∷ ks) = go (eqb v w) (cycles-less ks)
+  lone-less : (f : Cycle → ℕ) → ((w : ℕ) → f (lone w) ≡ 1) → (ks : List Cycle) → total f (filter (λ (k : Cycle). not (isLone v k)) ks) + total (loneUse v) ks ≡ total f ks
+  lone-less f n [] = refl
+  lone-less f n (lone w ∷ ks) = go (eqb v w) (n w) (lone-less f n ks)
     where
-      go : (b : Bool) → length (filter (λ (k : Cycle). not (isLone v k)) ks) + total (loneUse v) ks ≡ length ks → length (consIf (not b) (lone w) (filter (λ (k : Cycle). not (isLone v k)) ks)) + (cond b 1 0 + total (loneUse v) ks) ≡ suc (length ks)
-      go true h = omega arith
-      go false h = omega arith
-  cycles-less (path hs ∷ ks) = let h = cycles-less ks in omega arith
+      go : (b : Bool) → f (lone w) ≡ 1 → total f (filter (λ (k : Cycle). not (isLone v k)) ks) + total (loneUse v) ks ≡ total f ks
+          → total f (consIf (not b) (lone w) (filter (λ (k : Cycle). not (isLone v k)) ks)) + (cond b 1 0 + total (loneUse v) ks) ≡ f (lone w) + total f ks
+      go true e h = omega arith
+      go false e h = omega arith
+  lone-less f n (path hs ∷ ks) = let h = lone-less f n ks in omega arith
 
-  loss-less : (cs : List LiveCell) → over loss (reshape (withoutLone v) cs) + usesBy (loneUse v) cs ≡ over loss cs
-  loss-less [] = refl
-  loss-less (c ∷ cs) = let h = loss-less cs in let k = here (c .figure) in omega arith
-    where
-      here : (t : Figure) → loss (withoutLone v (c .id) t) + total (loneUse v) (cyclesOf (some t)) ≡ loss t
-      here (vertex r) = refl
-      here (openEdge a b bs) = refl
-      here (closedEdge bs) = refl
-      here (face ks) = cycles-less ks
+  pub cycles-less : (ks : List Cycle) → length (filter (λ (k : Cycle). not (isLone v k)) ks) + total (loneUse v) ks ≡ length ks
+  cycles-less ks = let h = lone-less (λ (k : Cycle). 1) (λ w. refl) ks in let a = total-ones (filter (λ (k : Cycle). not (isLone v k)) ks) in let b = total-ones ks in omega arith
+
+  pub steps-less : (ks : List Cycle) → total stepCount (filter (λ (k : Cycle). not (isLone v k)) ks) + total (loneUse v) ks ≡ total stepCount ks
+  steps-less ks = lone-less stepCount (λ w. refl) ks
+
+  -- sums that lose one with each lone cycle, and sums that do not
+  pub lonely-less : (g : Figure → ℕ) → ((j : ℕ) (t : Figure) → g (withoutLone v j t) + total (loneUse v) (cyclesOf (some t)) ≡ g t)
+      → over g (rebuild (others v) (withoutLone v) [] s .cells) + usesBy (loneUse v) (s .cells) + g (vertex p) ≡ over g (s .cells)
+  lonely-less g h =
+      let a = over-rebuild g (others v) (withoutLone v) [] s in
+      let b = over-reshaped g (λ (t : Figure). total (loneUse v) (cyclesOf (some t))) (λ (t : Figure). 0) (withoutLone v) (λ j t. let e = h j t in omega arith) (keepIds (others v) (s .cells)) in
+      let z = total-zero (keepIds (others v) (s .cells)) in
+      let c = without-one v (vertex p) s S at g in
+      let d = without-one v (vertex p) s S at (λ (t : Figure). total (loneUse v) (cyclesOf (some t))) in
+      omega arith
+
+  pub lonely-same : (g : Figure → ℕ) → ((j : ℕ) (t : Figure) → g (withoutLone v j t) ≡ g t) → over g (rebuild (others v) (withoutLone v) [] s .cells) + g (vertex p) ≡ over g (s .cells)
+  lonely-same g h = let a = over-kept g (withoutLone v) h (others v) [] s in let b = without-one v (vertex p) s S at g in omega arith
+
+  loss-less : (j : ℕ) (t : Figure) → loss (withoutLone v j t) + total (loneUse v) (cyclesOf (some t)) ≡ loss t
+  loss-less j (vertex r) = refl
+  loss-less j (openEdge a b bs) = refl
+  loss-less j (closedEdge bs) = refl
+  loss-less j (face ks) = cycles-less ks
 
   pub lonely-over : usesBy (loneUse v) (s .cells) ≡ 1 → over gain (rebuild (others v) (withoutLone v) [] s .cells) + over loss (s .cells) ≡ over gain (s .cells) + over loss (rebuild (others v) (withoutLone v) [] s .cells)
-  lonely-over n =
-      let a = over-rebuild gain (others v) (withoutLone v) [] s in
-      let b = over-rebuild loss (others v) (withoutLone v) [] s in
-      let c = over-reshape gain (withoutLone v) gain-same (keepIds (others v) (s .cells)) in
-      let d = loss-less (keepIds (others v) (s .cells)) in
-      let e = over-others gain v (vertex p) 0 (s .cells) (s .next) (S .rises) at in
-      let f = over-others loss v (vertex p) 0 (s .cells) (s .next) (S .rises) at in
-      let g = over-others (λ (t : Figure). total (loneUse v) (cyclesOf (some t))) v (vertex p) 0 (s .cells) (s .next) (S .rises) at in
-      omega arith
+  lonely-over n = let a = lonely-same gain gain-same in let b = lonely-less loss loss-less in omega arith
 
 pub all-reverse : {A : Type 0} (q : A → Bool) (xs : List A) → T (all q xs) → T (all q (reverse xs))
 all-reverse q xs t = go xs [] t tt
@@ -409,17 +419,19 @@ module _ (s : Sheet) (S : Sound s) (v : ℕ) (p : Position) (at : cellAt s v ≡
     pub loop-sound : T (leb (rebuild keepˡ (rewired sameVertex σˡ) (tˡ ∷ []) s .next) idsEnd) → T (ceilings (rebuild keepˡ (rewired sameVertex σˡ) (tˡ ∷ []) s .cells)) → Sound (rebuild keepˡ (rewired sameVertex σˡ) (tˡ ∷ []) s)
     loop-sound seven eight = two-sound keepˡ σˡ tˡ Qˡ goneˡ keptˡ path-okˡ (every-of-any (λ (t : Passage). same (t .arrives) (t .leaves)) (passagesAt (s .cells) v) no-turn) seven eight new-okˡ
 
+    -- the vertex and the edge go
+    pub loop-gone : (t : Figure) → cellAt s eˡ ≡ some t → Without s keepˡ (vertex p ∷ t ∷ [])
+    loop-gone t k =
+        let n : T (others eˡ v) = rw (ne-eqb eˡ v (λ z. edge-not-v² keepˡ σˡ tˡ Qˡ goneˡ keptˡ eˡ (or-left (isOpen (cellAt s eˡ)) (isClosed (cellAt s eˡ)) (real-ends .0 .0)) z)) tt in
+        without-more v (vertex p) (others eˡ) (one t) s S at n (without-one eˡ t s S k)
+
     pub loop-over : over gain (rebuild keepˡ (rewired sameVertex σˡ) (tˡ ∷ []) s .cells) + over loss (s .cells) ≡ over gain (s .cells) + over loss (rebuild keepˡ (rewired sameVertex σˡ) (tˡ ∷ []) s .cells)
     loop-over =
         let k = open-at (cellAt s) eˡ (real-ends .0 .0) in
-        let t = openEdge (k .0) (k .1) (k .2) in
-        let n : T (others eˡ v) = rw (ne-eqb eˡ v (λ z. edge-not-v² keepˡ σˡ tˡ Qˡ goneˡ keptˡ eˡ (or-left (isOpen (cellAt s eˡ)) (isClosed (cellAt s eˡ)) (real-ends .0 .0)) z)) tt in
-        let a = over-rewired gain gain-rewired sameVertex σˡ keepˡ (tˡ ∷ []) s in
-        let b = over-rewired loss loss-rewired sameVertex σˡ keepˡ (tˡ ∷ []) s in
-        let c = over-less gain v (vertex p) (others eˡ) s S at n in
-        let d = over-less loss v (vertex p) (others eˡ) s S at n in
-        let f = over-others gain eˡ t 0 (s .cells) (s .next) (S .rises) (k .3) in
-        let g = over-others loss eˡ t 0 (s .cells) (s .next) (S .rises) (k .3) in
+        let a = over-kept gain (rewired sameVertex σˡ) (gain-rewired sameVertex σˡ) keepˡ (tˡ ∷ []) s in
+        let b = over-kept loss (rewired sameVertex σˡ) (loss-rewired sameVertex σˡ) keepˡ (tˡ ∷ []) s in
+        let c = loop-gone (openEdge (k .0) (k .1) (k .2)) (k .3) gain in
+        let d = loop-gone (openEdge (k .0) (k .1) (k .2)) (k .3) loss in
         omega arith
 
   -- ---- one end each of two edges
@@ -663,24 +675,24 @@ module _ (s : Sheet) (S : Sound s) (v : ℕ) (p : Position) (at : cellAt s v ≡
         go true = (refl, refl)
         go false = (refl, refl)
 
-    pub joint-over : over gain (rebuild keepʲ (rewired sameVertex σʲ) (tʲ ∷ []) s .cells) + over loss (s .cells) ≡ over gain (s .cells) + over loss (rebuild keepʲ (rewired sameVertex σʲ) (tʲ ∷ []) s .cells)
-    joint-over =
-        let ka = open-at (cellAt s) a (real-ends .0 .0) in
-        let kb = open-at (cellAt s) b (real-ends .1 .0 .0) in
-        let ta = openEdge (ka .0) (ka .1) (ka .2) in
-        let tb = openEdge (kb .0) (kb .1) (kb .2) in
+    -- the vertex and both edges go
+    pub joint-gone : (ta tb : Figure) → cellAt s a ≡ some ta → cellAt s b ≡ some tb → Without s keepʲ (vertex p ∷ ta ∷ tb ∷ [])
+    joint-gone ta tb ka kb =
         let va : a ≡ v → ⊥ = edge-not-v² keepʲ σʲ tʲ Qʲ goneʲ keptʲ a (or-left (isOpen (cellAt s a)) (isClosed (cellAt s a)) (real-ends .0 .0)) in
         let vb : b ≡ v → ⊥ = edge-not-v² keepʲ σʲ tʲ Qʲ goneʲ keptʲ b (or-left (isOpen (cellAt s b)) (isClosed (cellAt s b)) (real-ends .1 .0 .0)) in
         let nv : T (both a b v) = pair (others a v) (others b v) (rw (ne-eqb a v va) tt) (rw (ne-eqb b v vb) tt) in
         let na : T (others b a) = rw (ne-eqb b a (λ z. apart-ab (sym z))) tt in
-        let c = over-rewired gain gain-rewired sameVertex σʲ keepʲ (tʲ ∷ []) s in
-        let d = over-rewired loss loss-rewired sameVertex σʲ keepʲ (tʲ ∷ []) s in
-        let e = over-less gain v (vertex p) (both a b) s S at nv in
-        let f = over-less loss v (vertex p) (both a b) s S at nv in
-        let g = over-less gain a ta (others b) s S (ka .3) na in
-        let h = over-less loss a ta (others b) s S (ka .3) na in
-        let i = over-others gain b tb 0 (s .cells) (s .next) (S .rises) (kb .3) in
-        let j = over-others loss b tb 0 (s .cells) (s .next) (S .rises) (kb .3) in
+        without-more v (vertex p) (both a b) (ta ∷ tb ∷ []) s S at nv (without-more a ta (others b) (one tb) s S ka na (without-one b tb s S kb))
+
+    pub joint-over : over gain (rebuild keepʲ (rewired sameVertex σʲ) (tʲ ∷ []) s .cells) + over loss (s .cells) ≡ over gain (s .cells) + over loss (rebuild keepʲ (rewired sameVertex σʲ) (tʲ ∷ []) s .cells)
+    joint-over =
+        let ka = open-at (cellAt s) a (real-ends .0 .0) in
+        let kb = open-at (cellAt s) b (real-ends .1 .0 .0) in
+        let c = over-kept gain (rewired sameVertex σʲ) (gain-rewired sameVertex σʲ) keepʲ (tʲ ∷ []) s in
+        let d = over-kept loss (rewired sameVertex σʲ) (loss-rewired sameVertex σʲ) keepʲ (tʲ ∷ []) s in
+        let gone = joint-gone (openEdge (ka .0) (ka .1) (ka .2)) (openEdge (kb .0) (kb .1) (kb .2)) (ka .3) (kb .3) in
+        let e = gone gain in
+        let f = gone loss in
         let k = new-share .0 in
         let l = new-share .1 in
         omega arith

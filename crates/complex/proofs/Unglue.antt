@@ -1,5 +1,5 @@
 -- 09 at an edge: soundness and shift. Assumes nothing.
-use Prim.Native.Nat.{ℕ, zero, suc, _+_, _-_, _≤_, _<_}
+use Prim.Native.Nat.{ℕ, zero, suc, _+_, _-_, _*_, _≤_, _<_}
 use native.Mathlib.Omega.{arith}
 use mathlib.Core.Path.{_≡_, refl, sym, ap, _∙_, subst}
 use mathlib.Core.Logic.{_⊎_, inl, inr}
@@ -27,7 +27,8 @@ use Rattle.complex.proofs.Walks.{Round, Ring, Some, joins-cases, round-
 use Rattle.complex.proofs.Keep.{Sound, Look′, rebuild-sound, same-eq, same-refl, ring-carried, spread-one, Keeps, tail-kept, head-kept, walk-kept, joins-kept, cycle-kept, shape-kept}
 use Rattle.complex.proofs.Adds.{Alike, alike-same, alike-rebuild, stays-at, new-at, Passes}
 use Rattle.complex.proofs.Split.{apart}
-use Rattle.complex.proofs.Euler.{over-keep, over-rebuild, over-reshape, keep-all, Balanced}
+use Rattle.complex.proofs.Sums.{total-copies}
+use Rattle.complex.proofs.Euler.{over-keep, over-all, Balanced}
 
 -- ---- sums
 pub over-at : (g : Figure → ℕ) (cs : List LiveCell) (i : ℕ) (t : Figure) → lookup cs i ≡ some t → g t ≤ over g cs
@@ -45,14 +46,6 @@ uses-within g cs i t e =
     let b = over-at g (keepIds (λ (j : ℕ). not (ltb j i)) cs) i t (lookup-keep (λ (j : ℕ). not (ltb j i)) cs i ∙ rw (le-ltb i i (omega arith)) e) in
     omega arith
 
-pub total-replicate : (g : Figure → ℕ) (n : ℕ) (t : Figure) → g t ≡ 1 → total g (replicate n t) ≡ n
-total-replicate g zero t e = refl
-total-replicate g (suc n) t e = let h = total-replicate g n t e in omega arith
-
-pub total-none : (g : Figure → ℕ) (n : ℕ) (t : Figure) → g t ≡ 0 → total g (replicate n t) ≡ 0
-total-none g zero t e = refl
-total-none g (suc n) t e = let h = total-none g n t e in omega arith
-
 -- ---- copies
 pub lookup-copies : (m n k : ℕ) (t : Figure) → k < n → lookup (numbered m (replicate n t)) (m + k) ≡ some t
 lookup-copies m zero k t h = absurd (omega arith)
@@ -64,6 +57,10 @@ module _ (uses : Cycle → ℕ) (f : ℕ → Cycle → Cycle) where
   pub length-counting : (n : ℕ) (ks : List Cycle) → length (counting uses f n ks) ≡ length ks
   length-counting n [] = refl
   length-counting n (k ∷ ks) = ap suc (length-counting (n + uses k) ks)
+
+  pub total-counting : (g : Cycle → ℕ) → ((n : ℕ) (k : Cycle) → g (f n k) ≡ g k) → (n : ℕ) (ks : List Cycle) → total g (counting uses f n ks) ≡ total g ks
+  total-counting g h n [] = refl
+  total-counting g h n (k ∷ ks) = let a = h n k in let b = total-counting g h (n + uses k) ks in omega arith
 
   -- each cycle in order afterwards, where the uses stay within N
   pub counting-ok : (look look′ : Look) (N : ℕ) → ((n : ℕ) (k : Cycle) → n + uses k ≤ N → T (cycleOk look k) → T (cycleOk look′ (f n k)))
@@ -116,23 +113,15 @@ module _ (uses : Cycle → ℕ) (f : ℕ → Cycle → Cycle) where
         news zero o = tt
         news (suc n) o = pair (figureOk lookᵘ t) (all (figureOk lookᵘ) (replicate n t)) o (news n o)
 
-    gain-uses : (j : ℕ) (u : Figure) → gain (onUses uses f 0 (s .cells) j u) ≡ gain u
-    gain-uses j (vertex p) = refl
-    gain-uses j (openEdge a b bs) = refl
-    gain-uses j (closedEdge bs) = refl
-    gain-uses j (face ks) = refl
-
-    loss-uses : (j : ℕ) (u : Figure) → loss (onUses uses f 0 (s .cells) j u) ≡ loss u
-    loss-uses j (vertex p) = refl
-    loss-uses j (openEdge a b bs) = refl
-    loss-uses j (closedEdge bs) = refl
-    loss-uses j (face ks) = length-counting (0 + usesBy uses (earlier j (s .cells))) ks
-
-    pub uses-gain : over gain (rebuild everyId (onUses uses f 0 (s .cells)) new s .cells) ≡ over gain (s .cells) + total gain new
-    uses-gain = over-rebuild gain everyId (onUses uses f 0 (s .cells)) new s ∙ ap (λ (k : ℕ). k + total gain new) (over-reshape gain (onUses uses f 0 (s .cells)) gain-uses (keepIds everyId (s .cells)) ∙ ap (over gain) (keep-all (s .cells)))
-
-    pub uses-loss : over loss (rebuild everyId (onUses uses f 0 (s .cells)) new s .cells) ≡ over loss (s .cells) + total loss new
-    uses-loss = over-rebuild loss everyId (onUses uses f 0 (s .cells)) new s ∙ ap (λ (k : ℕ). k + total loss new) (over-reshape loss (onUses uses f 0 (s .cells)) loss-uses (keepIds everyId (s .cells)) ∙ ap (over loss) (keep-all (s .cells)))
+    -- sums that only the faces' cycles can change
+    pub uses-over : (g : Figure → ℕ) → ((n : ℕ) (ks : List Cycle) → g (face (counting uses f n ks)) ≡ g (face ks)) → over g (rebuild everyId (onUses uses f 0 (s .cells)) new s .cells) ≡ over g (s .cells) + (N - 1) * g t
+    uses-over g h = over-all g (onUses uses f 0 (s .cells)) same new s ∙ ap (λ (k : ℕ). over g (s .cells) + k) (total-copies g (N - 1) t)
+      where
+        same : (j : ℕ) (u : Figure) → g (onUses uses f 0 (s .cells) j u) ≡ g u
+        same j (vertex p) = refl
+        same j (openEdge a b bs) = refl
+        same j (closedEdge bs) = refl
+        same j (face ks) = h (0 + usesBy uses (earlier j (s .cells))) ks
 
 -- ---- an open edge: every step
 module _ (s : Sheet) (S : Sound s) (e a b : ℕ) (bs : List Position) (at : cellAt s e ≡ some (openEdge a b bs)) where
@@ -255,35 +244,27 @@ module _ (s : Sheet) (S : Sound s) (e : ℕ) (bs : List Position) (at : cellAt s
   closed-unglued seven eight = uses-sound uᶜ fᶜ s S e (closedEdge bs) at cycle-ringed seven eight
 
 -- ---- the command, at an edge
-module _ (i : ℕ) (s : Sheet) (S : Sound s) (p : Passes s (unglue i)) where
-  pub asPart : (o : Option Figure) → cellAt s i ≡ o → result s (unglue i) ≡ rebuild everyId (ungluing s i o) (copies (parts (s .cells) i o) o) s
-  unfolding result unglued
-  asPart o z = ap (λ (x : Option Figure). rebuild everyId (ungluing s i x) (copies (parts (s .cells) i x) x) s) z
+pub asPart : (i : ℕ) (s : Sheet) (o : Option Figure) → cellAt s i ≡ o → result s (unglue i) ≡ rebuild everyId (ungluing s i o) (copies (parts (s .cells) i o) o) s
+unfolding result unglued
+asPart i s o z = ap (λ (x : Option Figure). rebuild everyId (ungluing s i x) (copies (parts (s .cells) i x) x) s) z
 
+module _ (i : ℕ) (s : Sheet) (S : Sound s) (p : Passes s (unglue i)) where
   pub unglue-open-sound : (a b : ℕ) (bs : List Position) → cellAt s i ≡ some (openEdge a b bs) → Sound (result s (unglue i))
-  unglue-open-sound a b bs z = let r = asPart (some (openEdge a b bs)) z in rw r (open-unglued s S i a b bs z (rw r at (p .4)) (rw r at (p .5)))
+  unglue-open-sound a b bs z = let r = asPart i s (some (openEdge a b bs)) z in rw r (open-unglued s S i a b bs z (rw r at (p .4)) (rw r at (p .5)))
 
   pub unglue-closed-sound : (bs : List Position) → cellAt s i ≡ some (closedEdge bs) → Sound (result s (unglue i))
-  unglue-closed-sound bs z = let r = asPart (some (closedEdge bs)) z in rw r (closed-unglued s S i bs z (rw r at (p .4)) (rw r at (p .5)))
+  unglue-closed-sound bs z = let r = asPart i s (some (closedEdge bs)) z in rw r (closed-unglued s S i bs z (rw r at (p .4)) (rw r at (p .5)))
 
   pub unglue-open-balanced : (a b : ℕ) (bs : List Position) → cellAt s i ≡ some (openEdge a b bs) → Balanced s (unglue i)
   unglue-open-balanced a b bs z =
-      let r = asPart (some (openEdge a b bs)) z in
-      let t = openEdge a b bs in
-      let x = uses-gain (stepUse i) (newPath i (s .next)) s S i t z in
-      let y = uses-loss (stepUse i) (newPath i (s .next)) s S i t z in
-      let n = usesBy (stepUse i) (s .cells) - 1 in
-      let g = total-none gain n t refl in
-      let l = total-replicate loss n t refl in
+      let r = asPart i s (some (openEdge a b bs)) z in
+      let x = uses-over (stepUse i) (newPath i (s .next)) s S i (openEdge a b bs) z gain (λ n ks. refl) in
+      let y = uses-over (stepUse i) (newPath i (s .next)) s S i (openEdge a b bs) z loss (length-counting (stepUse i) (newPath i (s .next))) in
       rw (r, z) (omega arith)
 
   pub unglue-closed-balanced : (bs : List Position) → cellAt s i ≡ some (closedEdge bs) → Balanced s (unglue i)
   unglue-closed-balanced bs z =
-      let r = asPart (some (closedEdge bs)) z in
-      let t = closedEdge bs in
-      let x = uses-gain (ringUse i) (newRing i (s .next)) s S i t z in
-      let y = uses-loss (ringUse i) (newRing i (s .next)) s S i t z in
-      let n = usesBy (ringUse i) (s .cells) - 1 in
-      let g = total-none gain n t refl in
-      let l = total-none loss n t refl in
+      let r = asPart i s (some (closedEdge bs)) z in
+      let x = uses-over (ringUse i) (newRing i (s .next)) s S i (closedEdge bs) z gain (λ n ks. refl) in
+      let y = uses-over (ringUse i) (newRing i (s .next)) s S i (closedEdge bs) z loss (length-counting (ringUse i) (newRing i (s .next))) in
       rw (r, z) (omega arith)

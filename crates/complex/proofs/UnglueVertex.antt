@@ -1,5 +1,5 @@
 -- 09 at a vertex: ends that a passage joins get one vertex, so every cycle stays joined. Soundness and shift. Assumes nothing.
-use Prim.Native.Nat.{ℕ, zero, suc, _+_, _-_, _≤_, _<_}
+use Prim.Native.Nat.{ℕ, zero, suc, _+_, _-_, _*_, _≤_, _<_}
 use native.Mathlib.Omega.{arith}
 use mathlib.Core.Path.{_≡_, refl, sym, ap, _∙_, subst}
 use mathlib.Core.Logic.{_⊎_, inl, inr}
@@ -16,7 +16,7 @@ use Rattle.complex.specs.Lists.{all, any, filter, consIf, total, one}
 use Rattle.complex.specs.Cells.{Halfedge, Cycle, lone, path, Figure, vertex, openEdge, closedEdge, face, LiveCell, Sheet, Look, someIf, lookup, isVertex, isOpen, isClosed, startOf, endOf, cyclesOf, stepsOf, along, against, flipped, same, tailOf, headOf, cellAt, isVertexOrEdge}
 use Rattle.complex.specs.Sound.{Walk, idsEnd, leads, cycleOk, figureOk, ceilings, joins, over}
 use Rattle.complex.specs.Decode.{Command, unglue}
-use Rattle.complex.specs.Edits.{keepIds, numbered, rebuild, everyId}
+use Rattle.complex.specs.Edits.{numbered, rebuild, everyId}
 use Rattle.complex.specs.Uses.{figureEnds, endsAt, Passage, passage, passagesFrom, passages, allCycles, passagesAt, isIn, touches, joinGroups, joinAll, groups, groupOf, loneUse, usesBy, earlier, counting, onUses}
 use Rattle.complex.specs.Unglue.{copyOf, copies, newLone, newEnd, newEnds, parts, ungluing, unglued}
 use Rattle.complex.specs.Commands.{question4, question6, result}
@@ -25,8 +25,9 @@ use Rattle.complex.proofs.Bools.{truth, true-of, either, both, pair, ca
 use Rattle.complex.proofs.Walks.{walk-of, Round, Ring, Some, joins-cases, round-joins, ring-joins}
 use Rattle.complex.proofs.Keep.{Sound, Look′, rebuild-sound, same-eq, same-refl}
 use Rattle.complex.proofs.Adds.{stays-at, new-at, Passes}
-use Rattle.complex.proofs.Unglue.{asPart, unglue-open-sound, unglue-closed-sound, unglue-open-balanced, unglue-closed-balanced, uses-within, total-replicate, total-none, lookup-copies, length-counting}
-use Rattle.complex.proofs.Euler.{over-rebuild, over-reshape, keep-all, Balanced}
+use Rattle.complex.proofs.Unglue.{asPart, unglue-open-sound, unglue-closed-sound, unglue-open-balanced, unglue-closed-balanced, uses-within, lookup-copies, length-counting}
+use Rattle.complex.proofs.Sums.{total-copies}
+use Rattle.complex.proofs.Euler.{over-all, Balanced}
 
 -- ---- groups: what is together stays together
 abbrev pub Groups : Type 0
@@ -530,15 +531,11 @@ module _ (s : Sheet) (S : Sound s) (v : ℕ) (p : Position) (at : cellAt s v ≡
   loss-ends j (closedEdge bs) = refl
   loss-ends j (face ks) = length-counting uᵛ (newLone v (s .next)) (length gs + usesBy uᵛ (earlier j (s .cells))) ks
 
+  pub ends-over : (g : Figure → ℕ) → ((j : ℕ) (t : Figure) → g (fᵛ j t) ≡ g t) → over g (rebuild everyId fᵛ new s .cells) ≡ over g (s .cells) + (N - 1) * g (vertex p)
+  ends-over g same = over-all g fᵛ same new s ∙ ap (λ (k : ℕ). over g (s .cells) + k) (total-copies g (N - 1) (vertex p))
+
   pub vertex-unglued-over : (over gain (rebuild everyId fᵛ new s .cells) ≡ over gain (s .cells) + (N - 1)) × (over loss (rebuild everyId fᵛ new s .cells) ≡ over loss (s .cells) + 0)
-  vertex-unglued-over =
-      let a = over-rebuild gain everyId fᵛ new s in
-      let b = over-rebuild loss everyId fᵛ new s in
-      let c = over-reshape gain fᵛ gain-ends (keepIds everyId (s .cells)) ∙ ap (over gain) (keep-all (s .cells)) in
-      let d = over-reshape loss fᵛ loss-ends (keepIds everyId (s .cells)) ∙ ap (over loss) (keep-all (s .cells)) in
-      let e = total-replicate gain (N - 1) (vertex p) refl in
-      let f = total-none loss (N - 1) (vertex p) refl in
-      (omega arith, omega arith)
+  vertex-unglued-over = let a = ends-over gain gain-ends in let b = ends-over loss loss-ends in (omega arith, omega arith)
 
 -- ---- the command
 module _ (i : ℕ) (s : Sheet) (S : Sound s) (q : Passes s (unglue i)) where
@@ -548,7 +545,7 @@ module _ (i : ℕ) (s : Sheet) (S : Sound s) (q : Passes s (unglue i)) where
     where
       go : (o : Option Figure) → cellAt s i ≡ o → Sound (result s (unglue i))
       go none z = absurd (subst (λ (o : Option Figure). T (isVertexOrEdge o)) z (q .1))
-      go (some (vertex p)) z = let r = asPart i s S q (some (vertex p)) z in rw r (vertex-unglued s S i p z (rw r at (q .4)) (rw r at (q .5)))
+      go (some (vertex p)) z = let r = asPart i s (some (vertex p)) z in rw r (vertex-unglued s S i p z (rw r at (q .4)) (rw r at (q .5)))
       go (some (openEdge a b bs)) z = unglue-open-sound i s S q a b bs z
       go (some (closedEdge bs)) z = unglue-closed-sound i s S q bs z
       go (some (face ks)) z = absurd (subst (λ (o : Option Figure). T (isVertexOrEdge o)) z (q .1))
@@ -560,7 +557,7 @@ module _ (i : ℕ) (s : Sheet) (S : Sound s) (q : Passes s (unglue i)) where
       go : (o : Option Figure) → cellAt s i ≡ o → Balanced s (unglue i)
       go none z = absurd (subst (λ (o : Option Figure). T (isVertexOrEdge o)) z (q .1))
       go (some (vertex p)) z =
-          let r = asPart i s S q (some (vertex p)) z in
+          let r = asPart i s (some (vertex p)) z in
           let w = vertex-unglued-over s S i p z in
           let x = w .0 in
           let y = w .1 in
