@@ -1,0 +1,63 @@
+-- Bends put after those in use, and an edge that has them. Assumes nothing.
+use Prim.Native.Nat.{ℕ, zero, suc, _+_, _*_, _<_}
+use mathlib.Core.Path.{_≡_, ap, ap₂, sym, subst, _∙_}
+use mathlib.Core.List.{List, [], _++_}
+use native.Mathlib.Omega.{arith}
+use native.Mathlib.Numerals.{add-one}
+use lib.ListN.{length, take, set, getD}
+use lib.Seq.{paste, paste-suc, length-paste, take-paste, take-length}
+use Rattle.coordinate.specs.declared.Position.{Position}
+use Rattle.coordinate.specs.Positions.{positionAt}
+use Rattle.bends.specs.Bends.{positionsAt}
+use Rattle.store.specs.declared.Shape.{Shape}
+use Rattle.store.specs.declared.Drawing.{Drawing}
+use Rattle.store.specs.Sizes.{Sizes}
+use Rattle.complex.specs.Cells.{Figure}
+use Rattle.complex.specs.Sound.{idsEnd}
+use Rattle.store.specs.View.{sheetOf, Fits, bendTotal}
+use Rattle.store.specs.Places.{shapeOf, cyclesIn, bendsIn}
+use Rattle.store.specs.Edits.{appended, withBends}
+use Rattle.store.proofs.Grow.{append-edge}
+use Rattle.append.specs.Appends.{Room, withCell, withMoreBends}
+
+-- a turn of the loop that copies bends
+pub bends-more : (d res : Drawing) (at i : ℕ) (s : List Position) (v z : Position) → res ≡ withBends d (paste (d .bends) at s i)
+    → at + i < length (d .bends) → i < length s → v ≡ getD s i z
+    → withBends res (set (res .bends) (at + i) v) ≡ withBends d (paste (d .bends) at s (i + 1))
+bends-more d res at i s v z e h k g =
+    ap (λ (q : Drawing). withBends q (set (q .bends) (at + i) v)) e
+    ∙ ap (withBends d) (ap (set (paste (d .bends) at s i) (at + i)) g ∙ paste-suc (d .bends) at s i z h k ∙ ap (paste (d .bends) at s) (sym (add-one i)))
+
+-- the loop's end
+pub bends-done : (d res : Drawing) (at i n : ℕ) (s : List Position) → res ≡ withBends d (paste (d .bends) at s i) → at ≡ bendTotal d → n ≡ length s → i ≡ n
+    → res ≡ withMoreBends d s
+bends-done d res at i n s e p q f = e ∙ ap₂ (λ (a m : ℕ). withBends d (paste (d .bends) a s m)) p (f ∙ q)
+
+-- r is d with one cell more
+abbrev pub Grew : Drawing → Figure → Drawing → Type 0
+Grew d x r = (sheetOf r ≡ appended (sheetOf d) x) × Fits r
+
+-- an edge's bends, and then its cell
+pub edge-grown : (d : Drawing) → Sizes d → (x : Figure) → Room d x → cyclesIn x ≡ [] → (q r : Drawing) (s : Shape) → q ≡ withMoreBends d (bendsIn x) → s ≡ shapeOf x → r ≡ withCell q s
+    → Grew d x r
+edge-grown d z x h e q r s p t f =
+    let bs = bendsIn x in
+    let b = h .bends in
+    let l = z .bends in
+    subst (Grew d x) (sym (f ∙ ap₂ withCell p t))
+    (append-edge d z (h .fits) (h .cells) x (paste (d .bends) (bendTotal d) bs (length bs)) e
+    (length-paste (d .bends) (bendTotal d) bs (length bs) (omega arith) (omega arith) ∙ z .bends)
+    b
+    (take-paste (d .bends) (bendTotal d) bs (length bs) (omega arith) (omega arith) ∙ ap (λ (k : List Position). take (bendTotal d) (d .bends) ++ k) (take-length bs)))
+
+-- the room for the cell is as it was
+pub cell-room : (d q : Drawing) (bs : List Position) → q ≡ withMoreBends d bs → d .count < 256 → d .next < idsEnd → (q .count < 256) × (q .next < idsEnd)
+cell-room d q bs e h g = subst (λ (r : Drawing). (r .count < 256) × (r .next < idsEnd)) (sym e) (h, g)
+
+-- the k-th of the positions in bytes
+pub positions-get : (s : List ℕ) (at n k : ℕ) (z : Position) → k < n → getD (positionsAt s at n) k z ≡ positionAt s (at + 16 * k)
+positions-get s at zero k z h = absurd (omega arith)
+positions-get s at (suc n) zero z h = let e : at ≡ at + 16 * 0 = omega arith in ap (positionAt s) e
+positions-get s at (suc n) (suc k) z h =
+    let e : at + 16 + 16 * k ≡ at + 16 * suc k = omega arith in
+    positions-get s (at + 16) n k z (omega arith) ∙ ap (positionAt s) e

@@ -1,0 +1,7 @@
+pub mod RunLists
+pub mod Bends
+pub mod Faces
+pub mod Appended
+pub mod Rooms
+pub mod CopyLists
+pub mod Copied

@@ -1,0 +1,4 @@
+pub mod Appends
+pub mod Runs
+pub mod Copies
+pub mod Requirements

@@ -1,0 +1,364 @@
+ghost use mathlib.Core.Path.{_≡_};
+ghost use Prim.Native.Nat.{_+_, _*_, _<_, _≤_};
+ghost use lib.ListN.{take, length, replicate};
+ghost use lib.Seq.{paste};
+ghost use Rattle.complex.specs.Cells.{vertex, openEdge, closedEdge, face};
+ghost use Rattle.complex.specs.Sound.{idsEnd};
+ghost use Rattle.bends.specs.Bends.{positionsAt};
+ghost use Rattle.store.specs.View.{sheetOf, Fits, cyclesOf, widthSum, cycleTotal, stepTotal, bendTotal, bendSum};
+ghost use Rattle.store.specs.Edits.{appended};
+ghost use Rattle.append.specs.Appends.{Room, appendedAll, figureAt, withCell, withMoreBends, withMoreCycles};
+ghost use Rattle.append.specs.Runs.{run, runsOf, InRange, beforeSecond, runsLength, inRun, runPlace, runBend};
+ghost use Rattle.append.specs.Copies.{repeated, withCopies};
+ghost use Rattle.append.specs.Requirements.{RunsRoom, BytesRoom, FaceRoom, CopiesRoom};
+use coordinate::Position;
+use store::Cell;
+use store::Drawing;
+use store::Shape;
+
+// Bends of a drawing: `count` places from `first` on, then the position `at` if `middle`, then `count2` places from
+// `first2` on; a run is taken back to front if it is turned.
+pub struct Runs {
+    pub first: usize,
+    pub count: usize,
+    pub turned: bool,
+    pub middle: bool,
+    pub at: Position,
+    pub first2: usize,
+    pub count2: usize,
+    pub turned2: bool,
+}
+
+pub fn append_vertex(d: Drawing, p: Position) -> Drawing
+    requires { ⌜ Room d (vertex p) ⌝ }
+    ensures { λ r. ⌜ sheetOf r ≡ appended (sheetOf d) (vertex p) ⌝ }
+    ensures { λ r. ⌜ Fits r ⌝ }
+{
+    let mut out = d;
+    let n = d.count;
+    let id = d.next;
+    let c = Cell {
+        id: id,
+        shape: Shape::Vertex(p),
+    };
+    out.cells[n] = c;
+    out.count = n + 1;
+    out.next = id + 1;
+    out
+}
+
+// A cell of this shape at the next id, its places being filled already.
+fn put_cell(d: Drawing, s: Shape) -> Drawing
+    requires { ⌜ d .count < 256 ⌝ }
+    requires { ⌜ d .next < idsEnd ⌝ }
+    ensures { λ r. ⌜ r ≡ withCell d s ⌝ }
+{
+    let mut out = d;
+    let n = d.count;
+    let id = d.next;
+    let c = Cell { id: id, shape: s };
+    out.cells[n] = c;
+    out.count = n + 1;
+    out.next = id + 1;
+    out
+}
+
+// The place of the k-th of n bends from `first` on.
+fn in_run(turned: bool, first: usize, n: usize, k: usize) -> usize
+    requires { ⌜ k < n ⌝ }
+    requires { ⌜ first + n ≤ 2048 ⌝ }
+    ensures { λ r. ⌜ r ≡ inRun turned first n k ⌝ }
+{
+    if turned {
+        return first + (n - 1 - k);
+    }
+    first + k
+}
+
+fn before_second(r: Runs) -> usize
+    requires { ⌜ InRange r ⌝ }
+    ensures { λ n. ⌜ n ≡ beforeSecond r ⌝ }
+{
+    let n = r.count;
+    if r.middle {
+        return n + 1;
+    }
+    n
+}
+
+fn runs_length(r: Runs) -> usize
+    requires { ⌜ InRange r ⌝ }
+    ensures { λ n. ⌜ n ≡ runsLength r ⌝ }
+{
+    let n = before_second(r);
+    n + r.count2
+}
+
+fn run_place(r: Runs, k: usize) -> usize
+    requires { ⌜ InRange r ⌝ }
+    requires { ⌜ k < runsLength r ⌝ }
+    ensures { λ i. ⌜ i ≡ runPlace r k ⌝ }
+{
+    let n = r.count;
+    if k < n {
+        return in_run(r.turned, r.first, n, k);
+    }
+    let m = before_second(r);
+    if k < m {
+        return 0;
+    }
+    in_run(r.turned2, r.first2, r.count2, k - m)
+}
+
+fn run_bend(r: Runs, k: usize, p: Position) -> Position
+    ensures { λ q. ⌜ q ≡ runBend r k p ⌝ }
+{
+    let n = r.count;
+    if !r.middle {
+        return p;
+    }
+    if k == n {
+        let q = r.at;
+        return q;
+    }
+    p
+}
+
+// The runs of src's bends, put after the bends of d.
+fn fill_runs(d: Drawing, src: Drawing, r: Runs) -> Drawing
+    requires { ⌜ Fits d ⌝ }
+    requires { ⌜ InRange r ⌝ }
+    requires { ⌜ bendTotal d + length (runsOf (src .bends) r) ≤ 2048 ⌝ }
+    ensures { λ q. ⌜ q ≡ withMoreBends d (runsOf (src .bends) r) ⌝ }
+{
+    let base = store::bend_total(d);
+    let n = runs_length(r);
+    let mut out = d;
+    let mut k: usize = 0;
+    while k < n {
+        let i = run_place(r, k);
+        let p = src.bends[i];
+        let q = run_bend(r, k, p);
+        out.bends[base + k] = q;
+        k = k + 1;
+    }
+    out
+}
+
+// A new open edge, its bends taken from src.
+pub fn append_open(d: Drawing, src: Drawing, start: u32, end: u32, r: Runs) -> Drawing
+    requires { ⌜ RunsRoom d r (openEdge start end (runsOf (src .bends) r)) ⌝ }
+    ensures { λ q. ⌜ sheetOf q ≡ appended (sheetOf d) (openEdge start end (runsOf (src .bends) r)) ⌝ }
+    ensures { λ q. ⌜ Fits q ⌝ }
+{
+    let n = runs_length(r);
+    let out = fill_runs(d, src, r);
+    let s = Shape::Open {
+        start: start,
+        end: end,
+        bends: n as u32,
+    };
+    put_cell(out, s)
+}
+
+pub fn append_closed(d: Drawing, src: Drawing, r: Runs) -> Drawing
+    requires { ⌜ RunsRoom d r (closedEdge (runsOf (src .bends) r)) ⌝ }
+    ensures { λ q. ⌜ sheetOf q ≡ appended (sheetOf d) (closedEdge (runsOf (src .bends) r)) ⌝ }
+    ensures { λ q. ⌜ Fits q ⌝ }
+{
+    let n = runs_length(r);
+    let out = fill_runs(d, src, r);
+    let s = Shape::Closed { bends: n as u32 };
+    put_cell(out, s)
+}
+
+// The bends in a script, put after the bends of d.
+fn fill_read(d: Drawing, script: &[u8], first: usize, count: u32) -> Drawing
+    requires { ⌜ Fits d ⌝ }
+    requires { ⌜ first + 16 * count ≤ length (now script) ⌝ }
+    requires { ⌜ bendTotal d + count ≤ 2048 ⌝ }
+    ensures { λ r. ⌜ r ≡ withMoreBends d (positionsAt (now (script .entry)) first count) ⌝ }
+{
+    let base = store::bend_total(d);
+    let n = store::wide(count);
+    let mut out = d;
+    let mut k: usize = 0;
+    while k < n {
+        let p = coordinate::position_at(script, first + 16 * k);
+        out.bends[base + k] = p;
+        k = k + 1;
+    }
+    out
+}
+
+// A new open edge, its bends read from a script.
+pub fn append_open_read(
+    d: Drawing,
+    start: u32,
+    end: u32,
+    script: &[u8],
+    first: usize,
+    count: u32,
+) -> Drawing
+    requires { ⌜ BytesRoom d (now script) first count (openEdge start end (positionsAt (now script) first count)) ⌝ }
+    ensures { λ r. ⌜ sheetOf r ≡ appended (sheetOf d) (openEdge start end (positionsAt (now (script .entry)) first count)) ⌝ }
+    ensures { λ r. ⌜ Fits r ⌝ }
+{
+    let out = fill_read(d, script, first, count);
+    let s = Shape::Open {
+        start: start,
+        end: end,
+        bends: count,
+    };
+    put_cell(out, s)
+}
+
+pub fn append_closed_read(d: Drawing, script: &[u8], first: usize, count: u32) -> Drawing
+    requires { ⌜ BytesRoom d (now script) first count (closedEdge (positionsAt (now script) first count)) ⌝ }
+    ensures { λ r. ⌜ sheetOf r ≡ appended (sheetOf d) (closedEdge (positionsAt (now (script .entry)) first count)) ⌝ }
+    ensures { λ r. ⌜ Fits r ⌝ }
+{
+    let out = fill_read(d, script, first, count);
+    let s = Shape::Closed { bends: count };
+    put_cell(out, s)
+}
+
+// The first n numbers of `from`, put into `out` at a place.
+pub fn copy_numbers(from: &[u32], n: usize, out: &mut [u32], at: usize)
+    requires { ⌜ n ≤ length (now from) ⌝ }
+    requires { ⌜ at + n ≤ length (now out) ⌝ }
+    ensures { λ _. ⌜ now (out .exit) ≡ paste (now (out .entry)) at (now (from .entry)) n ⌝ }
+{
+    let mut i: usize = 0;
+    while i < n {
+        out[at + i] = from[i];
+        i = i + 1;
+    }
+}
+
+// The places of `steps` that the first n cycles take.
+pub fn step_total(cycles: &[u32; 512], n: usize) -> usize
+    requires { ⌜ n ≤ 512 ⌝ }
+    requires { ⌜ length (now cycles) ≡ 512 ⌝ }
+    requires { ⌜ widthSum (take n (now cycles)) ≤ 2048 ⌝ }
+    ensures { λ r. ⌜ r ≡ widthSum (take n (now (cycles .entry))) ⌝ }
+{
+    let mut sum: usize = 0;
+    let mut i: usize = 0;
+    while i < n {
+        let k = store::places(1, cycles[i]);
+        sum = sum + k;
+        i = i + 1;
+    }
+    sum
+}
+
+// The cycles in lent arrays, put after the cycles and the steps of d.
+fn fill_cycles(d: Drawing, counts: &[u32; 512], n: usize, steps: &[u32; 2048], m: usize) -> Drawing
+    requires { ⌜ Fits d ⌝ }
+    requires { ⌜ length (now counts) ≡ 512 ⌝ }
+    requires { ⌜ length (now steps) ≡ 2048 ⌝ }
+    requires { ⌜ cycleTotal d + n ≤ 512 ⌝ }
+    requires { ⌜ stepTotal d + m ≤ 2048 ⌝ }
+    ensures { λ r. ⌜ r ≡ withMoreCycles d (take n (now (counts .entry))) (take m (now (steps .entry))) ⌝ }
+{
+    let a = store::cycle_total(d);
+    let mut cy = d.cycles;
+    let mut st = d.steps;
+    let b = step_total(&cy, a);
+    copy_numbers(counts, n, &mut cy, a);
+    copy_numbers(steps, m, &mut st, b);
+    let mut out = d;
+    out.cycles = cy;
+    out.steps = st;
+    out
+}
+
+// A new face: n cycles, whose steps take m places.
+pub fn append_face(
+    d: Drawing,
+    counts: &[u32; 512],
+    n: usize,
+    steps: &[u32; 2048],
+    m: usize,
+) -> Drawing
+    requires { ⌜ FaceRoom d (now counts) n (now steps) m ⌝ }
+    ensures { λ r. ⌜ sheetOf r ≡ appended (sheetOf d) (face (cyclesOf (take n (now (counts .entry))) (now (steps .entry)))) ⌝ }
+    ensures { λ r. ⌜ Fits r ⌝ }
+{
+    let out = fill_cycles(d, counts, n, steps, m);
+    let s = Shape::Face { cycles: n as u32 };
+    put_cell(out, s)
+}
+
+// The places of `bends` that the cells before a row take.
+pub fn bends_before(d: Drawing, row: usize) -> usize
+    requires { ⌜ Fits d ⌝ }
+    requires { ⌜ row ≤ d .count ⌝ }
+    ensures { λ r. ⌜ r ≡ bendSum (take row (d .cells)) ⌝ }
+{
+    let mut sum: usize = 0;
+    let mut i: usize = 0;
+    while i < row {
+        let c = d.cells[i];
+        let s = c.shape;
+        let k = store::wide(store::bend_count(s));
+        sum = sum + k;
+        i = i + 1;
+    }
+    sum
+}
+
+// The k bends from `first` on, put n times after the bends of d.
+fn fill_copies(d: Drawing, first: usize, k: usize, n: usize) -> Drawing
+    requires { ⌜ Fits d ⌝ }
+    requires { ⌜ first + k ≤ 2048 ⌝ }
+    requires { ⌜ bendTotal d + n * k ≤ 2048 ⌝ }
+    ensures { λ r. ⌜ r ≡ withMoreBends d (repeated n (run first k (d .bends))) ⌝ }
+{
+    let base = store::bend_total(d);
+    let t = n * k;
+    let mut out = d;
+    let mut j: usize = 0;
+    while j < t {
+        let p = d.bends[first + j % k];
+        out.bends[base + j] = p;
+        j = j + 1;
+    }
+    out
+}
+
+// Cells of one shape at the next n ids, their places being filled already.
+fn put_copies(d: Drawing, s: Shape, n: usize) -> Drawing
+    requires { ⌜ d .count + n ≤ 256 ⌝ }
+    requires { ⌜ d .next + n ≤ idsEnd ⌝ }
+    ensures { λ r. ⌜ r ≡ withCopies d s n ⌝ }
+{
+    let mut out = d;
+    let base = d.count;
+    let mut id = d.next;
+    let mut i: usize = 0;
+    while i < n {
+        let c = Cell { id: id, shape: s };
+        out.cells[base + i] = c;
+        id = id + 1;
+        i = i + 1;
+    }
+    out.count = base + n;
+    out.next = id;
+    out
+}
+
+// New copies of the vertex or edge in a row.
+pub fn append_copies(d: Drawing, row: usize, n: usize) -> Drawing
+    requires { ⌜ CopiesRoom d row n ⌝ }
+    ensures { λ r. ⌜ sheetOf r ≡ appendedAll (replicate n (figureAt (sheetOf d) row)) (sheetOf d) ⌝ }
+    ensures { λ r. ⌜ Fits r ⌝ }
+{
+    let c = d.cells[row];
+    let s = c.shape;
+    let k = store::wide(store::bend_count(s));
+    let first = bends_before(d, row);
+    let out = fill_copies(d, first, k, n);
+    put_copies(out, s, n)
+}

@@ -1,0 +1,34 @@
+-- What decoding says to its callers. Assumes nothing.
+use mathlib.Core.Path.{_≡_, sym, ap, _∙_, subst}
+use mathlib.Core.List.{List}
+use Prim.Native.Nat.{ℕ, _≤_, _<_}
+use native.Mathlib.Omega.{arith}
+use lib.ListN.{length, drop}
+use Rattle.number.specs.Readers.{Read, got, bad}
+use Rattle.number.proofs.Counted.{times-length}
+use Rattle.complex.specs.Decode.{decode}
+use Rattle.command.specs.Lists.{thingsRead, Stand}
+use Rattle.command.specs.declared.Command.{Command}
+use Rattle.command.specs.declared.Decoded.{Decoded}
+use Rattle.command.specs.declared.Decoded.the-variants.{Whole, Malformed}
+use Rattle.command.specs.View.{commandOf, decodedAs, Lies, Ended, Ends}
+
+-- a script begins with the command c, which ends at `next`
+pub record Begins (s : List ℕ) (c : Command) (next : ℕ) : Type 0 where
+  pub read : decode s ≡ got (commandOf s c) (drop next s)
+  pub some : 0 < next
+  pub fits : next ≤ length s
+  pub lists : Lies s c
+
+pub begins : {s : List ℕ} {r : Decoded} {c : Command} {next : ℕ} → decodedAs s r ≡ decode s → Ends s 1 r → r ≡ Whole c next → Begins s c next
+begins {s} {c = c} {next = next} d e f =
+    let h : Ended s 1 c next = subst (Ends s 1) f e in
+    let a = h .after in
+    record { read = sym d ∙ ap (decodedAs s) f; some = omega arith; fits = h .fits; lists = h .lists }
+
+pub unread : (s : List ℕ) {r : Decoded} → decodedAs s r ≡ decode s → r ≡ Malformed → decode s ≡ bad
+unread s d f = sym d ∙ ap (decodedAs s) f
+
+-- as many things as were counted
+pub stand-length : {A : Type 0} (r : List ℕ → Read A) (s : List ℕ) (at n : ℕ) → Stand r s at n → length (thingsRead r s at n) ≡ n
+stand-length r s at n h = times-length r n (drop at s) (drop (h .end) s) (thingsRead r s at n) (h .reach .read)

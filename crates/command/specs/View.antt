@@ -1,0 +1,67 @@
+-- What a decoded command says, read with the script that its lists stay in. Definitions only.
+use Prim.Native.Nat.{ℕ, _+_, _*_, _≤_}
+use mathlib.Core.Path.{_≡_}
+use mathlib.Core.List.{List}
+use lib.ListN.{length, drop}
+use Rattle.number.specs.Readers.{Read, got, bad}
+use Rattle.number.specs.Numbers.{readNumber}
+use Rattle.bends.specs.Bends.{positionsAt}
+use Rattle.complex.specs.Cells.{vertex, openEdge, closedEdge, face}
+use Rattle.complex.specs.Decode as bytes
+use Rattle.command.specs.Lists.{Stand, numbersRead, cyclesRead}
+use Rattle.command.specs.declared.Command.{Command}
+use Rattle.command.specs.declared.Command.the-variants.{Vertex, Open, Closed, Face, Move, Delete, GlueVertices, GlueEdges, Unglue, CutEdge, CutFaceVertex, CutFaceOpen, CutFaceClosed, Uncut}
+use Rattle.command.specs.declared.Decoded.{Decoded}
+use Rattle.command.specs.declared.Decoded.the-variants.{Whole, Malformed}
+
+abbrev pub commandOf : List ℕ → Command → bytes.Command
+commandOf s (Vertex x y) = bytes.create (vertex (record { x = x; y = y }))
+commandOf s (Open a b n first) = bytes.create (openEdge a b (positionsAt s first n))
+commandOf s (Closed n first) = bytes.create (closedEdge (positionsAt s first n))
+commandOf s (Face k first) = bytes.create (face (cyclesRead s first k))
+commandOf s (Move v x y) = bytes.move v (record { x = x; y = y })
+commandOf s (Delete i) = bytes.delete i
+commandOf s (GlueVertices a b) = bytes.glueVertices a b
+commandOf s (GlueEdges a b f) = bytes.glueEdges a b f
+commandOf s (Unglue i) = bytes.unglue i
+commandOf s (CutEdge e q) = bytes.cutEdge e q
+commandOf s (CutFaceVertex f x y) = bytes.cutFaceVertex f (record { x = x; y = y })
+commandOf s (CutFaceOpen f c1 s1 c2 s2 n first m place) = bytes.cutFaceOpen f c1 s1 c2 s2 (positionsAt s first n) (numbersRead s place m)
+commandOf s (CutFaceClosed f n first m place) = bytes.cutFaceClosed f (positionsAt s first n) (numbersRead s place m)
+commandOf s (Uncut i) = bytes.uncut i
+
+abbrev pub decodedAs : List ℕ → Decoded → Read bytes.Command
+decodedAs s (Whole c next) = got (commandOf s c) (drop next s)
+decodedAs s Malformed = bad
+
+-- the lists of a command lie in the script
+abbrev pub Lies : List ℕ → Command → Type 0
+Lies s (Vertex x y) = Unit {0}
+Lies s (Open a b n first) = first + 16 * n ≤ length s
+Lies s (Closed n first) = first + 16 * n ≤ length s
+Lies s (Face k first) = Stand bytes.readCycle s first k
+Lies s (Move v x y) = Unit {0}
+Lies s (Delete i) = Unit {0}
+Lies s (GlueVertices a b) = Unit {0}
+Lies s (GlueEdges a b f) = Unit {0}
+Lies s (Unglue i) = Unit {0}
+Lies s (CutEdge e q) = Unit {0}
+Lies s (CutFaceVertex f x y) = Unit {0}
+Lies s (CutFaceOpen f c1 s1 c2 s2 n first m place) = (first + 16 * n ≤ length s) × Stand readNumber s place m
+Lies s (CutFaceClosed f n first m place) = (first + 16 * n ≤ length s) × Stand readNumber s place m
+Lies s (Uncut i) = Unit {0}
+
+-- a command whose fields begin at `at` ends at `next`
+pub record Ended (s : List ℕ) (at : ℕ) (c : Command) (next : ℕ) : Type 0 where
+  pub after : at ≤ next
+  pub fits : next ≤ length s
+  pub lists : Lies s c
+
+abbrev pub Ends : List ℕ → ℕ → Decoded → Type 0
+Ends s at (Whole c next) = Ended s at c next
+Ends s at Malformed = Unit {0}
+
+-- r is what is read from `at` on
+pub record Decodes (s : List ℕ) (at : ℕ) (read : Read bytes.Command) (r : Decoded) : Type 0 where
+  pub answer : decodedAs s r ≡ read
+  pub ends : Ends s at r

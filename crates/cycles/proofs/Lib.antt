@@ -1,0 +1,3 @@
+pub mod Splicing
+pub mod Replaced
+pub mod Building

@@ -1,0 +1,4 @@
+pub mod Marking
+pub mod Counting
+pub mod Meaning
+pub mod Answers

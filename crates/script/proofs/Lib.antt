@@ -1,0 +1,4 @@
+pub mod Steps
+pub mod Moved
+pub mod Cycles
+pub mod Loads

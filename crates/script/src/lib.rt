@@ -1,0 +1,183 @@
+// Walks along the lists that a command leaves in its script: the moved cycles of a cut, and the
+// cycles of a face.
+ghost use mathlib.Core.Path.{_≡_};
+ghost use mathlib.Core.Bool.{true};
+ghost use Prim.Native.Nat.{_+_, _≤_, min};
+ghost use lib.ListN.{length};
+ghost use Rattle.number.specs.Numbers.{readNumber};
+ghost use Rattle.complex.specs.Lists.{total, holds, places};
+ghost use Rattle.complex.specs.Sound.{stepCount};
+ghost use Rattle.complex.specs.Decode.{readCycle};
+ghost use Rattle.store.specs.Pools.{Held};
+ghost use Rattle.command.specs.Lists.{numbersRead, cyclesRead, Stand};
+ghost use Rattle.script.specs.Walks.{below, Marks, Copied, Room, Loaded};
+use command::Skip;
+use number::Number;
+
+// ---- moved cycles
+
+// Whether they rise strictly, from 0 on and below a limit.
+pub fn moved_rise(script: &[u8], place: usize, count: u32, limit: u32) -> bool
+    requires { ⌜ Stand readNumber (now script) place count ⌝ }
+    ensures { λ r. ⌜ r ≡ places 0 (numbersRead (now (script .entry)) place count) limit ⌝ }
+{
+    let mut at = place;
+    let mut left = count;
+    let mut least: u32 = 0;
+    while 0 < left {
+        let Number::Value(cycle, next) = number::read_number(script, at) else {
+            return false;
+        };
+        if cycle < least {
+            return false;
+        }
+        if limit <= cycle {
+            return false;
+        }
+        least = cycle + 1;
+        at = next;
+        left -= 1;
+    }
+    true
+}
+
+pub fn moved_has(script: &[u8], place: usize, count: u32, cycle: u32) -> bool
+    requires { ⌜ Stand readNumber (now script) place count ⌝ }
+    ensures { λ r. ⌜ r ≡ holds cycle (numbersRead (now (script .entry)) place count) ⌝ }
+{
+    let mut at = place;
+    let mut left = count;
+    while 0 < left {
+        let Number::Value(other, next) = number::read_number(script, at) else {
+            return false;
+        };
+        if cycle == other {
+            return true;
+        }
+        at = next;
+        left -= 1;
+    }
+    false
+}
+
+// A flag for each cycle of a face.
+pub fn mark_moved(script: &[u8], place: usize, count: u32, flags: &mut [bool; 512])
+    requires { ⌜ Stand readNumber (now script) place count ⌝ }
+    requires { ⌜ below 512 (numbersRead (now script) place count) ≡ true ⌝ }
+    ensures { λ _. ⌜ Marks (numbersRead (now (script .entry)) place count) (now (flags .exit)) ⌝ }
+{
+    *flags = [false; 512];
+    let mut at = place;
+    let mut left = count;
+    while 0 < left {
+        let Number::Value(cycle, next) = number::read_number(script, at) else {
+            return;
+        };
+        let i = store::wide(cycle);
+        flags[i] = true;
+        at = next;
+        left -= 1;
+    }
+}
+
+// ---- the cycles of a face
+
+// How many steps they have together, a lone vertex counting as one; max + 1 if there are more than
+// max.
+pub fn count_cycle_steps(script: &[u8], first: usize, count: u32, max: u32) -> usize
+    requires { ⌜ Stand readCycle (now script) first count ⌝ }
+    ensures { λ r. ⌜ r ≡ min (max + 1) (total stepCount (cyclesRead (now (script .entry)) first count)) ⌝ }
+{
+    let most = store::wide(max);
+    let mut at = first;
+    let mut left = count;
+    let mut sum: usize = 0;
+    while 0 < left {
+        let Number::Value(m, _) = number::read_number(script, at) else {
+            return 0;
+        };
+        let n = store::places(1, m);
+        if most - sum < n {
+            return most + 1;
+        }
+        let Skip::To(next) = command::skip_cycle(script, at) else {
+            return 0;
+        };
+        sum = sum + n;
+        at = next;
+        left -= 1;
+    }
+    sum
+}
+
+// Numbers go from a place of the script to a place of an array; the place after them comes back.
+fn copy_numbers(script: &[u8], at: usize, count: usize, out: &mut [u32; 2048], to: usize) -> usize
+    requires { ⌜ Stand readNumber (now script) at count ⌝ }
+    requires { ⌜ to + count ≤ 2048 ⌝ }
+    requires { ⌜ length (now out) ≡ 2048 ⌝ }
+    ensures { λ r. ⌜ Copied (now (script .entry)) at count to (now (out .entry)) (now (out .exit)) r ⌝ }
+{
+    let mut place = at;
+    let mut left = count;
+    let mut row = to;
+    while 0 < left {
+        let Number::Value(n, next) = number::read_number(script, place) else {
+            return place;
+        };
+        out[row] = n;
+        row = row + 1;
+        place = next;
+        left = left - 1;
+    }
+    place
+}
+
+// A cycle's length goes to row i of `counts`, its places to `steps` from `used` on.
+fn load_cycle(
+    script: &[u8],
+    at: usize,
+    counts: &mut [u32; 512],
+    i: usize,
+    steps: &mut [u32; 2048],
+    used: usize,
+) -> usize
+    requires { ⌜ Room (now script) at 1 (now counts) i (now steps) used ⌝ }
+    requires { ⌜ length (now counts) ≡ 512 ⌝ }
+    requires { ⌜ length (now steps) ≡ 2048 ⌝ }
+    ensures { λ r. ⌜ Loaded (now (script .entry)) at (now (counts .entry)) i (now (steps .entry)) used (now (counts .exit)) (now (steps .exit)) r ⌝ }
+{
+    let Number::Value(m, first) = number::read_number(script, at) else {
+        return at;
+    };
+    counts[i] = m;
+    let n = store::places(1, m);
+    copy_numbers(script, first, n, steps, used)
+}
+
+// The cycles of a face go to the front of lent arrays; the count of steps comes back.
+pub fn load_cycles(
+    script: &[u8],
+    first: usize,
+    count: u32,
+    counts: &mut [u32; 512],
+    steps: &mut [u32; 2048],
+) -> usize
+    requires { ⌜ Room (now script) first count (now counts) 0 (now steps) 0 ⌝ }
+    requires { ⌜ length (now counts) ≡ 512 ⌝ }
+    requires { ⌜ length (now steps) ≡ 2048 ⌝ }
+    ensures { λ r. ⌜ r ≡ total stepCount (cyclesRead (now (script .entry)) first count) ⌝ }
+    ensures { λ r. ⌜ Held (cyclesRead (now (script .entry)) first count) (now (counts .exit)) count (now (steps .exit)) r ⌝ }
+{
+    let mut at = first;
+    let mut left = count;
+    let mut i: usize = 0;
+    let mut used: usize = 0;
+    while 0 < left {
+        at = load_cycle(script, at, counts, i, steps, used);
+        let m = counts[i];
+        used = used + store::places(1, m);
+        i = i + 1;
+        left -= 1;
+    }
+    used
+}

@@ -1,0 +1,203 @@
+-- What a sheet's cells look like in the arrays, and that the view undoes it, both ways. Assumes nothing.
+use Prim.Native.Nat.{ℕ, zero, suc, _+_, _*_, _/_, _%_, _≤_}
+use mathlib.Core.Path.{_≡_, refl, ap, ap₂, sym, _∙_}
+use mathlib.Core.List.{List, [], _∷_, _++_, map, append-assoc}
+use mathlib.Core.Bool.{Bool, true, false, _&&_, false≢true}
+use native.Mathlib.Omega.{arith}
+use lib.Dec.{eqb}
+use borrow.Author.Tests.{eqb-true, eqb-false, eq-eqb, ne-eqb}
+use lib.ListN.{length, take, drop, getD, length-map, length-drop, length-append}
+use lib.Seq.{take-add, take-at, drop-at, length-take-le}
+use Rattle.coordinate.specs.declared.Position.{Position}
+use Rattle.store.specs.declared.Shape.{Shape}
+use Rattle.store.specs.declared.Shape.the-variants.{Vertex, Open, Closed, Face}
+use Rattle.store.specs.declared.Cell.{Cell}
+use Rattle.complex.specs.Cells.{Halfedge, Cycle, lone, path, Figure, vertex, openEdge, closedEdge, face, LiveCell as Entry}
+use Rattle.store.specs.Sheet.{real, allReal}
+use Rattle.store.specs.Places.{bit, word, numOf, stepsIn, shapeOf, cyclesIn, bendsIn, headOf, cyclesAt, bendsAt}
+use Rattle.number.specs.Readers.{spread}
+use Rattle.store.specs.View.{halfedgeOf, width, cycleOf, cyclesOf, cycleCount, bendCount, figureOf, cellsOf, cycleSum, bendSum, widthSum}
+
+module _ {A B : Type 0} where
+  pub flat-append : (f : A → List B) (xs ys : List A) → spread f (xs ++ ys) ≡ spread f xs ++ spread f ys
+  flat-append f [] ys = refl
+  flat-append f (x ∷ xs) ys = ap (λ (r : List B). f x ++ r) (flat-append f xs ys) ∙ sym (append-assoc (f x) (spread f xs) (spread f ys))
+
+-- a step's number, both ways
+word-half : (e : ℕ) (b : Bool) → halfedgeOf (e * 2 + bit b) ≡ record { edge = e; backward = b }
+word-half e true =
+    let p : (e * 2 + 1) / 2 ≡ e = omega arith in
+    let q : eqb ((e * 2 + 1) % 2) 1 ≡ true = eq-eqb ((e * 2 + 1) % 2) 1 (omega arith) in
+    λ i. record { edge = p i; backward = q i }
+word-half e false =
+    let p : (e * 2 + 0) / 2 ≡ e = omega arith in
+    let q : eqb ((e * 2 + 0) % 2) 1 ≡ false = ne-eqb ((e * 2 + 0) % 2) 1 (omega arith) in
+    λ i. record { edge = p i; backward = q i }
+
+pub halves : (hs : List Halfedge) → map halfedgeOf (map word hs) ≡ hs
+halves [] = refl
+halves (h ∷ hs) = ap₂ (λ (x : Halfedge) (xs : List Halfedge). x ∷ xs) (word-half (h .edge) (h .backward)) (halves hs)
+
+half-word : (s : ℕ) (t : Bool) → eqb (s % 2) 1 ≡ t → s / 2 * 2 + bit t ≡ s
+half-word s true e = let h = eqb-true (s % 2) 1 e in omega arith
+half-word s false e = let h = eqb-false (s % 2) 1 e in omega arith
+
+pub words : (l : List ℕ) → map word (map halfedgeOf l) ≡ l
+words [] = refl
+words (s ∷ l) = ap₂ (λ (x : ℕ) (xs : List ℕ). x ∷ xs) (half-word s (eqb (s % 2) 1) refl) (words l)
+
+-- the view of the arrays, put back into arrays
+cycle-number : (n : ℕ) (st : List ℕ) → width n ≤ length st → numOf (cycleOf n st) ≡ n
+cycle-number zero st h = refl
+cycle-number (suc n) st h = length-map (take (suc n) st) halfedgeOf ∙ length-take-le (suc n) st h
+
+pub numbers : (ns st : List ℕ) → widthSum ns ≤ length st → map numOf (cyclesOf ns st) ≡ ns
+numbers [] st h = refl
+numbers (n ∷ ns) st h =
+    ap₂ (λ (x : ℕ) (xs : List ℕ). x ∷ xs) (cycle-number n st (omega arith)) (numbers ns (drop (width n) st) (simp length-drop (omega arith)))
+
+first-place : (st : List ℕ) → 1 ≤ length st → getD st 0 0 ∷ [] ≡ take 1 st
+first-place [] h = absurd (omega arith)
+first-place (x ∷ st) h = refl
+
+cycle-places : (n : ℕ) (st : List ℕ) → width n ≤ length st → stepsIn (cycleOf n st) ≡ take (width n) st
+cycle-places zero st h = first-place st h
+cycle-places (suc n) st h = words (take (suc n) st)
+
+pub places : (ns st : List ℕ) → widthSum ns ≤ length st → spread stepsIn (cyclesOf ns st) ≡ take (widthSum ns) st
+places [] st h = refl
+places (n ∷ ns) st h =
+    ap₂ (λ (x xs : List ℕ). x ++ xs) (cycle-places n st (omega arith)) (places ns (drop (width n) st) (simp length-drop (omega arith)))
+    ∙ sym (take-add (width n) (widthSum ns) st)
+
+cycle-real : (n : ℕ) (st : List ℕ) → width n ≤ length st → real (cycleOf n st) ≡ true
+cycle-real zero st h = refl
+cycle-real (suc n) [] h = absurd (omega arith)
+cycle-real (suc n) (x ∷ st) h = refl
+
+pub cycles-real : (ns st : List ℕ) → widthSum ns ≤ length st → allReal (cyclesOf ns st) ≡ true
+cycles-real [] st h = refl
+cycles-real (n ∷ ns) st h =
+    ap₂ _&&_ (cycle-real n st (omega arith)) (cycles-real ns (drop (width n) st) (simp length-drop (omega arith)))
+
+pub take-cycles : (k : ℕ) (ns st : List ℕ) → take k (cyclesOf ns st) ≡ cyclesOf (take k ns) st
+take-cycles zero ns st = refl
+take-cycles (suc k) [] st = refl
+take-cycles (suc k) (n ∷ ns) st = ap (λ (r : List Cycle). cycleOf n st ∷ r) (take-cycles k ns (drop (width n) st))
+
+pub length-cycles : (ns st : List ℕ) → length (cyclesOf ns st) ≡ length ns
+length-cycles [] st = refl
+length-cycles (n ∷ ns) st = ap suc (length-cycles ns (drop (width n) st))
+
+figure-shape : (s : Shape) (ks : List Cycle) (bs : List Position) → cycleCount s ≤ length ks → bendCount s ≤ length bs → shapeOf (figureOf s ks bs) ≡ s
+figure-shape (Vertex p) ks bs h g = refl
+figure-shape (Open s e n) ks bs h g = ap (Open s e) (length-take-le n bs g)
+figure-shape (Closed n) ks bs h g = ap Closed (length-take-le n bs g)
+figure-shape (Face k) ks bs h g = ap Face (length-take-le k ks h)
+
+pub heads : (cs : List Cell) (ks : List Cycle) (bs : List Position) → cycleSum cs ≤ length ks → bendSum cs ≤ length bs
+    → map headOf (cellsOf cs ks bs) ≡ cs
+heads [] ks bs h g = refl
+heads (c ∷ cs) ks bs h g =
+    ap₂ (λ (s : Shape) (r : List Cell). record { id = c .id; shape = s } ∷ r)
+    (figure-shape (c .shape) ks bs (omega arith) (omega arith))
+    (heads cs (drop (cycleCount (c .shape)) ks) (drop (bendCount (c .shape)) bs) (simp length-drop (omega arith)) (simp length-drop (omega arith)))
+
+figure-cycles : (s : Shape) (ks : List Cycle) (bs : List Position) → cyclesIn (figureOf s ks bs) ≡ take (cycleCount s) ks
+figure-cycles (Vertex p) ks bs = refl
+figure-cycles (Open s e n) ks bs = refl
+figure-cycles (Closed n) ks bs = refl
+figure-cycles (Face k) ks bs = refl
+
+pub cycles-of-cells : (cs : List Cell) (ks : List Cycle) (bs : List Position) → spread cyclesAt (cellsOf cs ks bs) ≡ take (cycleSum cs) ks
+cycles-of-cells [] ks bs = refl
+cycles-of-cells (c ∷ cs) ks bs =
+    ap₂ (λ (x xs : List Cycle). x ++ xs) (figure-cycles (c .shape) ks bs) (cycles-of-cells cs (drop (cycleCount (c .shape)) ks) (drop (bendCount (c .shape)) bs))
+    ∙ sym (take-add (cycleCount (c .shape)) (cycleSum cs) ks)
+
+figure-bends : (s : Shape) (ks : List Cycle) (bs : List Position) → bendsIn (figureOf s ks bs) ≡ take (bendCount s) bs
+figure-bends (Vertex p) ks bs = refl
+figure-bends (Open s e n) ks bs = refl
+figure-bends (Closed n) ks bs = refl
+figure-bends (Face k) ks bs = refl
+
+pub bends-of-cells : (cs : List Cell) (ks : List Cycle) (bs : List Position) → spread bendsAt (cellsOf cs ks bs) ≡ take (bendSum cs) bs
+bends-of-cells [] ks bs = refl
+bends-of-cells (c ∷ cs) ks bs =
+    ap₂ (λ (x xs : List Position). x ++ xs) (figure-bends (c .shape) ks bs) (bends-of-cells cs (drop (cycleCount (c .shape)) ks) (drop (bendCount (c .shape)) bs))
+    ∙ sym (take-add (bendCount (c .shape)) (bendSum cs) bs)
+
+-- cells put into arrays, and viewed again
+path-back : (hs : List Halfedge) (n : ℕ) (st : List ℕ) → length hs ≡ n → map halfedgeOf (take n (map word hs ++ st)) ≡ hs
+path-back hs n st e = ap (map halfedgeOf) (take-at (map word hs) st n (length-map hs word ∙ e)) ∙ halves hs
+
+path-drop : (hs : List Halfedge) (n : ℕ) (st : List ℕ) → length hs ≡ n → drop n (map word hs ++ st) ≡ st
+path-drop hs n st e = drop-at (map word hs) st n (length-map hs word ∙ e)
+
+pub cycles-back : (ks : List Cycle) (ns st : List ℕ) → allReal ks ≡ true → cyclesOf (map numOf ks ++ ns) (spread stepsIn ks ++ st) ≡ ks ++ cyclesOf ns st
+cycles-back [] ns st h = refl
+cycles-back (lone v ∷ ks) ns st h = ap (λ (r : List Cycle). lone v ∷ r) (cycles-back ks ns st h)
+cycles-back (path [] ∷ ks) ns st h = absurd (false≢true h)
+cycles-back (path (x ∷ hs) ∷ ks) ns st h =
+    ap (λ (l : List ℕ). cyclesOf (suc (length hs) ∷ (map numOf ks ++ ns)) l) (append-assoc (map word (x ∷ hs)) (spread stepsIn ks) st)
+    ∙ ap₂ (λ (p : List Halfedge) (l : List ℕ). path p ∷ cyclesOf (map numOf ks ++ ns) l)
+    (path-back (x ∷ hs) (suc (length hs)) (spread stepsIn ks ++ st) refl)
+    (path-drop (x ∷ hs) (suc (length hs)) (spread stepsIn ks ++ st) refl)
+    ∙ ap (λ (r : List Cycle). path (x ∷ hs) ∷ r) (cycles-back ks ns st h)
+
+figure-back : (f : Figure) (ks : List Cycle) (bs : List Position) → figureOf (shapeOf f) (cyclesIn f ++ ks) (bendsIn f ++ bs) ≡ f
+figure-back (vertex p) ks bs = refl
+figure-back (openEdge s e b) ks bs = ap (openEdge s e) (take-at b bs (length b) refl)
+figure-back (closedEdge b) ks bs = ap closedEdge (take-at b bs (length b) refl)
+figure-back (face k) ks bs = ap face (take-at k ks (length k) refl)
+
+cycles-past : (f : Figure) (ks : List Cycle) → drop (cycleCount (shapeOf f)) (cyclesIn f ++ ks) ≡ ks
+cycles-past (vertex p) ks = refl
+cycles-past (openEdge s e b) ks = refl
+cycles-past (closedEdge b) ks = refl
+cycles-past (face k) ks = drop-at k ks (length k) refl
+
+bends-past : (f : Figure) (bs : List Position) → drop (bendCount (shapeOf f)) (bendsIn f ++ bs) ≡ bs
+bends-past (vertex p) bs = refl
+bends-past (openEdge s e b) bs = drop-at b bs (length b) refl
+bends-past (closedEdge b) bs = drop-at b bs (length b) refl
+bends-past (face k) bs = refl
+
+pub cells-back : (xs : List Entry) (ks : List Cycle) (bs : List Position) → cellsOf (map headOf xs) (spread cyclesAt xs ++ ks) (spread bendsAt xs ++ bs) ≡ xs
+cells-back [] ks bs = refl
+cells-back (x ∷ xs) ks bs =
+    let f = x .figure in
+    let kr : List Cycle = spread cyclesAt xs ++ ks in
+    let br : List Position = spread bendsAt xs ++ bs in
+    ap₂ (λ (k : List Cycle) (b : List Position). cellsOf (headOf x ∷ map headOf xs) k b) (append-assoc (cyclesIn f) (spread cyclesAt xs) ks) (append-assoc (bendsIn f) (spread bendsAt xs) bs)
+    ∙ ap (λ (g : Figure). record { id = x .id; figure = g } ∷ cellsOf (map headOf xs) (drop (cycleCount (shapeOf f)) (cyclesIn f ++ kr)) (drop (bendCount (shapeOf f)) (bendsIn f ++ br))) (figure-back f kr br)
+    ∙ ap₂ (λ (k : List Cycle) (b : List Position). x ∷ cellsOf (map headOf xs) k b) (cycles-past f kr) (bends-past f br)
+    ∙ ap (λ (r : List Entry). x ∷ r) (cells-back xs ks bs)
+
+-- the sums are the lengths
+cycle-count : (f : Figure) → cycleCount (shapeOf f) ≡ length (cyclesIn f)
+cycle-count (vertex p) = refl
+cycle-count (openEdge s e b) = refl
+cycle-count (closedEdge b) = refl
+cycle-count (face k) = refl
+
+bend-count : (f : Figure) → bendCount (shapeOf f) ≡ length (bendsIn f)
+bend-count (vertex p) = refl
+bend-count (openEdge s e b) = refl
+bend-count (closedEdge b) = refl
+bend-count (face k) = refl
+
+pub cycle-sum : (xs : List Entry) → cycleSum (map headOf xs) ≡ length (spread cyclesAt xs)
+cycle-sum [] = refl
+cycle-sum (x ∷ xs) = ap₂ _+_ (cycle-count (x .figure)) (cycle-sum xs) ∙ sym (length-append (cyclesAt x) (spread cyclesAt xs))
+
+pub bend-sum : (xs : List Entry) → bendSum (map headOf xs) ≡ length (spread bendsAt xs)
+bend-sum [] = refl
+bend-sum (x ∷ xs) = ap₂ _+_ (bend-count (x .figure)) (bend-sum xs) ∙ sym (length-append (bendsAt x) (spread bendsAt xs))
+
+pub width-sum : (ks : List Cycle) → allReal ks ≡ true → widthSum (map numOf ks) ≡ length (spread stepsIn ks)
+width-sum [] h = refl
+width-sum (lone v ∷ ks) h = let e = width-sum ks h in omega arith
+width-sum (path [] ∷ ks) h = absurd (false≢true h)
+width-sum (path (x ∷ hs) ∷ ks) h =
+    ap₂ _+_ (ap suc (sym (length-map hs word))) (width-sum ks h) ∙ sym (length-append (map word (x ∷ hs)) (spread stepsIn ks))

@@ -1,0 +1,7 @@
+pub mod Lists
+pub mod Encode
+pub mod Stands
+pub mod Sizes
+pub mod Grow
+pub mod Rows
+pub mod Pools

@@ -1,0 +1,56 @@
+-- What a call derives from the cells of a drawing once: a row of numbers for each cell. Definitions only.
+use Prim.Native.Nat.{ℕ, suc, _<_}
+use lib.Dec.{eqb}
+use lib.ListN.{length, take, getD}
+use mathlib.Core.Path.{_≡_}
+use mathlib.Core.Bool.{cond}
+use mathlib.Core.List.{List, [], _∷_, map}
+use Rattle.store.specs.declared.Shape.{Shape}
+use Rattle.store.specs.declared.Shape.the-variants.{Vertex, Open, Closed, Face}
+use Rattle.store.specs.declared.Cell.{Cell}
+use Rattle.store.specs.declared.Drawing.{Drawing}
+use Rattle.store.specs.declared.Index.{Index}
+use Rattle.store.specs.View.{bendCount, cycleCount}
+
+-- a cell's kind: 0 a vertex, 1 an open edge, 2 a closed edge, 3 a face
+abbrev pub kindOf : Shape → ℕ
+kindOf (Vertex p) = 0
+kindOf (Open s e n) = 1
+kindOf (Closed n) = 2
+kindOf (Face k) = 3
+
+abbrev pub startOf : Shape → ℕ
+startOf (Vertex p) = 0
+startOf (Open s e n) = s
+startOf (Closed n) = 0
+startOf (Face k) = 0
+
+abbrev pub endOf : Shape → ℕ
+endOf (Vertex p) = 0
+endOf (Open s e n) = e
+endOf (Closed n) = 0
+endOf (Face k) = 0
+
+-- the index r has the numbers of d's cells
+pub record Indexes (d : Drawing) (r : Index) : Type 0 where
+  pub sizes : (length (r .ids) ≡ 256) × (length (r .kinds) ≡ 256) × (length (r .starts) ≡ 256) × (length (r .ends) ≡ 256) × (length (r .bends) ≡ 256) × (length (r .cycles) ≡ 256)
+  pub ids : take (d .count) (r .ids) ≡ map (λ (c : Cell). c .id) (take (d .count) (d .cells))
+  pub kinds : take (d .count) (r .kinds) ≡ map (λ (c : Cell). kindOf (c .shape)) (take (d .count) (d .cells))
+  pub starts : take (d .count) (r .starts) ≡ map (λ (c : Cell). startOf (c .shape)) (take (d .count) (d .cells))
+  pub ends : take (d .count) (r .ends) ≡ map (λ (c : Cell). endOf (c .shape)) (take (d .count) (d .cells))
+  pub bends : take (d .count) (r .bends) ≡ map (λ (c : Cell). bendCount (c .shape)) (take (d .count) (d .cells))
+  pub cycles : take (d .count) (r .cycles) ≡ map (λ (c : Cell). cycleCount (c .shape)) (take (d .count) (d .cells))
+
+-- ---- the row of an id
+-- the place of the first x in a list, or the list's length
+abbrev pub rowOf : ℕ → List ℕ → ℕ
+rowOf x [] = 0
+rowOf x (y ∷ ys) = cond (eqb y x) 0 (suc (rowOf x ys))
+
+-- each number is below the next
+pub record Rising (l : List ℕ) : Type 0 where
+  pub below : (i j : ℕ) → i < j → j < length l → getD l i 0 < getD l j 0
+
+-- the number that stands where the id i stands among is, or z
+abbrev pub valueAt : ℕ → List ℕ → List ℕ → ℕ → ℕ
+valueAt z is vs i = getD vs (rowOf i is) z

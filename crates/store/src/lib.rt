@@ -1,0 +1,282 @@
+ghost use mathlib.Core.Path.{_≡_};
+ghost use Prim.Native.Nat.{_+_, _<_, _≤_};
+ghost use lib.ListN.{take, length, replicate};
+ghost use lib.Seq.{paste};
+ghost use Rattle.complex.specs.Lists.{total};
+ghost use Rattle.store.specs.View.{Fits, bendCount, cycleCount, bendTotal, cycleTotal};
+ghost use Rattle.store.specs.Index.{kindOf, startOf, endOf, Indexes, Rising, rowOf, valueAt};
+ghost use Rattle.store.specs.Edits.{placesOf, spreadFlags};
+use coordinate::Position;
+
+// What a cell is, and how many places of the arrays below are its.
+pub enum Shape {
+    Vertex(Position),
+    Open { start: u32, end: u32, bends: u32 },
+    Closed { bends: u32 },
+    Face { cycles: u32 },
+}
+
+pub struct Cell {
+    pub id: u32,
+    pub shape: Shape,
+}
+
+// A drawing in memory. The cells stand by rising id; the bends and the cycles of a cell follow those of the cells before
+// it, and so do the steps of a cycle. A cycle is its number of steps, 0 for a lone vertex, which takes one place of steps;
+// a step is 2 x id, plus 1 if backward. Nothing is stored that can be derived.
+pub struct Drawing {
+    pub next: u32,
+    pub count: usize,
+    pub cells: [Cell; 256],
+    pub cycles: [u32; 512],
+    pub steps: [u32; 2048],
+    pub bends: [Position; 2048],
+}
+
+// How many bends a cell has.
+pub fn bend_count(s: Shape) -> u32
+    ensures { λ r. ⌜ r ≡ bendCount s ⌝ }
+{
+    match s {
+        Shape::Vertex(_) => 0,
+        Shape::Open {
+            start: _,
+            end: _,
+            bends,
+        } => bends,
+        Shape::Closed { bends } => bends,
+        Shape::Face { cycles: _ } => 0,
+    }
+}
+
+pub fn wide(x: u32) -> usize
+    ensures { λ r. ⌜ r ≡ x ⌝ }
+{
+    x as usize
+}
+
+// The places of `bends` that are in use.
+pub fn bend_total(d: Drawing) -> usize
+    requires { ⌜ Fits d ⌝ }
+    ensures { λ r. ⌜ r ≡ bendTotal d ⌝ }
+{
+    let n = d.count;
+    let mut sum: usize = 0;
+    let mut i: usize = 0;
+    while i < n {
+        let c = d.cells[i];
+        let s = c.shape;
+        let k = wide(bend_count(s));
+        sum = sum + k;
+        i = i + 1;
+    }
+    sum
+}
+
+// How many cycles a cell has.
+pub fn cycle_count(s: Shape) -> u32
+    ensures { λ r. ⌜ r ≡ cycleCount s ⌝ }
+{
+    match s {
+        Shape::Vertex(_) => 0,
+        Shape::Open {
+            start: _,
+            end: _,
+            bends: _,
+        } => 0,
+        Shape::Closed { bends: _ } => 0,
+        Shape::Face { cycles } => cycles,
+    }
+}
+
+// What a call derives from the cells once, and lends: a row of numbers for each cell.
+pub struct Index {
+    pub ids: [u32; 256],
+    pub kinds: [u32; 256],
+    pub starts: [u32; 256],
+    pub ends: [u32; 256],
+    pub bends: [u32; 256],
+    pub cycles: [u32; 256],
+}
+
+pub fn index_of(d: Drawing) -> Index
+    requires { ⌜ d .count ≤ 256 ⌝ }
+    ensures { λ r. ⌜ Indexes d r ⌝ }
+{
+    let mut out = Index {
+        ids: [0; 256],
+        kinds: [0; 256],
+        starts: [0; 256],
+        ends: [0; 256],
+        bends: [0; 256],
+        cycles: [0; 256],
+    };
+    let n = d.count;
+    let mut i: usize = 0;
+    while i < n {
+        let c = d.cells[i];
+        let s = c.shape;
+        let k = kind_of(s);
+        let a = start_of(s);
+        let b = end_of(s);
+        let m = bend_count(s);
+        let f = cycle_count(s);
+        out.ids[i] = c.id;
+        out.kinds[i] = k;
+        out.starts[i] = a;
+        out.ends[i] = b;
+        out.bends[i] = m;
+        out.cycles[i] = f;
+        i = i + 1;
+    }
+    out
+}
+
+// n places from `at` on get the flag v.
+pub fn fill(out: &mut [bool], at: usize, n: usize, v: bool)
+    requires { ⌜ at + n ≤ length (now out) ⌝ }
+    ensures { λ r. ⌜ now (out .exit) ≡ paste (now (out .entry)) at (replicate n v) n ⌝ }
+{
+    let mut i: usize = 0;
+    while i < n {
+        out[at + i] = v;
+        i = i + 1;
+    }
+}
+
+// The places that a count stands for; a count 0 stands for z.
+pub fn places(z: usize, c: u32) -> usize
+    ensures { λ r. ⌜ r ≡ placesOf z c ⌝ }
+{
+    if c == 0 {
+        return z;
+    }
+    wide(c)
+}
+
+// Each flag, once for each place that its count stands for.
+pub fn spread_flags(flags: &[bool], counts: &[u32], n: usize, z: usize, out: &mut [bool]) -> usize
+    requires { ⌜ n ≤ length (now flags) ⌝ }
+    requires { ⌜ n ≤ length (now counts) ⌝ }
+    requires { ⌜ total (placesOf z) (take n (now counts)) ≤ length (now out) ⌝ }
+    ensures { λ r. ⌜ r ≡ total (placesOf z) (take n (now (counts .entry))) ⌝ }
+    ensures { λ r. ⌜ take r (now (out .exit)) ≡ spreadFlags z (take n (now (flags .entry))) (take n (now (counts .entry))) ⌝ }
+    ensures { λ r. ⌜ length (now (out .exit)) ≡ length (now (out .entry)) ⌝ }
+{
+    let mut at: usize = 0;
+    let mut i: usize = 0;
+    while i < n {
+        let k = places(z, counts[i]);
+        let v = flags[i];
+        fill(out, at, k, v);
+        at = at + k;
+        i = i + 1;
+    }
+    at
+}
+
+// The cycles that are in use.
+pub fn cycle_total(d: Drawing) -> usize
+    requires { ⌜ Fits d ⌝ }
+    ensures { λ r. ⌜ r ≡ cycleTotal d ⌝ }
+{
+    let n = d.count;
+    let mut sum: usize = 0;
+    let mut i: usize = 0;
+    while i < n {
+        let c = d.cells[i];
+        let s = c.shape;
+        let k = wide(cycle_count(s));
+        sum = sum + k;
+        i = i + 1;
+    }
+    sum
+}
+
+// The row of an id among the first n, which rise; n if it is not there.
+pub fn find(ids: &[u32; 256], n: usize, id: u32) -> usize
+    requires { ⌜ n ≤ 256 ⌝ }
+    requires { ⌜ length (now ids) ≡ 256 ⌝ }
+    requires { ⌜ Rising (take n (now ids)) ⌝ }
+    ensures { λ r. ⌜ r ≡ rowOf id (take n (now (ids .entry))) ⌝ }
+{
+    let mut lo: usize = 0;
+    let mut hi = n;
+    while lo < hi {
+        let mid = lo + (hi - lo) / 2;
+        if ids[mid] < id {
+            lo = mid + 1;
+        } else {
+            hi = mid;
+        }
+    }
+    if lo < n {
+        if ids[lo] == id {
+            return lo;
+        }
+    }
+    n
+}
+
+// 0 a vertex, 1 an open edge, 2 a closed edge, 3 a face.
+pub fn kind_of(s: Shape) -> u32
+    ensures { λ r. ⌜ r ≡ kindOf s ⌝ }
+{
+    match s {
+        Shape::Vertex(_) => 0,
+        Shape::Open {
+            start: _,
+            end: _,
+            bends: _,
+        } => 1,
+        Shape::Closed { bends: _ } => 2,
+        Shape::Face { cycles: _ } => 3,
+    }
+}
+
+// The start of an open edge, 0 of another cell.
+pub fn start_of(s: Shape) -> u32
+    ensures { λ r. ⌜ r ≡ startOf s ⌝ }
+{
+    match s {
+        Shape::Vertex(_) => 0,
+        Shape::Open {
+            start,
+            end: _,
+            bends: _,
+        } => start,
+        Shape::Closed { bends: _ } => 0,
+        Shape::Face { cycles: _ } => 0,
+    }
+}
+
+// The end of an open edge, 0 of another cell.
+pub fn end_of(s: Shape) -> u32
+    ensures { λ r. ⌜ r ≡ endOf s ⌝ }
+{
+    match s {
+        Shape::Vertex(_) => 0,
+        Shape::Open {
+            start: _,
+            end,
+            bends: _,
+        } => end,
+        Shape::Closed { bends: _ } => 0,
+        Shape::Face { cycles: _ } => 0,
+    }
+}
+
+// The value in the row of an id, or z if no row has it.
+pub fn value_at(z: u32, ids: &[u32; 256], values: &[u32; 256], n: usize, id: u32) -> u32
+    requires { ⌜ n ≤ 256 ⌝ }
+    requires { ⌜ length (now ids) ≡ 256 ⌝ }
+    requires { ⌜ length (now values) ≡ 256 ⌝ }
+    requires { ⌜ Rising (take n (now ids)) ⌝ }
+    ensures { λ r. ⌜ r ≡ valueAt z (take n (now (ids .entry))) (take n (now (values .entry))) id ⌝ }
+{
+    let row = find(ids, n, id);
+    if row < n {
+        return values[row];
+    }
+    z
+}
