@@ -1,0 +1,8 @@
+pub mod Testing
+pub mod Totals
+pub mod Looking
+pub mod Walking
+pub mod Parts
+pub mod Rings
+pub mod Whole
+pub mod Meaning

@@ -1,0 +1,206 @@
+-- A sheet's soundness in parts: vertices, edges, bends, cycles; and lookups in the rows of its cells. Assumes nothing.
+use Prim.Native.Nat.{ℕ, suc}
+use mathlib.Core.Path.{_≡_, refl, ap, ap₂, sym, _∙_}
+use mathlib.Core.List.{List, [], _∷_, _++_, map}
+use mathlib.Core.Bool.{Bool, true, false, not, _&&_, cond}
+use mathlib.Core.Option.{Option, none, some}
+use native.Mathlib.Omega.{arith}
+use lib.Dec.{eqb}
+use lib.ListN.{length, getD}
+use borrow.Author.Tests.{ne-eqb}
+use Rattle.number.specs.Readers.{spread}
+use Rattle.coordinate.specs.declared.Position.{Position}
+use Rattle.coordinate.specs.Bounds.{within}
+use Rattle.complex.specs.Lists.{all, isEmpty}
+use Rattle.complex.specs.Cells.{Figure, vertex, openEdge, closedEdge, face, LiveCell, lookup, someIf, isVertex, isOpen, isClosed, isFace, isLive, startOf, endOf, bendsOf, cyclesOf}
+use Rattle.complex.specs.Sound.{cycleOk, figureOk, figuresOk}
+use Rattle.store.specs.declared.Shape.{Shape}
+use Rattle.store.specs.declared.Cell.{Cell}
+use Rattle.store.specs.Places.{shapeOf, headOf, cyclesIn, bendsIn, cyclesAt, bendsAt}
+use Rattle.store.specs.View.{bendCount, cycleCount}
+use Rattle.store.specs.Index.{kindOf, startOf as shapeStart, endOf as shapeEnd, rowOf, valueAt}
+use Rattle.sound.specs.Soundness.{placed, cellPlaced}
+use Rattle.sound.specs.Rows.{isVertexIn, edgeGood}
+use Rattle.sound.specs.Looks.{kindNumber}
+
+pub and-unit : (b : Bool) → b && true ≡ b
+and-unit true = refl
+and-unit false = refl
+
+pub and-assoc : (a b c : Bool) → a && (b && c) ≡ (a && b) && c
+and-assoc true b c = refl
+and-assoc false b c = refl
+
+and-swap : (a b c d : Bool) → (a && b) && (c && d) ≡ (a && c) && (b && d)
+and-swap true true c d = refl
+and-swap true false true d = refl
+and-swap true false false d = refl
+and-swap false b c d = refl
+
+module _ {A : Type 0} where
+  all-append : (p : A → Bool) (xs ys : List A) → all p (xs ++ ys) ≡ all p xs && all p ys
+  all-append p [] ys = refl
+  all-append p (x ∷ xs) ys = ap (λ (b : Bool). p x && b) (all-append p xs ys) ∙ and-assoc (p x) (all p xs) (all p ys)
+
+  all-and : (p q : A → Bool) (xs : List A) → all (λ (x : A). p x && q x) xs ≡ all p xs && all q xs
+  all-and p q [] = refl
+  all-and p q (x ∷ xs) = ap (λ (b : Bool). (p x && q x) && b) (all-and p q xs) ∙ and-swap (p x) (q x) (all p xs) (all q xs)
+
+  pub all-same : (p q : A → Bool) → ((x : A) → p x ≡ q x) → (xs : List A) → all p xs ≡ all q xs
+  all-same p q h [] = refl
+  all-same p q h (x ∷ xs) = ap₂ _&&_ (h x) (all-same p q h xs)
+
+module _ {A B : Type 0} where
+  all-flat : (p : B → Bool) (f : A → List B) (xs : List A) → all (λ (x : A). all p (f x)) xs ≡ all p (spread f xs)
+  all-flat p f [] = refl
+  all-flat p f (x ∷ xs) = ap (λ (b : Bool). all p (f x) && b) (all-flat p f xs) ∙ sym (all-append p (f x) (spread f xs))
+
+  pub all-map : (p : B → Bool) (f : A → B) (xs : List A) → all (λ (x : A). p (f x)) xs ≡ all p (map f xs)
+  all-map p f [] = refl
+  all-map p f (x ∷ xs) = ap (λ (b : Bool). p (f x) && b) (all-map p f xs)
+
+-- ---- lookups in the rows of the cells
+module _ (g : Option Figure → ℕ) (f : Shape → ℕ) (z : ℕ) (e : g none ≡ z) (h : (s : Figure) → g (some s) ≡ f (shapeOf s)) where
+  lookup-row : (xs : List LiveCell) (i : ℕ) → valueAt z (map (λ (c : Cell). c .id) (map headOf xs)) (map (λ (c : Cell). f (c .shape)) (map headOf xs)) i ≡ g (lookup xs i)
+  lookup-row [] i = sym e
+  lookup-row (x ∷ xs) i = go (eqb (x .id) i) (lookup-row xs i)
+    where
+      go : (b : Bool) → valueAt z (map (λ (c : Cell). c .id) (map headOf xs)) (map (λ (c : Cell). f (c .shape)) (map headOf xs)) i ≡ g (lookup xs i)
+          → getD (f (shapeOf (x .figure)) ∷ map (λ (c : Cell). f (c .shape)) (map headOf xs)) (cond b 0 (suc (rowOf i (map (λ (c : Cell). c .id) (map headOf xs))))) z ≡ g (someIf b (x .figure) (lookup xs i))
+      go true k = sym (h (x .figure))
+      go false k = k
+
+kind-same : (s : Figure) → kindNumber (some s) ≡ kindOf (shapeOf s)
+kind-same (vertex p) = refl
+kind-same (openEdge a b bs) = refl
+kind-same (closedEdge bs) = refl
+kind-same (face ks) = refl
+
+start-same : (s : Figure) → startOf (some s) ≡ shapeStart (shapeOf s)
+start-same (vertex p) = refl
+start-same (openEdge a b bs) = refl
+start-same (closedEdge bs) = refl
+start-same (face ks) = refl
+
+end-same : (s : Figure) → endOf (some s) ≡ shapeEnd (shapeOf s)
+end-same (vertex p) = refl
+end-same (openEdge a b bs) = refl
+end-same (closedEdge bs) = refl
+end-same (face ks) = refl
+
+bends-same : (s : Figure) → length (bendsOf (some s)) ≡ bendCount (shapeOf s)
+bends-same (vertex p) = refl
+bends-same (openEdge a b bs) = refl
+bends-same (closedEdge bs) = refl
+bends-same (face ks) = refl
+
+cycles-same : (s : Figure) → length (cyclesOf (some s)) ≡ cycleCount (shapeOf s)
+cycles-same (vertex p) = refl
+cycles-same (openEdge a b bs) = refl
+cycles-same (closedEdge bs) = refl
+cycles-same (face ks) = refl
+
+-- the kind by number, and by name
+pub is-vertex : (o : Option Figure) → eqb (kindNumber o) 0 ≡ isVertex o
+is-vertex none = refl
+is-vertex (some (vertex p)) = refl
+is-vertex (some (openEdge a b bs)) = refl
+is-vertex (some (closedEdge bs)) = refl
+is-vertex (some (face ks)) = refl
+
+pub is-open : (o : Option Figure) → eqb (kindNumber o) 1 ≡ isOpen o
+is-open none = refl
+is-open (some (vertex p)) = refl
+is-open (some (openEdge a b bs)) = refl
+is-open (some (closedEdge bs)) = refl
+is-open (some (face ks)) = refl
+
+pub is-closed : (o : Option Figure) → eqb (kindNumber o) 2 ≡ isClosed o
+is-closed none = refl
+is-closed (some (vertex p)) = refl
+is-closed (some (openEdge a b bs)) = refl
+is-closed (some (closedEdge bs)) = refl
+is-closed (some (face ks)) = refl
+
+pub is-face : (o : Option Figure) → eqb (kindNumber o) 3 ≡ isFace o
+is-face none = refl
+is-face (some (vertex p)) = refl
+is-face (some (openEdge a b bs)) = refl
+is-face (some (closedEdge bs)) = refl
+is-face (some (face ks)) = refl
+
+pub is-live : (o : Option Figure) → not (eqb (kindNumber o) 4) ≡ isLive o
+is-live none = refl
+is-live (some (vertex p)) = refl
+is-live (some (openEdge a b bs)) = refl
+is-live (some (closedEdge bs)) = refl
+is-live (some (face ks)) = refl
+
+module _ (xs : List LiveCell) where
+  abbrev pub idRow : List ℕ
+  idRow = map (λ (c : Cell). c .id) (map headOf xs)
+
+  abbrev pub kindRow : List ℕ
+  kindRow = map (λ (c : Cell). kindOf (c .shape)) (map headOf xs)
+
+  abbrev pub startRow : List ℕ
+  startRow = map (λ (c : Cell). shapeStart (c .shape)) (map headOf xs)
+
+  abbrev pub endRow : List ℕ
+  endRow = map (λ (c : Cell). shapeEnd (c .shape)) (map headOf xs)
+
+  abbrev pub bendRow : List ℕ
+  bendRow = map (λ (c : Cell). bendCount (c .shape)) (map headOf xs)
+
+  abbrev pub cycleRow : List ℕ
+  cycleRow = map (λ (c : Cell). cycleCount (c .shape)) (map headOf xs)
+
+  pub kind-row : (i : ℕ) → valueAt 4 idRow kindRow i ≡ kindNumber (lookup xs i)
+  kind-row i = lookup-row kindNumber kindOf 4 refl kind-same xs i
+
+  pub start-row : (i : ℕ) → valueAt 0 idRow startRow i ≡ startOf (lookup xs i)
+  start-row i = lookup-row startOf shapeStart 0 refl start-same xs i
+
+  pub end-row : (i : ℕ) → valueAt 0 idRow endRow i ≡ endOf (lookup xs i)
+  end-row i = lookup-row endOf shapeEnd 0 refl end-same xs i
+
+  pub bend-row : (i : ℕ) → valueAt 0 idRow bendRow i ≡ length (bendsOf (lookup xs i))
+  bend-row i = lookup-row (λ (o : Option Figure). length (bendsOf o)) bendCount 0 refl bends-same xs i
+
+  pub cycle-row : (i : ℕ) → valueAt 0 idRow cycleRow i ≡ length (cyclesOf (lookup xs i))
+  cycle-row i = lookup-row (λ (o : Option Figure). length (cyclesOf o)) cycleCount 0 refl cycles-same xs i
+
+  pub vertex-row : (i : ℕ) → isVertexIn idRow kindRow i ≡ isVertex (lookup xs i)
+  vertex-row i = ap (λ (k : ℕ). eqb k 0) (kind-row i) ∙ is-vertex (lookup xs i)
+
+-- ---- what a figure shows, in parts
+some-bends : (bs : List Position) → not (eqb (length bs) 0) ≡ not (isEmpty bs)
+some-bends [] = refl
+some-bends (b ∷ bs) = ap not (ne-eqb (suc (length bs)) 0 (λ e. omega arith))
+
+module _ (xs : List LiveCell) where
+  -- an edge's ends are vertices, a closed edge has a bend
+  abbrev pub cellEdge : Cell → Bool
+  cellEdge c = edgeGood (idRow xs) (kindRow xs) (kindOf (c .shape)) (shapeStart (c .shape)) (shapeEnd (c .shape)) (bendCount (c .shape))
+
+  figure-parts : (s : Figure) → figureOk (lookup xs) s
+      ≡ (placed (shapeOf s) && edgeGood (idRow xs) (kindRow xs) (kindOf (shapeOf s)) (shapeStart (shapeOf s)) (shapeEnd (shapeOf s)) (bendCount (shapeOf s)))
+      && (all within (bendsIn s) && all (cycleOk (lookup xs)) (cyclesIn s))
+  figure-parts (vertex p) = sym (and-unit (within p && true) ∙ and-unit (within p))
+  figure-parts (openEdge a b bs) =
+      and-assoc (isVertex (lookup xs a)) (isVertex (lookup xs b)) (all within bs)
+      ∙ ap₂ _&&_ (sym (ap₂ _&&_ (vertex-row xs a) (vertex-row xs b))) (sym (and-unit (all within bs)))
+  figure-parts (closedEdge bs) = ap₂ _&&_ (sym (some-bends bs)) (sym (and-unit (all within bs)))
+  figure-parts (face ks) = refl
+
+  -- the parts of a sheet's soundness, as they are tested
+  pub figures-parts : figuresOk xs
+      ≡ (all cellPlaced (map headOf xs) && all cellEdge (map headOf xs)) && (all within (spread bendsAt xs) && all (cycleOk (lookup xs)) (spread cyclesAt xs))
+  figures-parts =
+      let look = lookup xs in
+      all-same (λ (x : LiveCell). figureOk look (x .figure))
+      (λ (x : LiveCell). (cellPlaced (headOf x) && cellEdge (headOf x)) && (all within (bendsAt x) && all (cycleOk look) (cyclesAt x))) (λ x. figure-parts (x .figure)) xs
+      ∙ all-and (λ (x : LiveCell). cellPlaced (headOf x) && cellEdge (headOf x)) (λ (x : LiveCell). all within (bendsAt x) && all (cycleOk look) (cyclesAt x)) xs
+      ∙ ap₂ _&&_
+      (all-and (λ (x : LiveCell). cellPlaced (headOf x)) (λ (x : LiveCell). cellEdge (headOf x)) xs ∙ ap₂ _&&_ (all-map cellPlaced headOf xs) (all-map cellEdge headOf xs))
+      (all-and (λ (x : LiveCell). all within (bendsAt x)) (λ (x : LiveCell). all (cycleOk look) (cyclesAt x)) xs ∙ ap₂ _&&_ (all-flat within bendsAt xs) (all-flat (cycleOk look) cyclesAt xs))
