@@ -60,6 +60,7 @@ fn places_upto(counts: &[u32], n: usize, z: usize, max: usize) -> usize
     sum
 }
 
+// One sum after another; the steps are those of the cycles in use.
 fn sums_of<'a>(
     bends: &'a [u32; CELLS_MOST],
     cycles: &'a [u32; CELLS_MOST],
@@ -168,6 +169,7 @@ fn hints_of(ids: &[u32; CELLS_MOST], n: usize) -> [u8; HINTS]
     out
 }
 
+// A hint as a row.
 fn row_in(x: u8) -> usize
     ensures { λ r. ⌜ r ≡ x ⌝ }
 {
@@ -191,6 +193,7 @@ fn row_of(hints: &[u8; HINTS], ids: &[u32; CELLS_MOST], n: usize, id: u32) -> us
     store::find(ids, n, id)
 }
 
+// Whether the id v is a vertex's.
 fn is_vertex(
     hints: &[u8; HINTS],
     ids: &[u32; CELLS_MOST],
@@ -241,6 +244,7 @@ fn row_good(
     true
 }
 
+// Whether the first n rows are right.
 fn rows_good(
     hints: &[u8; HINTS],
     ids: &[u32; CELLS_MOST],
