@@ -1,0 +1,11 @@
+pub mod Places
+pub mod Reading
+pub mod Adding
+pub mod Putting
+pub mod CycleNumbers
+pub mod Loading
+pub mod ShapeParts
+pub mod CellParts
+pub mod Filled
+pub mod Verdict
+pub mod Judging
