@@ -35,3 +35,4 @@ pub mod Rebuilt
 pub mod Claims
 pub mod Asked
 pub mod Groups
+pub mod Runs

@@ -48,6 +48,22 @@ unfoldable pub run : List ℕ → Run
 unfolding command rest
 run bytes = ran (length bytes) empty bytes
 
+-- the bytes that each of those commands was handed
+abbrev pub handed : ℕ → Sheet → List ℕ → List (List ℕ)
+handed zero s bytes = []
+handed (suc n) s bytes =
+    elim (isEmpty bytes) [
+      | true ↦ []
+      | false ↦ bytes ∷ elim (eqb (command s bytes .number) 2) [
+        | true ↦ []
+        | false ↦ handed n (command s bytes .sheet) (rest s bytes)
+      ]
+    ]
+
+unfoldable pub commandsOf : List ℕ → List (List ℕ)
+unfolding command rest
+commandsOf bytes = handed (length bytes) empty bytes
+
 -- ---- what is printed: above 65,536 bytes only `too long`; else a line per command, then the Euler number and the live cells
 abbrev pub scriptMost : ℕ
 scriptMost = 65536
