@@ -167,6 +167,8 @@ pub fn load_cycles(
     requires { ⌜ length (now steps) ≡ 2048 ⌝ }
     ensures { λ r. ⌜ r ≡ total stepCount (cyclesRead (now (script .entry)) first count) ⌝ }
     ensures { λ r. ⌜ Held (cyclesRead (now (script .entry)) first count) (now (counts .exit)) count (now (steps .exit)) r ⌝ }
+    ensures { λ _. ⌜ length (now (counts .exit)) ≡ 512 ⌝ }
+    ensures { λ _. ⌜ length (now (steps .exit)) ≡ 2048 ⌝ }
 {
     let mut at = first;
     let mut left = count;

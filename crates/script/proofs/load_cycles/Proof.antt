@@ -68,9 +68,9 @@ loop-again c =
 
 returns : tie.Need-returns Inv-loop μ-loop
 returns c =
-    let r = c .before .before .before .pre .0 in
+    let p = c .before .before .before .pre in
     let l = c .before .loop .inv in
-    (loading-used r l (c .loop-test .left), loading-end r l (c .loop-test .left))
+    (loading-used (p .0) l (c .loop-test .left), (loading-end (p .0) l (c .loop-test .left), (l .countsSize ∙ p .1 .0, l .stepsSize ∙ p .1 .1)))
 
 pub load-cycles-spec : {M : Type 1} → statement M
 load-cycles-spec =

@@ -1,0 +1,92 @@
+-- A cycle of a script passes as its numbers do, and as the sheet has it. Assumes nothing.
+use Prim.Native.Nat.{ℕ, zero, suc, _<_}
+use native.Mathlib.Omega.{arith}
+use mathlib.Core.Path.{_≡_, refl, sym, ap, ap₂, _∙_, subst}
+use mathlib.Core.Bool.{Bool, true, false, _&&_, cond}
+use mathlib.Core.List.{List, [], _∷_, map}
+use lib.ListN.{length, drop, getD}
+use lib.Seq.{take-all}
+use Rattle.number.specs.Readers.{Read, got, andThen}
+use Rattle.number.specs.Numbers.{readNumber}
+use Rattle.complex.specs.Lists.{all}
+use Rattle.complex.specs.Cells.{Halfedge, Cycle}
+use Rattle.complex.specs.Decode.{stepOf, readCycle}
+use Rattle.store.specs.Edits.{placesOf}
+use Rattle.store.proofs.Lists.{places-of-some}
+use Rattle.sound.specs.Rows.{Rows, isVertexIn, joinsIn, cycleGood}
+use Rattle.command.specs.Lists.{listOf, numbersRead, cyclesRead, Stand}
+use Rattle.command.proofs.Fields.{NumberAt}
+use Rattle.command.proofs.Laws.{stand-length}
+use Rattle.script.proofs.Steps.{first-thing}
+use Rattle.script.proofs.Cycles.{cycleFrom, from-number, from-places, numbers-stand, cycle-is}
+use Rattle.faces.specs.Walks.{edgeIn, stepNamed, passesIn}
+
+and-none : (b : Bool) → b ≡ (b && true)
+and-none true = refl
+and-none false = refl
+
+same-both : (u b : Bool) → b ≡ cond u b b
+same-both true b = refl
+same-both false b = refl
+
+-- ---- one cycle, by its number of steps
+module _ (t : Rows) where
+  lone-passes : (names : Bool) (ns : List ℕ) → isVertexIn (t .ids) (t .kinds) (getD ns 0 0) ≡ passesIn t names (cycleFrom 0 ns)
+  lone-passes names ns = same-both names (isVertexIn (t .ids) (t .kinds) (getD ns 0 0))
+
+  names-map : (ns : List ℕ) → all (stepNamed (t .ids) (t .kinds)) ns ≡ all (λ (h : Halfedge). edgeIn (t .ids) (t .kinds) (h .edge)) (map stepOf ns)
+  names-map [] = refl
+  names-map (n ∷ ns) = ap (λ (b : Bool). stepNamed (t .ids) (t .kinds) n && b) (names-map ns)
+
+  joined : (m : ℕ) (ns : List ℕ) → length ns ≡ suc m → joinsIn t ns ≡ passesIn t false (cycleFrom (suc m) ns)
+  joined m ns e =
+      sym (ap₂ (cycleGood t) (from-number (suc m) ns e) (from-places (suc m) ns e) ∙ ap (joinsIn t) (take-all (suc m) ns (omega arith)))
+
+  -- the cycle that begins at a place, with its number of steps there
+  module _ (names : Bool) (s : List ℕ) (at m first : ℕ) (n : NumberAt s at m first) (stand : Stand readCycle s at 1) where
+    pub steps-stand : Stand readNumber s first (placesOf 1 m)
+    steps-stand = numbers-stand s at m first (n .read) (n .fits) stand
+
+    the-cycle : cyclesRead s at 1 ≡ cycleFrom m (numbersRead s first (placesOf 1 m)) ∷ []
+    the-cycle = let a = n .after in cycle-is s at m first (n .read) (steps-stand .end) (omega arith) (steps-stand .reach)
+
+    whole : (r : Bool) → r ≡ passesIn t names (cycleFrom m (numbersRead s first (placesOf 1 m))) → r ≡ all (passesIn t names) (cyclesRead s at 1)
+    whole r e = e ∙ and-none (passesIn t names (cycleFrom m (numbersRead s first (placesOf 1 m)))) ∙ ap (all (passesIn t names)) (sym the-cycle)
+
+    pub stands-one : m ≡ 0 → Stand readNumber s first 1
+    stands-one e = subst (λ (k : ℕ). Stand readNumber s first (placesOf 1 k)) e steps-stand
+
+    pub stands-some : (m ≡ 0 → ⊥) → Stand readNumber s first m
+    stands-some e = subst (Stand readNumber s first) (places-of-some 1 m e) steps-stand
+
+    pub passes-lone : m ≡ 0 → (r : Bool) → r ≡ isVertexIn (t .ids) (t .kinds) (getD (numbersRead s first 1) 0 0) → r ≡ all (passesIn t names) (cyclesRead s at 1)
+    passes-lone e r q =
+        whole r (q ∙ lone-passes names (numbersRead s first 1) ∙ ap (λ (k : ℕ). passesIn t names (cycleFrom k (numbersRead s first (placesOf 1 k)))) (sym e))
+
+    pub passes-named : (m ≡ 0 → ⊥) → names ≡ true → (r : Bool) → r ≡ all (stepNamed (t .ids) (t .kinds)) (numbersRead s first m) → r ≡ all (passesIn t names) (cyclesRead s at 1)
+    passes-named z e r q = whole r (q ∙ go m z ∙ ap (λ (u : Bool). passesIn t u (cycleFrom m (numbersRead s first (placesOf 1 m)))) (sym e))
+      where
+        go : (m : ℕ) → (m ≡ 0 → ⊥) → all (stepNamed (t .ids) (t .kinds)) (numbersRead s first m) ≡ passesIn t true (cycleFrom m (numbersRead s first (placesOf 1 m)))
+        go zero z = absurd (z refl)
+        go (suc m) z = names-map (numbersRead s first (suc m))
+
+    pub passes-joined : (z : m ≡ 0 → ⊥) → names ≡ false → (r : Bool) → r ≡ joinsIn t (numbersRead s first m) → r ≡ all (passesIn t names) (cyclesRead s at 1)
+    passes-joined z e r q = whole r (q ∙ go m z (stand-length readNumber s first m (stands-some z)) ∙ ap (λ (u : Bool). passesIn t u (cycleFrom m (numbersRead s first (placesOf 1 m)))) (sym e))
+      where
+        go : (m : ℕ) → (m ≡ 0 → ⊥) → length (numbersRead s first m) ≡ m → joinsIn t (numbersRead s first m) ≡ passesIn t false (cycleFrom m (numbersRead s first (placesOf 1 m)))
+        go zero z l = absurd (z refl)
+        go (suc m) z l = joined m (numbersRead s first (suc m)) l
+
+-- ---- the first of several cycles
+one-read : (s : List ℕ) (at : ℕ) (k : Cycle) (u : List ℕ) → readCycle (drop at s) ≡ got k u → cyclesRead s at 1 ≡ k ∷ []
+one-read s at k u e = ap (λ (q : Read Cycle). listOf (andThen q λ y v. got (y ∷ []) v)) e
+
+module _ (p : Cycle → Bool) (s : List ℕ) (at left : ℕ) where
+  -- by the list of one
+  pub first-fails : 0 < left → Stand readCycle s at left → all p (cyclesRead s at 1) ≡ false → false ≡ all p (cyclesRead s at left)
+  first-fails some stand e =
+      let f = first-thing readCycle s at left some stand in
+      sym (ap (all p) (f .whole) ∙ ap (λ (b : Bool). b && all p (f .tail)) (and-none (p (f .head)) ∙ sym (ap (all p) (one-read s at (f .head) (f .between) (f .one))) ∙ e))
+
+  pub first-passes : (k : Cycle) (u : List ℕ) (ks : List Cycle) → readCycle (drop at s) ≡ got k u → cyclesRead s at left ≡ k ∷ ks → all p (cyclesRead s at 1) ≡ true → all p ks ≡ all p (cyclesRead s at left)
+  first-passes k u ks f w e = sym (ap (all p) w ∙ ap (λ (b : Bool). b && all p ks) (and-none (p k) ∙ sym (ap (all p) (one-read s at k u f)) ∙ e))

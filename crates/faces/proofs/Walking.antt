@@ -1,0 +1,72 @@
+-- One turn of each walk along the steps and the cycles of a new face. Assumes nothing.
+use Prim.Native.Nat.{ℕ, _%_}
+use mathlib.Core.Path.{_≡_, refl, sym, ap, ap₂, _∙_}
+use mathlib.Core.Bool.{Bool, true, false, _&&_, cond, _||_}
+use mathlib.Core.List.{List, _∷_}
+use native.Mathlib.Omega.{arith}
+use lib.Dec.{eqb}
+use lib.ListN.{getD}
+use borrow.Author.Tests.{eq-eqb, ne-eqb}
+use Rattle.complex.specs.Lists.{all}
+use Rattle.sound.specs.Rows.{Rows, sideAt, rowIn, tailIn, headIn, goesOn, leadsIn, joinsIn}
+
+-- ---- a test of each element
+module _ {A : Type 0} (p : A → Bool) (x : A) (xs : List A) where
+  pub first-no : p x ≡ false → false ≡ all p (x ∷ xs)
+  first-no e = sym (ap (λ (b : Bool). b && all p xs) e)
+
+  pub first-yes : p x ≡ true → all p xs ≡ all p (x ∷ xs)
+  first-yes e = sym (ap (λ (b : Bool). b && all p xs) e)
+
+-- ---- an edge
+module _ (k : ℕ) where
+  pub edge-open : k ≡ 1 → true ≡ (eqb k 1 || eqb k 2)
+  edge-open e = sym (ap (λ (b : Bool). b || eqb k 2) (eq-eqb k 1 e))
+
+  pub edge-other : (k ≡ 1 → ⊥) → eqb k 2 ≡ (eqb k 1 || eqb k 2)
+  edge-other e = sym (ap (λ (b : Bool). b || eqb k 2) (ne-eqb k 1 e))
+
+-- ---- the ends of a step
+module _ (ss es : List ℕ) (r s : ℕ) where
+  pub side-back : s % 2 ≡ 1 → getD es r 0 ≡ sideAt ss es r s
+  side-back e = sym (ap (λ (b : Bool). cond b (getD es r 0) (getD ss r 0)) (eq-eqb (s % 2) 1 e))
+
+  pub side-forth : (s % 2 ≡ 1 → ⊥) → getD ss r 0 ≡ sideAt ss es r s
+  side-forth e = sym (ap (λ (b : Bool). cond b (getD es r 0) (getD ss r 0)) (ne-eqb (s % 2) 1 e))
+
+-- ---- a walk
+module _ (t : Rows) where
+  module _ (u s k : ℕ) (ek : k ≡ getD (t .kinds) (rowIn t s) 4) where
+    pub goes-no : (k ≡ 1 → ⊥) → false ≡ goesOn t u s
+    goes-no h = sym (ap (λ (b : Bool). b && eqb u (tailIn t s)) (ap (λ (n : ℕ). eqb n 1) (sym ek) ∙ ne-eqb k 1 h))
+
+    pub goes-yes : k ≡ 1 → (v : ℕ) → v ≡ tailIn t s → eqb u v ≡ goesOn t u s
+    goes-yes h v ev = ap (eqb u) ev ∙ sym (ap (λ (b : Bool). b && eqb u (tailIn t s)) (ap (λ (n : ℕ). eqb n 1) (sym ek) ∙ eq-eqb k 1 h))
+
+  module _ (u s : ℕ) (st : List ℕ) (w : ℕ) where
+    pub leads-no : goesOn t u s ≡ false → false ≡ leadsIn t u (s ∷ st) w
+    leads-no e = sym (ap (λ (b : Bool). b && leadsIn t (headIn t s) st w) e)
+
+    pub leads-on : goesOn t u s ≡ true → (v : ℕ) → v ≡ headIn t s → leadsIn t v st w ≡ leadsIn t u (s ∷ st) w
+    leads-on e v ev = ap (λ (x : ℕ). leadsIn t x st w) ev ∙ sym (ap (λ (b : Bool). b && leadsIn t (headIn t s) st w) e)
+
+  -- ---- the kind of the first step tells how a path is to join
+  module _ (s : ℕ) (st : List ℕ) (k : ℕ) (ek : k ≡ getD (t .kinds) (rowIn t s) 4) where
+    pub joins-ring : k ≡ 2 → (r : Bool) → r ≡ all (eqb s) (s ∷ st) → r ≡ joinsIn t (s ∷ st)
+    joins-ring h r er =
+        er ∙ ap (λ (b : Bool). b && all (eqb s) st) (eq-eqb s s refl)
+        ∙ sym (ap₂ (λ (a c : Bool). (a && leadsIn t (headIn t s) st (tailIn t s)) || (c && all (eqb s) st))
+        (sym (goes-no (tailIn t s) s k ek (λ e. clash h e)))
+        (ap (λ (n : ℕ). eqb n 2) (sym ek) ∙ eq-eqb k 2 h))
+      where
+        clash : k ≡ 2 → k ≡ 1 → ⊥
+        clash a b = omega arith
+
+    pub joins-round : (k ≡ 2 → ⊥) → (u : ℕ) → u ≡ tailIn t s → (r : Bool) → r ≡ leadsIn t u (s ∷ st) u → r ≡ joinsIn t (s ∷ st)
+    joins-round h u eu r er =
+        er ∙ ap (λ (x : ℕ). leadsIn t x (s ∷ st) x) eu
+        ∙ sym (ap (λ (c : Bool). leadsIn t (tailIn t s) (s ∷ st) (tailIn t s) || (c && all (eqb s) st)) (ap (λ (n : ℕ). eqb n 2) (sym ek) ∙ ne-eqb k 2 h) ∙ or-none (leadsIn t (tailIn t s) (s ∷ st) (tailIn t s)))
+      where
+        or-none : (b : Bool) → (b || false) ≡ b
+        or-none true = refl
+        or-none false = refl

@@ -1,0 +1,58 @@
+-- Questions 4 and 6 of the cycles of a new face, as the rows of an index answer them. Definitions only.
+use Prim.Native.Nat.{ℕ, _/_, _≤_}
+use mathlib.Core.Path.{_≡_}
+use mathlib.Core.Bool.{Bool, true, false, cond, _||_}
+use mathlib.Core.List.{List}
+use lib.Dec.{eqb}
+use lib.ListN.{length, take}
+use Rattle.complex.specs.Lists.{all}
+use Rattle.complex.specs.Cells.{Halfedge, Cycle, lone, path, face}
+use Rattle.complex.specs.Decode.{readCycle}
+use Rattle.store.specs.declared.Drawing.{Drawing}
+use Rattle.store.specs.Index.{Rising, valueAt}
+use Rattle.store.specs.Places.{numOf, stepsIn}
+use Rattle.append.specs.Appends.{Room}
+use Rattle.command.specs.Lists.{cyclesRead, Stand}
+use Rattle.sound.specs.Rows.{Rows, isVertexIn, cycleGood}
+
+-- the arrays of n rows whose ids rise, with a value for each
+pub record Valued (n : ℕ) (is vs : List ℕ) : Type 0 where
+  pub few : n ≤ 256
+  pub ids : length is ≡ 256
+  pub values : length vs ≡ 256
+  pub rising : Rising (take n is)
+
+-- the same with kinds, starts and ends
+pub record Rowed (n : ℕ) (is ks ss es : List ℕ) : Type 0 where
+  pub few : n ≤ 256
+  pub ids : length is ≡ 256
+  pub kinds : length ks ≡ 256
+  pub starts : length ss ≡ 256
+  pub ends : length es ≡ 256
+  pub rising : Rising (take n is)
+
+-- whether the cell e is an edge, where is are the cells' ids and ks their kinds
+abbrev pub edgeIn : List ℕ → List ℕ → ℕ → Bool
+edgeIn is ks e = eqb (valueAt 4 is ks e) 1 || eqb (valueAt 4 is ks e) 2
+
+-- the edge of a step
+abbrev pub stepNamed : List ℕ → List ℕ → ℕ → Bool
+stepNamed is ks s = edgeIn is ks (s / 2)
+
+-- 4: the cycle names vertices and edges
+abbrev pub namesIn : Rows → Cycle → Bool
+namesIn t (lone v) = isVertexIn (t .ids) (t .kinds) v
+namesIn t (path hs) = all (λ (h : Halfedge). edgeIn (t .ids) (t .kinds) (h .edge)) hs
+
+-- 4, or 6: the cycle joins
+abbrev pub passesIn : Rows → Bool → Cycle → Bool
+passesIn t names k = cond names (namesIn t k) (cycleGood t (numOf k) (stepsIn k))
+
+-- the number of the first no to 4 and 6, or 0
+abbrev pub faceNo : Rows → List Cycle → ℕ
+faceNo t ks = cond (all (passesIn t true) ks) (cond (all (passesIn t false) ks) 0 6) 4
+
+-- k cycles stand in the script, and d has room for their face
+pub record FaceRead (d : Drawing) (s : List ℕ) (first k : ℕ) : Type 0 where
+  pub stand : Stand readCycle s first k
+  pub room : Room d (face (cyclesRead s first k))
