@@ -1,0 +1,344 @@
+-- `cut_open` meets its contract: question 5, then 7 and 8, then the two parts. Assumes nothing.
+use borrow.Author.Needs.{needs}
+use native.Mathlib.Omega.{arith}
+use mathlib.Core.Path.{refl, _∙_}
+use Rattle.complex.specs.Decode.{cutEdge}
+use Rattle.store.proofs.Sizes.{sizes}
+use Rattle.store.proofs.Stands.{ids-same}
+use Rattle.sound.proofs.Meaning.{sound-fits}
+use Rattle.answer.proofs.Laws.{answers-no, answers-done, counts, summed}
+use Rattle.cut.proofs.Found.{sound-in, find-asks, row-below, base-asks}
+use Rattle.cut.proofs.OpenAnswer.{open-live, counted-in, ends-found, no-place, passed, refuses, passes, open-cuts}
+use Rattle.cut.proofs.cut_open.Statement.{statement}
+use Rattle.cut.proofs.cut_open.Tie as tie
+
+index-of-requires : tie.Need-index-of-requires
+index-of-requires c κs = sound-fits (c .args .t1) (c .pre .0) .cells
+
+totals-of-requires : tie.Need-totals-of-requires
+totals-of-requires c κs =
+    let i = c .before .before .before .before .before in
+    let st = i .before in
+    let d = st .args .t1 in
+    summed d (sizes d _ (st .good .0)) (sound-fits d (st .pre .0)) (i .index-of .result) (i .index-of .ensures)
+
+find-requires : tie.Need-find-requires
+find-requires c κs =
+    let to = c .before .before .before in
+    let i = to .before .before .before .before .before .before in
+    let st = i .before in
+    let d = st .args .t1 in
+    find-asks d (sizes d _ (st .good .0)) (st .pre .0) (i .index-of .result) (i .index-of .ensures)
+
+mul-wide : tie.Need-mul-wide
+mul-wide c =
+    let fd = c in
+    let to = fd .before .before .before .before in
+    let i = to .before .before .before .before .before .before in
+    let st = i .before in
+    let d = st .args .t1 in
+    let e = st .args .e in
+    let q = st .args .q in
+    let z = sizes d _ (st .good .0) in
+    let w = st .pre .0 in
+    let ix = i .index-of .result in
+    let x = i .index-of .ensures in
+    let t = to .totals-of .result in
+    let et = to .totals-of .ensures in
+    let live = open-live d z w ix x t et e q (st .pre .1) in
+    omega (arith, row-below d z w ix x e (fd .find .result) (fd .find .ensures) live)
+
+array-read-wide : tie.Need-array-read-wide
+array-read-wide c =
+    let fd = c in
+    let to = fd .before .before .before .before in
+    let i = to .before .before .before .before .before .before in
+    let st = i .before in
+    let d = st .args .t1 in
+    let e = st .args .e in
+    let q = st .args .q in
+    let z = sizes d _ (st .good .0) in
+    let w = st .pre .0 in
+    let ix = i .index-of .result in
+    let x = i .index-of .ensures in
+    let t = to .totals-of .result in
+    let et = to .totals-of .ensures in
+    let live = open-live d z w ix x t et e q (st .pre .1) in
+    row-below d z w ix x e (fd .find .result) (fd .find .ensures) live
+
+wide-requires : tie.Need-wide-requires
+wide-requires c κs = search needs
+
+add-if1 : tie.Need-add-if1
+add-if1 c = search needs
+
+refused-requires : tie.Need-refused-requires
+refused-requires c κs = search needs
+
+returns : tie.Need-returns
+returns c =
+    let wd = c .before .before in
+    let fd = wd .before in
+    let to = fd .before .before .before .before in
+    let i = to .before .before .before .before .before .before in
+    let st = i .before in
+    let d = st .args .t1 in
+    let e = st .args .e in
+    let q = st .args .q in
+    let z = sizes d _ (st .good .0) in
+    let w = st .pre .0 in
+    let ix = i .index-of .result in
+    let x = i .index-of .ensures in
+    let t = to .totals-of .result in
+    let et = to .totals-of .ensures in
+    let live = open-live d z w ix x t et e q (st .pre .1) in
+    answers-no d (sound-fits d w) (cutEdge e q) 5 _ (c .refused .ensures) (no-place d z w ix x t et e q (st .pre .1) (fd .find .result) (fd .find .ensures) (wd .wide .result) (wd .wide .ensures) (c .before .if1 .taken))
+
+open-late-requires : tie.Need-open-late-requires
+open-late-requires c κs =
+    let l = c .before .before .before in
+    let wd = l .before in
+    let fd = wd .before in
+    let to = fd .before .before .before .before in
+    let i = to .before .before .before .before .before .before in
+    let st = i .before in
+    let d = st .args .t1 in
+    let e = st .args .e in
+    let q = st .args .q in
+    let z = sizes d _ (st .good .0) in
+    let w = st .pre .0 in
+    let ix = i .index-of .result in
+    let x = i .index-of .ensures in
+    let t = to .totals-of .result in
+    let et = to .totals-of .ensures in
+    let live = open-live d z w ix x t et e q (st .pre .1) in
+    counted-in d z w ix x t et
+
+refused-requires-2 : tie.Need-refused-requires-2
+refused-requires-2 c κs = search needs
+
+returns-2 : tie.Need-returns-2
+returns-2 c =
+    let ln = c .before .before in
+    let l = ln .before .before .before .before in
+    let wd = l .before in
+    let fd = wd .before in
+    let to = fd .before .before .before .before in
+    let i = to .before .before .before .before .before .before in
+    let st = i .before in
+    let d = st .args .t1 in
+    let e = st .args .e in
+    let q = st .args .q in
+    let z = sizes d _ (st .good .0) in
+    let w = st .pre .0 in
+    let ix = i .index-of .result in
+    let x = i .index-of .ensures in
+    let t = to .totals-of .result in
+    let et = to .totals-of .ensures in
+    let live = open-live d z w ix x t et e q (st .pre .1) in
+    answers-no d (sound-fits d w) (cutEdge e q) (ln .open-late .result) _ (c .refused2 .ensures) (refuses d z w ix x t et e q (st .pre .1) (fd .find .result) (fd .find .ensures) (wd .wide .result) (wd .wide .ensures) (l .if1 .left) (ln .open-late .result) (ln .open-late .ensures) (c .before .if2 .taken))
+
+slice-aggregate-bend-start : tie.Need-slice-aggregate-bend-start
+slice-aggregate-bend-start c = search needs
+
+bend-start-requires : tie.Need-bend-start-requires
+bend-start-requires c κs =
+    let ln = c .before .before in
+    let l = ln .before .before .before .before in
+    let wd = l .before in
+    let fd = wd .before in
+    let to = fd .before .before .before .before in
+    let i = to .before .before .before .before .before .before in
+    let st = i .before in
+    let d = st .args .t1 in
+    let e = st .args .e in
+    let q = st .args .q in
+    let z = sizes d _ (st .good .0) in
+    let w = st .pre .0 in
+    let ix = i .index-of .result in
+    let x = i .index-of .ensures in
+    let t = to .totals-of .result in
+    let et = to .totals-of .ensures in
+    let live = open-live d z w ix x t et e q (st .pre .1) in
+    base-asks d z w ix x e (fd .find .result) (fd .find .ensures) live
+
+mul-s : tie.Need-mul-s
+mul-s c =
+    let ln = c .before .before .before .before .before in
+    let l = ln .before .before .before .before in
+    let wd = l .before in
+    let fd = wd .before in
+    let to = fd .before .before .before .before in
+    let i = to .before .before .before .before .before .before in
+    let st = i .before in
+    let d = st .args .t1 in
+    let e = st .args .e in
+    let q = st .args .q in
+    let z = sizes d _ (st .good .0) in
+    let w = st .pre .0 in
+    let ix = i .index-of .result in
+    let x = i .index-of .ensures in
+    let t = to .totals-of .result in
+    let et = to .totals-of .ensures in
+    let live = open-live d z w ix x t et e q (st .pre .1) in
+    omega (arith, row-below d z w ix x e (fd .find .result) (fd .find .ensures) live)
+
+array-read-s : tie.Need-array-read-s
+array-read-s c =
+    let ln = c .before .before .before .before .before in
+    let l = ln .before .before .before .before in
+    let wd = l .before in
+    let fd = wd .before in
+    let to = fd .before .before .before .before in
+    let i = to .before .before .before .before .before .before in
+    let st = i .before in
+    let d = st .args .t1 in
+    let e = st .args .e in
+    let q = st .args .q in
+    let z = sizes d _ (st .good .0) in
+    let w = st .pre .0 in
+    let ix = i .index-of .result in
+    let x = i .index-of .ensures in
+    let t = to .totals-of .result in
+    let et = to .totals-of .ensures in
+    let live = open-live d z w ix x t et e q (st .pre .1) in
+    row-below d z w ix x e (fd .find .result) (fd .find .ensures) live
+
+mul-f : tie.Need-mul-f
+mul-f c =
+    let ln = c .before .before .before .before .before in
+    let l = ln .before .before .before .before in
+    let wd = l .before in
+    let fd = wd .before in
+    let to = fd .before .before .before .before in
+    let i = to .before .before .before .before .before .before in
+    let st = i .before in
+    let d = st .args .t1 in
+    let e = st .args .e in
+    let q = st .args .q in
+    let z = sizes d _ (st .good .0) in
+    let w = st .pre .0 in
+    let ix = i .index-of .result in
+    let x = i .index-of .ensures in
+    let t = to .totals-of .result in
+    let et = to .totals-of .ensures in
+    let live = open-live d z w ix x t et e q (st .pre .1) in
+    omega (arith, row-below d z w ix x e (fd .find .result) (fd .find .ensures) live)
+
+array-read-f : tie.Need-array-read-f
+array-read-f c =
+    let ln = c .before .before .before .before .before in
+    let l = ln .before .before .before .before in
+    let wd = l .before in
+    let fd = wd .before in
+    let to = fd .before .before .before .before in
+    let i = to .before .before .before .before .before .before in
+    let st = i .before in
+    let d = st .args .t1 in
+    let e = st .args .e in
+    let q = st .args .q in
+    let z = sizes d _ (st .good .0) in
+    let w = st .pre .0 in
+    let ix = i .index-of .result in
+    let x = i .index-of .ensures in
+    let t = to .totals-of .result in
+    let et = to .totals-of .ensures in
+    let live = open-live d z w ix x t et e q (st .pre .1) in
+    row-below d z w ix x e (fd .find .result) (fd .find .ensures) live
+
+cut-parts-requires : tie.Need-cut-parts-requires
+cut-parts-requires c κs =
+    let bs = c .before .before .before in
+    let l2 = bs .before .before in
+    let ln = l2 .before in
+    let l = ln .before .before .before .before in
+    let wd = l .before in
+    let fd = wd .before in
+    let to = fd .before .before .before .before in
+    let i = to .before .before .before .before .before .before in
+    let st = i .before in
+    let d = st .args .t1 in
+    let e = st .args .e in
+    let q = st .args .q in
+    let z = sizes d _ (st .good .0) in
+    let w = st .pre .0 in
+    let ix = i .index-of .result in
+    let x = i .index-of .ensures in
+    let t = to .totals-of .result in
+    let et = to .totals-of .ensures in
+    let live = open-live d z w ix x t et e q (st .pre .1) in
+    (open-cuts d z w ix x t et e q (st .pre .1) (fd .find .result) (fd .find .ensures) (wd .wide .result) (wd .wide .ensures) (l .if1 .left) (ln .open-late .result) (ln .open-late .ensures) (l2 .if2 .left) (bs .bend-start .result) (bs .bend-start .ensures), (ends-found d z w ix x t et e q (st .pre .1) (fd .find .result) (fd .find .ensures) (wd .wide .result) (wd .wide .ensures) _ _ refl refl, (x .sizes .0, x .ids ∙ ids-same d z (sound-fits d w))))
+
+done-requires : tie.Need-done-requires
+done-requires c κs =
+    let cp = c in
+    let l2 = cp .before .before .before .before .before .before in
+    let ln = l2 .before in
+    let l = ln .before .before .before .before in
+    let wd = l .before in
+    let fd = wd .before in
+    let to = fd .before .before .before .before in
+    let i = to .before .before .before .before .before .before in
+    let st = i .before in
+    let d = st .args .t1 in
+    let e = st .args .e in
+    let q = st .args .q in
+    let z = sizes d _ (st .good .0) in
+    let w = st .pre .0 in
+    let ix = i .index-of .result in
+    let x = i .index-of .ensures in
+    let t = to .totals-of .result in
+    let et = to .totals-of .ensures in
+    let live = open-live d z w ix x t et e q (st .pre .1) in
+    let y = passes d z w ix x t et e q (st .pre .1) (fd .find .result) (fd .find .ensures) (wd .wide .result) (wd .wide .ensures) (l .if1 .left) (ln .open-late .result) (ln .open-late .ensures) (l2 .if2 .left) in
+    counts d (cutEdge e q) (sound-in d w) (passed d z w ix x t et e q (st .pre .1) (fd .find .result) (fd .find .ensures) (wd .wide .result) (wd .wide .ensures) (l .if1 .left)) (y .0) (y .1) z (sound-fits d w) (cp .cut-parts .result) (sizes (cp .cut-parts .result) _ (cp .cut-parts .ok)) (cp .cut-parts .ensures .1) (cp .cut-parts .ensures .0)
+
+returns-3 : tie.Need-returns-3
+returns-3 c =
+    let cp = c .before in
+    let l2 = cp .before .before .before .before .before .before in
+    let ln = l2 .before in
+    let l = ln .before .before .before .before in
+    let wd = l .before in
+    let fd = wd .before in
+    let to = fd .before .before .before .before in
+    let i = to .before .before .before .before .before .before in
+    let st = i .before in
+    let d = st .args .t1 in
+    let e = st .args .e in
+    let q = st .args .q in
+    let z = sizes d _ (st .good .0) in
+    let w = st .pre .0 in
+    let ix = i .index-of .result in
+    let x = i .index-of .ensures in
+    let t = to .totals-of .result in
+    let et = to .totals-of .ensures in
+    let live = open-live d z w ix x t et e q (st .pre .1) in
+    let y = passes d z w ix x t et e q (st .pre .1) (fd .find .result) (fd .find .ensures) (wd .wide .result) (wd .wide .ensures) (l .if1 .left) (ln .open-late .result) (ln .open-late .ensures) (l2 .if2 .left) in
+    answers-done d (cutEdge e q) (sound-in d w) (passed d z w ix x t et e q (st .pre .1) (fd .find .result) (fd .find .ensures) (wd .wide .result) (wd .wide .ensures) (l .if1 .left)) (y .0) (y .1) z (sound-fits d w) (cp .cut-parts .result) (sizes (cp .cut-parts .result) _ (cp .cut-parts .ok)) (cp .cut-parts .ensures .1) (cp .cut-parts .ensures .0) _ (c .done .ensures)
+
+pub cut-open-spec : {M : Type 1} → statement M
+cut-open-spec =
+    tie.close
+    (tie.spec
+    index-of-requires
+    totals-of-requires
+    find-requires
+    mul-wide
+    array-read-wide
+    wide-requires
+    add-if1
+    refused-requires
+    returns
+    open-late-requires
+    refused-requires-2
+    returns-2
+    slice-aggregate-bend-start
+    bend-start-requires
+    mul-s
+    array-read-s
+    mul-f
+    array-read-f
+    cut-parts-requires
+    done-requires
+    returns-3)

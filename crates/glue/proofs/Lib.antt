@@ -1,0 +1,3 @@
+pub mod Glued
+pub mod Vertices
+pub mod Edges

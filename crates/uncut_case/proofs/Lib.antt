@@ -1,0 +1,5 @@
+pub mod Turning
+pub mod Finding
+pub mod Using
+pub mod Deciding
+pub mod Meaning

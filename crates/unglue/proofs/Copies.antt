@@ -1,0 +1,232 @@
+-- Copies of a vertex or an edge of a sound drawing: what is asked before, and that they are what ungluing makes. Assumes nothing.
+use Prim.Native.Nat.{ℕ, zero, suc, _+_, _-_, _*_, _<_, _≤_}
+use native.Mathlib.Omega.{arith}
+use mathlib.Core.Path.{_≡_, refl, sym, ap, ap₂, _∙_, subst}
+use mathlib.Core.Bool.{true, false}
+use mathlib.Core.List.{List, [], _∷_}
+use mathlib.Core.Option.{Option, none, some}
+use borrow.Author.Tests.{ltb-true, le-leb, lt-leb}
+use lib.Dec.{T, leb, ltb, leb→le}
+use lib.ListN.{length, take, drop, replicate}
+use Rattle.complex.specs.Lists.{total, rising}
+use Rattle.complex.specs.Cells.{Figure, vertex, openEdge, closedEdge, face, LiveCell, Sheet, cellAt, ids, isFace, isLive, isVertexOrEdge, bendsOf, origin}
+use Rattle.complex.specs.Sound.{idsEnd, cyclesIn, stepsIn, bendsIn, over, ceilings}
+use Rattle.complex.specs.Edits.{reshape, everyId}
+use Rattle.complex.specs.Decode.{unglue}
+use Rattle.complex.specs.Uses.{usesBy, onUses}
+use Rattle.complex.specs.Unglue.{copies, parts, ungluing}
+use Rattle.complex.specs.Commands.{question3, question4, question5, question6, result}
+use Rattle.complex.specs.Answer.{no, asked3}
+use Rattle.complex.specs.Sizes.{newCells, changeOf, unglueChange, sizesAfter, sizesFit}
+use Rattle.complex.proofs.Bools.{truth, true-of}
+use Rattle.complex.proofs.Lookup.{changed, lookup-reshape, ids-reshape}
+use Rattle.complex.proofs.Keep.{Sound, sound-parts}
+use Rattle.complex.proofs.Unglue.{over-at, asPart}
+use Rattle.complex.proofs.Asked.{Passed, no-6}
+use Rattle.complex.proofs.SizesAfter.{next-after, sizes-after}
+use Rattle.store.specs.declared.Drawing.{Drawing}
+use Rattle.store.specs.declared.Index.{Index}
+use Rattle.store.specs.Index.{Indexes, Rising, rowOf}
+use Rattle.store.specs.Sizes.{Sizes}
+use Rattle.store.specs.View.{width, widthSum, cyclesOf, sheetOf, Fits}
+use Rattle.store.specs.Edits.{withEntries}
+use Rattle.store.proofs.Stands.{ids-same}
+use Rattle.sound.specs.Soundness.{soundDrawing}
+use Rattle.sound.proofs.Meaning.{sound-fits, sound-sheet, rising-is, live-row, found-row}
+use Rattle.append.specs.Appends.{appendedAll, remade, RoomIn, figureAt}
+use Rattle.append.specs.Requirements.{CopiesRoom}
+use Rattle.append.proofs.Appended.{kept-all}
+use Rattle.append.proofs.Rooms.{below, room-copies}
+use Rattle.answer.specs.declared.Answer.{Answer}
+use Rattle.answer.specs.declared.Totals.{Totals}
+use Rattle.answer.specs.Answers.{refusal, outcome, Counts, Answers}
+use Rattle.answer.proofs.Laws.{asked-six, answers-no, late-refuses, late-passes, counts, answers-done}
+use Rattle.copies.specs.declared.Use.{Use}
+use Rattle.copies.specs.declared.Use.the-variants.{Step, Ring, Lone}
+use Rattle.copies.specs.Copying.{usesIn, copied}
+use Rattle.copies.proofs.Runs.{uses-few}
+use Rattle.unglue.specs.Unglues.{hasUses, lateCopies, Copying}
+
+-- ---- numbers are small
+-- each use takes a place
+pub uses-total : (u : Use) (i : ℕ) (ns st : List ℕ) → total (usesIn u i) (cyclesOf ns st) ≤ widthSum ns
+uses-total u i [] st = omega arith
+uses-total u i (n ∷ ns) st = let a = uses-few u i n st in let b = uses-total u i ns (drop (width n) st) in omega arith
+
+bends-figure : (t : Figure) → bendsIn t ≡ length (bendsOf (some t))
+bends-figure (vertex p) = refl
+bends-figure (openEdge a b bs) = refl
+bends-figure (closedEdge bs) = refl
+bends-figure (face ks) = refl
+
+pub bends-few : (s : Sheet) → Sound s → (i : ℕ) → length (bendsOf (cellAt s i)) ≤ 2048
+bends-few s S i = go (cellAt s i) refl
+  where
+    go : (o : Option Figure) → cellAt s i ≡ o → length (bendsOf o) ≤ 2048
+    go none e = omega arith
+    go (some t) e = let a = over-at bendsIn (s .cells) i t e in let b = below (s .cells) (S .fits) .bends in let f = bends-figure t in omega arith
+
+pub times-few : (n b : ℕ) → b ≤ 2048 → n * b ≤ n * 2048
+times-few zero b h = omega arith
+times-few (suc n) b h = let r = times-few n b h in omega arith
+
+-- ---- the edges
+-- their uses are those that ungluing counts and copies
+pub record EdgeUses (u : Use) (s : Sheet) (i : ℕ) (o : Option Figure) : Type 0 where
+  pub plain : T (isVertexOrEdge o)
+  pub counted : usesBy (usesIn u i) (s .cells) ≡ parts (s .cells) i o
+  pub copied : onUses (usesIn u i) (copied u i (s .next)) 0 (s .cells) ≡ ungluing s i o
+
+pub edge-uses : (u : Use) (s : Sheet) (i : ℕ) (o : Option Figure) → T (hasUses u o) → EdgeUses u s i o
+edge-uses Step s i none h = absurd h
+edge-uses Step s i (some (vertex p)) h = absurd h
+edge-uses Step s i (some (openEdge a b bs)) h = record { plain = tt; counted = refl; copied = refl }
+edge-uses Step s i (some (closedEdge bs)) h = absurd h
+edge-uses Step s i (some (face ks)) h = absurd h
+edge-uses Ring s i none h = absurd h
+edge-uses Ring s i (some (vertex p)) h = absurd h
+edge-uses Ring s i (some (openEdge a b bs)) h = absurd h
+edge-uses Ring s i (some (closedEdge bs)) h = record { plain = tt; counted = refl; copied = refl }
+edge-uses Ring s i (some (face ks)) h = absurd h
+edge-uses Lone s i o h = absurd h
+
+-- ---- copies of a row
+plain-live : (o : Option Figure) → T (isVertexOrEdge o) → isLive o ≡ true
+plain-live none k = absurd k
+plain-live (some t) k = refl
+
+plain-figure : (t : Figure) → T (isVertexOrEdge (some t)) → isFace (some t) ≡ false
+plain-figure (vertex p) k = refl
+plain-figure (openEdge a b bs) k = refl
+plain-figure (closedEdge bs) k = refl
+plain-figure (face ks) k = absurd k
+
+module _ (d : Drawing) (z : Sizes d) (i n : ℕ) (c : Copying d i n) (ix : Index) (x : Indexes d ix) where
+  pub ids-rise : Rising (take (d .count) (ix .ids))
+  ids-rise = rising-is (take (d .count) (ix .ids)) (sheetOf d .next) (rw (x .ids ∙ ids-same d z (c .fits)) (c .rises))
+
+  module _ (row : ℕ) (er : row ≡ rowOf i (take (d .count) (ix .ids))) where
+    row-in : row < d .count
+    row-in = ltb-true row (d .count) (ap (λ (r : ℕ). ltb r (d .count)) er ∙ live-row d z (c .fits) ix x i ∙ plain-live (cellAt (sheetOf d) i) (c .plain))
+
+    row-at : cellAt (sheetOf d) i ≡ some (figureAt (sheetOf d) row)
+    row-at = found-row d z (c .fits) ix x i row er row-in (record { id = 0; figure = vertex origin })
+
+    pub row-room : CopiesRoom d row (n - 1)
+    row-room =
+        room-copies d z (c .fits) row (n - 1) row-in
+        (plain-figure (figureAt (sheetOf d) row) (subst (λ (o : Option Figure). T (isVertexOrEdge o)) row-at (c .plain)))
+        (subst (λ (o : Option Figure). RoomIn (sheetOf d) (copies n o)) row-at (c .room))
+
+    pub row-copies : appendedAll (replicate (n - 1) (figureAt (sheetOf d) row)) (sheetOf d) ≡ appendedAll (copies n (cellAt (sheetOf d) i)) (sheetOf d)
+    row-copies = ap (λ (o : Option Figure). appendedAll (copies n o) (sheetOf d)) (sym row-at)
+
+-- ---- the command
+-- ungluing leaves the cell itself as it was
+kept : (s : Sheet) (i : ℕ) (o : Option Figure) → changed (ungluing s i o i) o ≡ o
+kept s i none = refl
+kept s i (some (vertex p)) = refl
+kept s i (some (openEdge a b bs)) = refl
+kept s i (some (closedEdge bs)) = refl
+kept s i (some (face ks)) = refl
+
+module _ (d : Drawing) (w : T (soundDrawing d)) where
+  pub sound-in : Sound (sheetOf d)
+  sound-in = sound-parts (sheetOf d) (sound-sheet d w)
+
+  pub next-in : d .next ≤ 65536
+  unfolding sheetOf
+  next-in = leb→le (d .next) idsEnd (sound-in .inIds)
+
+module _ (d : Drawing) (z : Sizes d) (w : T (soundDrawing d)) (i : ℕ) (k : T (isVertexOrEdge (cellAt (sheetOf d) i))) (n : ℕ) (en : n ≡ parts (sheetOf d .cells) i (cellAt (sheetOf d) i)) where
+  abbrev here : Option Figure
+  here = cellAt (sheetOf d) i
+
+  abbrev change : ℕ → Figure → Figure
+  change = ungluing (sheetOf d) i (cellAt (sheetOf d) i)
+
+  three : question3 (unglue i) ≡ true
+  unfolding question3
+  three = refl
+
+  four : question4 (sheetOf d) (unglue i) ≡ true
+  unfolding question4
+  four = true-of (isVertexOrEdge (cellAt (sheetOf d) i)) k
+
+  five : question5 (sheetOf d) (unglue i) ≡ true
+  unfolding question5
+  five = refl
+
+  six : question6 (sheetOf d) (unglue i) ≡ leb 2 n
+  unfolding question6
+  six = ap (leb 2) (sym en)
+
+  pub few-refused : n < 2 → (r : Answer) → r ≡ refusal d 6 → Answers d (unglue i) r
+  few-refused h r e = answers-no d (sound-fits d w) (unglue i) 6 r e (no-6 (sheetOf d) (unglue i) three four five (six ∙ lt-leb 2 n h))
+
+  new-cells : newCells (sheetOf d) (unglue i) ≡ n - 1
+  unfolding newCells
+  new-cells = ap (λ (m : ℕ). m - 1) (sym en)
+
+  abbrev have : Totals
+  have = record { cells = length (sheetOf d .cells); cycles = over cyclesIn (sheetOf d .cells); steps = over stepsIn (sheetOf d .cells); bends = over bendsIn (sheetOf d .cells) }
+
+  abbrev more : Totals
+  more = record { cells = n - 1; cycles = 0; steps = 0; bends = (n - 1) * length (bendsOf (cellAt (sheetOf d) i)) }
+
+  abbrev less : Totals
+  less = record { cells = 0; cycles = 0; steps = 0; bends = 0 }
+
+  new-change : changeOf (sheetOf d) (unglue i) ≡ unglueChange (n - 1) (cellAt (sheetOf d) i)
+  unfolding changeOf
+  new-change = ap (λ (m : ℕ). unglueChange (m - 1) (cellAt (sheetOf d) i)) (sym en)
+
+  module _ (h : 2 ≤ n) (r : ℕ) (er : r ≡ lateCopies (sheetOf d) i (n - 1)) where
+    passed : Passed (sheetOf d) (unglue i)
+    passed = record { three = three; four = four; five = five; six = six ∙ le-leb 2 n h }
+
+    late : (r ≡ 0 → ⊥) → asked3 (sheetOf d) (unglue i) ≡ no r (sheetOf d)
+    unfolding sheetOf
+    late = late-refuses d (unglue i) (sound-in d w) passed (n - 1) have more less new-cells new-change refl r er
+
+    pub late-refused : (r ≡ 0 → ⊥) → (a : Answer) → a ≡ refusal d r → Answers d (unglue i) a
+    late-refused nz a e = answers-no d (sound-fits d w) (unglue i) r a e (late nz)
+
+    module _ (zero-r : r ≡ 0) where
+      asked : (leb (sheetOf d .next + newCells (sheetOf d) (unglue i)) idsEnd ≡ true) × (sizesFit (sizesAfter (sheetOf d) (unglue i)) ≡ true)
+      unfolding sheetOf
+      asked = late-passes d (unglue i) (sound-in d w) passed (n - 1) have more less new-cells new-change refl r er zero-r
+
+      module _ (mid : Drawing) (zm : Sizes mid) (gm : Fits mid) (em : sheetOf mid ≡ withEntries (sheetOf d) (reshape (ungluing (sheetOf d) i (cellAt (sheetOf d) i)) (sheetOf d .cells))) where
+        same : cellAt (sheetOf mid) i ≡ cellAt (sheetOf d) i
+        same = ap (λ (s : Sheet). cellAt s i) em ∙ lookup-reshape change (sheetOf d .cells) i ∙ kept (sheetOf d) i here
+
+        all-kept : sheetOf mid ≡ remade everyId change (sheetOf d)
+        all-kept = em ∙ ap (λ (l : List LiveCell). withEntries (sheetOf d) (reshape change l)) (sym (kept-all (sheetOf d .cells)))
+
+        result-is : appendedAll (copies n (cellAt (sheetOf mid) i)) (sheetOf mid) ≡ result (sheetOf d) (unglue i)
+        result-is =
+            ap₂ (λ (o : Option Figure) (s : Sheet). appendedAll (copies n o) s) same all-kept
+            ∙ ap (λ (m : ℕ). appendedAll (copies m here) (remade everyId change (sheetOf d))) en
+            ∙ sym (asPart i (sheetOf d) here refl)
+
+        pub mid-copying : Copying mid i n
+        mid-copying =
+            record {
+              fits = gm;
+              rises = subst (λ (s : Sheet). T (rising 0 (ids (s .cells)) (s .next))) (sym em) (subst (λ (l : List ℕ). T (rising 0 l (sheetOf d .next))) (sym (ids-reshape change (sheetOf d .cells))) (sound-in d w .rises));
+              plain = subst (λ (o : Option Figure). T (isVertexOrEdge o)) (sym same) k;
+              parts = omega arith;
+              room =
+                  record {
+                    ids = subst (λ (s : Sheet). T (leb (s .next) idsEnd)) (sym result-is) (truth (ap (λ (m : ℕ). leb m idsEnd) (next-after (sheetOf d) (unglue i)) ∙ asked .0));
+                    sizes = subst (λ (s : Sheet). T (ceilings (s .cells))) (sym result-is) (truth (sizes-after (sheetOf d) (sound-in d w) (unglue i) (asked-six d (unglue i) (sound-in d w) passed) ∙ asked .1));
+                  };
+            }
+
+        module _ (out : Drawing) (zo : Sizes out) (go : Fits out) (eo : sheetOf out ≡ appendedAll (copies n (cellAt (sheetOf mid) i)) (sheetOf mid)) where
+          pub out-counts : Counts (d .next) (d .count) out
+          out-counts = counts d (unglue i) (sound-in d w) passed (asked .0) (asked .1) z (sound-fits d w) out zo go (eo ∙ result-is)
+
+          pub out-answers : (a : Answer) → a ≡ outcome (d .next) (d .count) out → Answers d (unglue i) a
+          out-answers = answers-done d (unglue i) (sound-in d w) passed (asked .0) (asked .1) z (sound-fits d w) out zo go (eo ∙ result-is)

@@ -1,0 +1,7 @@
+pub mod Copies
+pub mod Search
+pub mod Links
+pub mod Ends
+pub mod Order
+pub mod Vertex
+pub mod Found

@@ -1,0 +1,3 @@
+pub mod Unglues
+pub mod Search
+pub mod Places

@@ -1,0 +1,483 @@
+ghost use mathlib.Core.Path.{_≡_};
+ghost use Prim.Native.Nat.{_+_, _*_, _≤_, _<_};
+ghost use mathlib.Core.Bool.{false, _&&_};
+ghost use mathlib.Core.List.{map};
+ghost use lib.Dec.{T};
+ghost use lib.ListN.{length, take, getD};
+ghost use Rattle.complex.specs.Lists.{one};
+ghost use Rattle.complex.specs.Cells.{cellAt, stepsOf, isVertex};
+ghost use Rattle.complex.specs.Decode.{unglue as ungluing};
+ghost use Rattle.complex.specs.Uses.{usesBy, passage, passages};
+ghost use Rattle.complex.specs.Unglue.{copies as copiesOf, ungluing as ungluingOf};
+ghost use Rattle.complex.proofs.UnglueVertex.{turnsOf};
+ghost use Rattle.store.specs.View.{sheetOf, Fits, halfedgeOf, width, widthSum, cycleOf, cyclesOf};
+ghost use Rattle.complex.specs.Edits.{reshape};
+ghost use Rattle.store.specs.Index.{rowOf, Indexes};
+ghost use Rattle.store.specs.Edits.{withEntries};
+ghost use Rattle.sound.specs.Soundness.{soundDrawing};
+ghost use Rattle.append.specs.Appends.{appendedAll};
+ghost use Rattle.answer.specs.Answers.{Answers};
+ghost use Rattle.copies.specs.Copying.{usesIn};
+ghost use Rattle.unglue.specs.Unglues.{hasUses, lateCopies, Copying};
+ghost use Rattle.unglue.specs.Search.{differs as differ, Links, FirstSplit, Reached, Ready, Sorting};
+ghost use Rattle.unglue.specs.Places.{Rows, Paired, Put, nextStep, endMark, EndMarks, endOf, EndRows, NewEnds, GroupedEnds, Fresh};
+use answer::Answer;
+use answer::Totals;
+use copies::Use;
+use store::Drawing;
+use store::Index;
+
+// How often the cycles of a drawing use the cell i.
+fn count_all(u: Use, d: Drawing, i: u32) -> usize
+    requires { ⌜ Fits d ⌝ }
+    ensures { λ r. ⌜ r ≡ usesBy (usesIn u i) (sheetOf d .cells) ⌝ }
+    ensures { λ r. ⌜ r ≤ 2048 ⌝ }
+{
+    let n = store::cycle_total(d);
+    let cy = d.cycles;
+    let st = d.steps;
+    copies::count_uses(u, &cy, n, &st, i)
+}
+
+// Questions 7 and 8, of n new copies of the cell i.
+fn late_copies(d: Drawing, i: u32, n: usize) -> u32
+    requires { ⌜ T (soundDrawing d) ⌝ }
+    requires { ⌜ n ≤ 4096 ⌝ }
+    ensures { λ r. ⌜ r ≡ lateCopies (sheetOf d) i n ⌝ }
+{
+    let ix = store::index_of(d);
+    let m = d.count;
+    let next = d.next;
+    let t = answer::totals_of(&ix.bends, &ix.cycles, m, &d.cycles);
+    let ids = ix.ids;
+    let bends = ix.bends;
+    let b = store::wide(store::value_at(0, &ids, &bends, m, i));
+    let more = Totals {
+        cells: n,
+        cycles: 0,
+        steps: 0,
+        bends: n * b,
+    };
+    let less = Totals {
+        cells: 0,
+        cycles: 0,
+        steps: 0,
+        bends: 0,
+    };
+    answer::late_no(next, n, t, more, less)
+}
+
+// New copies of the vertex or edge i, so that there are n of it.
+fn add_copies(d: Drawing, i: u32, n: usize) -> Drawing
+    requires { ⌜ Copying d i n ⌝ }
+    ensures { λ r. ⌜ sheetOf r ≡ appendedAll (copiesOf n (cellAt (sheetOf d) i)) (sheetOf d) ⌝ }
+    ensures { λ r. ⌜ Fits r ⌝ }
+{
+    let ix = store::index_of(d);
+    let ids = ix.ids;
+    let row = store::find(&ids, d.count, i);
+    append::append_copies(d, row, n - 1)
+}
+
+// 09, of an open edge by its steps or of a closed edge by its cycles
+pub fn unglue_edge(u: Use, d: Drawing, e: u32) -> Answer
+    requires { ⌜ T (soundDrawing d) ⌝ }
+    requires { ⌜ T (hasUses u (cellAt (sheetOf d) e)) ⌝ }
+    ensures { λ r. ⌜ Answers d (ungluing e) r ⌝ }
+{
+    let parts = count_all(u, d, e);
+    if parts < 2 {
+        return answer::refused(d, 6);
+    }
+    let no = late_copies(d, e, parts - 1);
+    if no != 0 {
+        return answer::refused(d, no);
+    }
+    let next = d.next;
+    let n = d.count;
+    let mid = copies::copy_uses(u, d, e, next, 0);
+    answer::done(next, n, add_copies(mid, e, parts))
+}
+
+// Whether one of two numbers is g and the other not.
+fn differs(a: u32, b: u32, g: u32) -> bool
+    ensures { λ r. ⌜ r ≡ differ a b g ⌝ }
+{
+    if a == g {
+        return b != g;
+    }
+    b == g
+}
+
+// The first link of which one place is in group g and the other not; m if there is none.
+fn split_link(groups: &[u32], xs: &[u32], ys: &[u32], m: usize, g: u32) -> usize
+    requires { ⌜ Links (length (now groups)) (now xs) (now ys) m ⌝ }
+    ensures { λ r. ⌜ FirstSplit (now (groups .entry)) (now (xs .entry)) (now (ys .entry)) m g r ⌝ }
+{
+    let mut i: usize = 0;
+    while i < m {
+        let x = store::wide(xs[i]);
+        let y = store::wide(ys[i]);
+        if differs(groups[x], groups[y], g) {
+            return i;
+        }
+        i = i + 1;
+    }
+    m
+}
+
+// Group g grows along the links as far as they lead: each call takes in one more place.
+fn reach(groups: &mut [u32], xs: &[u32], ys: &[u32], m: usize, g: u32)
+    requires { ⌜ Links (length (now groups)) (now xs) (now ys) m ⌝ }
+    ensures { λ r. ⌜ Reached (now (xs .entry)) (now (ys .entry)) m g (now (groups .entry)) (now (groups .exit)) ⌝ }
+{
+    let i = split_link(groups, xs, ys, m, g);
+    if i < m {
+        let x = store::wide(xs[i]);
+        let y = store::wide(ys[i]);
+        groups[x] = g;
+        groups[y] = g;
+        reach(groups, xs, ys, m, g);
+    }
+}
+
+// The group number of the place p, if it is marked and has none yet: the next one, which all that links lead to gets too.
+// The greatest number so far goes in and comes out.
+fn start_group(
+    groups: &mut [u32],
+    at: &[bool],
+    xs: &[u32],
+    ys: &[u32],
+    m: usize,
+    p: usize,
+    g: u32,
+) -> u32
+    requires { ⌜ Ready (length (now groups)) (now at) (now xs) (now ys) m ⌝ }
+    requires { ⌜ p < length (now at) ⌝ }
+    requires { ⌜ Sorting (now at) (now xs) (now ys) m p g (now groups) ⌝ }
+    ensures { λ r. ⌜ Sorting (now (at .entry)) (now (xs .entry)) (now (ys .entry)) m (p + 1) r (now (groups .exit)) ⌝ }
+{
+    if !at[p] {
+        return g;
+    }
+    if groups[p] != 0 {
+        return g;
+    }
+    groups[p] = g + 1;
+    reach(groups, xs, ys, m, g + 1);
+    g + 1
+}
+
+// The marked places get the numbers of their groups, from 1 on in the order of their first places; how many groups there are.
+fn find_groups(groups: &mut [u32], at: &[bool], xs: &[u32], ys: &[u32], m: usize) -> u32
+    requires { ⌜ Ready (length (now groups)) (now at) (now xs) (now ys) m ⌝ }
+    requires { ⌜ Sorting (now at) (now xs) (now ys) m 0 0 (now groups) ⌝ }
+    ensures { λ r. ⌜ Sorting (now (at .entry)) (now (xs .entry)) (now (ys .entry)) m (length (now (at .entry))) r (now (groups .exit)) ⌝ }
+{
+    let n = at.len();
+    let mut g: u32 = 0;
+    let mut p: usize = 0;
+    while p < n {
+        g = start_group(groups, at, xs, ys, m, p, g);
+        p = p + 1;
+    }
+    g
+}
+
+// The place of an end of edge e.
+fn place(ids: &[u32; 256], n: usize, e: u32, side: u32) -> u32
+    requires { ⌜ Rows (now ids) n ⌝ }
+    requires { ⌜ side ≤ 1 ⌝ }
+    ensures { λ r. ⌜ r ≡ rowOf e (take n (now (ids .entry))) * 2 + side ⌝ }
+{
+    let row = store::find(ids, n, e);
+    (row as u32) * 2 + side
+}
+
+fn is_marked(at: &[bool], p: u32) -> bool
+    ensures { λ r. ⌜ r ≡ getD (now (at .entry)) p false ⌝ }
+{
+    let i = store::wide(p);
+    if i < at.len() {
+        return at[i];
+    }
+    false
+}
+
+fn are_marked(at: &[bool], x: u32, y: u32) -> bool
+    ensures { λ r. ⌜ r ≡ (getD (now (at .entry)) x false && getD (now (at .entry)) y false) ⌝ }
+{
+    if !is_marked(at, x) {
+        return false;
+    }
+    is_marked(at, y)
+}
+
+fn put_pair(keep: bool, x: u32, y: u32, xs: &mut [u32], ys: &mut [u32], used: usize) -> usize
+    requires { ⌜ used < length (now xs) ⌝ }
+    requires { ⌜ used < length (now ys) ⌝ }
+    ensures { λ r. ⌜ Paired keep x y used (now (xs .entry)) (now (ys .entry)) r (now (xs .exit)) (now (ys .exit)) ⌝ }
+{
+    if !keep {
+        return used;
+    }
+    xs[used] = x;
+    ys[used] = y;
+    used + 1
+}
+
+// The passage from step h on to step k as a link, if both its places are marked.
+fn put_link(
+    ids: &[u32; 256],
+    n: usize,
+    at: &[bool],
+    h: u32,
+    k: u32,
+    xs: &mut [u32],
+    ys: &mut [u32],
+    used: usize,
+) -> usize
+    requires { ⌜ Rows (now ids) n ⌝ }
+    requires { ⌜ used < length (now xs) ⌝ }
+    requires { ⌜ used < length (now ys) ⌝ }
+    ensures { λ r. ⌜ Put (take n (now (ids .entry))) (now (at .entry)) (one (passage (halfedgeOf h) (halfedgeOf k))) used (now (xs .entry)) (now (ys .entry)) r (now (xs .exit)) (now (ys .exit)) ⌝ }
+{
+    let x = place(ids, n, h / 2, 1 - h % 2);
+    let y = place(ids, n, k / 2, k % 2);
+    let keep = are_marked(at, x, y);
+    put_pair(keep, x, y, xs, ys, used)
+}
+
+fn next_step(l: &[u32], c: usize, j: usize) -> u32
+    requires { ⌜ j < c ⌝ }
+    requires { ⌜ c ≤ length (now l) ⌝ }
+    ensures { λ r. ⌜ r ≡ nextStep (now (l .entry)) c j ⌝ }
+{
+    if j + 1 < c {
+        return l[j + 1];
+    }
+    l[0]
+}
+
+// The links of the passages of a cycle of c steps.
+fn path_links(
+    ids: &[u32; 256],
+    n: usize,
+    at: &[bool],
+    l: &[u32],
+    c: usize,
+    xs: &mut [u32],
+    ys: &mut [u32],
+    used: usize,
+) -> usize
+    requires { ⌜ Rows (now ids) n ⌝ }
+    requires { ⌜ c ≤ length (now l) ⌝ }
+    requires { ⌜ used + c ≤ length (now xs) ⌝ }
+    requires { ⌜ used + c ≤ length (now ys) ⌝ }
+    ensures { λ r. ⌜ Put (take n (now (ids .entry))) (now (at .entry)) (passages (map halfedgeOf (take c (now (l .entry))))) used (now (xs .entry)) (now (ys .entry)) r (now (xs .exit)) (now (ys .exit)) ⌝ }
+{
+    let mut k = used;
+    let mut j: usize = 0;
+    while j < c {
+        let g = next_step(l, c, j);
+        k = put_link(ids, n, at, l[j], g, xs, ys, k);
+        j = j + 1;
+    }
+    k
+}
+
+fn cycle_links(
+    ids: &[u32; 256],
+    n: usize,
+    at: &[bool],
+    c: u32,
+    l: &[u32],
+    xs: &mut [u32],
+    ys: &mut [u32],
+    used: usize,
+) -> usize
+    requires { ⌜ Rows (now ids) n ⌝ }
+    requires { ⌜ width c ≤ length (now l) ⌝ }
+    requires { ⌜ used + width c ≤ length (now xs) ⌝ }
+    requires { ⌜ used + width c ≤ length (now ys) ⌝ }
+    ensures { λ r. ⌜ Put (take n (now (ids .entry))) (now (at .entry)) (passages (stepsOf (cycleOf c (now (l .entry))))) used (now (xs .entry)) (now (ys .entry)) r (now (xs .exit)) (now (ys .exit)) ⌝ }
+{
+    if c == 0 {
+        return used;
+    }
+    path_links(ids, n, at, l, store::wide(c), xs, ys, used)
+}
+
+// The links of the passages of the first m cycles.
+fn find_links(
+    ids: &[u32; 256],
+    n: usize,
+    at: &[bool],
+    cycles: &[u32],
+    m: usize,
+    steps: &[u32],
+    xs: &mut [u32],
+    ys: &mut [u32],
+) -> usize
+    requires { ⌜ Rows (now ids) n ⌝ }
+    requires { ⌜ m ≤ length (now cycles) ⌝ }
+    requires { ⌜ widthSum (take m (now cycles)) ≤ length (now steps) ⌝ }
+    requires { ⌜ widthSum (take m (now cycles)) ≤ length (now xs) ⌝ }
+    requires { ⌜ widthSum (take m (now cycles)) ≤ length (now ys) ⌝ }
+    ensures { λ r. ⌜ Put (take n (now (ids .entry))) (now (at .entry)) (turnsOf (cyclesOf (take m (now (cycles .entry))) (now (steps .entry)))) 0 (now (xs .entry)) (now (ys .entry)) r (now (xs .exit)) (now (ys .exit)) ⌝ }
+{
+    let mut k: usize = 0;
+    let mut from: usize = 0;
+    let mut j: usize = 0;
+    while j < m {
+        let c = cycles[j];
+        k = cycle_links(ids, n, at, c, &steps[from..], xs, ys, k);
+        from = from + store::places(1, c);
+        j = j + 1;
+    }
+    k
+}
+
+fn is_end(k: u32, a: u32, v: u32) -> bool
+    ensures { λ r. ⌜ r ≡ endMark k a v ⌝ }
+{
+    if k != 1 {
+        return false;
+    }
+    a == v
+}
+
+// The places of the ends at v, from the kinds, starts and ends of n rows.
+fn mark_ends(kinds: &[u32], starts: &[u32], ends: &[u32], n: usize, v: u32, at: &mut [bool])
+    requires { ⌜ n ≤ length (now kinds) ⌝ }
+    requires { ⌜ n ≤ length (now starts) ⌝ }
+    requires { ⌜ n ≤ length (now ends) ⌝ }
+    requires { ⌜ n * 2 ≤ length (now at) ⌝ }
+    requires { ⌜ EndMarks (now kinds) (now starts) (now ends) v 0 (now at) ⌝ }
+    ensures { λ r. ⌜ EndMarks (now (kinds .entry)) (now (starts .entry)) (now (ends .entry)) v n (now (at .exit)) ⌝ }
+{
+    let mut j: usize = 0;
+    while j < n {
+        let k = kinds[j];
+        at[j * 2] = is_end(k, starts[j], v);
+        at[j * 2 + 1] = is_end(k, ends[j], v);
+        j = j + 1;
+    }
+}
+
+fn new_end(mark: bool, g: u32, a: u32, v: u32, next: u32) -> u32
+    requires { ⌜ g ≤ 512 ⌝ }
+    requires { ⌜ next ≤ 65536 ⌝ }
+    ensures { λ r. ⌜ r ≡ endOf mark g a v next ⌝ }
+{
+    if !mark {
+        return a;
+    }
+    if g < 2 {
+        return v;
+    }
+    next + (g - 2)
+}
+
+// The ends at v in n rows become the copies of v that their groups say; on one side of the edges.
+fn new_ends(side: usize, at: &[bool], groups: &[u32], n: usize, v: u32, next: u32, ends: &mut [u32])
+    requires { ⌜ EndRows side (now at) (now groups) n next (now ends) ⌝ }
+    ensures { λ r. ⌜ NewEnds side (now (at .entry)) (now (groups .entry)) v next n (now (ends .entry)) (now (ends .exit)) ⌝ }
+{
+    let mut j: usize = 0;
+    while j < n {
+        let p = j * 2 + side;
+        ends[j] = new_end(at[p], groups[p], ends[j], v, next);
+        j = j + 1;
+    }
+}
+
+// The groups of the ends at vertex v, and how many there are.
+fn group_ends(d: Drawing, ix: Index, v: u32, at: &mut [bool], groups: &mut [u32]) -> u32
+    requires { ⌜ T (soundDrawing d) ⌝ }
+    requires { ⌜ T (isVertex (cellAt (sheetOf d) v)) ⌝ }
+    requires { ⌜ Indexes d ix ⌝ }
+    requires { ⌜ Fresh (now at) (now groups) ⌝ }
+    ensures { λ r. ⌜ GroupedEnds d ix v r (now (at .exit)) (now (groups .exit)) ⌝ }
+    ensures { λ r. ⌜ r ≤ 512 ⌝ }
+{
+    let n = d.count;
+    let m = store::cycle_total(d);
+    let kinds = ix.kinds;
+    let starts = ix.starts;
+    let ends = ix.ends;
+    mark_ends(&kinds, &starts, &ends, n, v, at);
+    let ids = ix.ids;
+    let cy = d.cycles;
+    let st = d.steps;
+    let mut xs = [0u32; 2048];
+    let mut ys = [0u32; 2048];
+    let k = find_links(&ids, n, at, &cy, m, &st, &mut xs, &mut ys);
+    find_groups(groups, at, &xs, &ys, k)
+}
+
+// The ends at v and the lone cycles of v become its copies.
+fn part_ends(d: Drawing, ix: Index, v: u32, g: u32, at: &[bool], groups: &[u32]) -> Drawing
+    requires { ⌜ T (soundDrawing d) ⌝ }
+    requires { ⌜ T (isVertex (cellAt (sheetOf d) v)) ⌝ }
+    requires { ⌜ Indexes d ix ⌝ }
+    requires { ⌜ GroupedEnds d ix v g (now at) (now groups) ⌝ }
+    requires { ⌜ (g ≤ 512) × (length (now at) ≡ 512) × (length (now groups) ≡ 512) ⌝ }
+    ensures { λ r. ⌜ sheetOf r ≡ withEntries (sheetOf d) (reshape (ungluingOf (sheetOf d) v (cellAt (sheetOf d) v)) (sheetOf d .cells)) ⌝ }
+    ensures { λ r. ⌜ Fits r ⌝ }
+{
+    let n = d.count;
+    let next = d.next;
+    let mut starts = ix.starts;
+    let mut ends = ix.ends;
+    new_ends(0, at, groups, n, v, next, &mut starts);
+    new_ends(1, at, groups, n, v, next, &mut ends);
+    let mid = rewire::set_ends(d, &starts, &ends);
+    copies::copy_uses(Use::Lone, mid, v, next, store::wide(g))
+}
+
+// 09, of a vertex by the groups of its ends and its lone cycles
+fn unglue_vertex(d: Drawing, v: u32) -> Answer
+    requires { ⌜ T (soundDrawing d) ⌝ }
+    requires { ⌜ T (isVertex (cellAt (sheetOf d) v)) ⌝ }
+    ensures { λ r. ⌜ Answers d (ungluing v) r ⌝ }
+{
+    let ix = store::index_of(d);
+    let mut at = [false; 512];
+    let mut groups = [0u32; 512];
+    let g = group_ends(d, ix, v, &mut at, &mut groups);
+    let parts = store::wide(g) + count_all(Use::Lone, d, v);
+    if parts < 2 {
+        return answer::refused(d, 6);
+    }
+    let no = late_copies(d, v, parts - 1);
+    if no != 0 {
+        return answer::refused(d, no);
+    }
+    let next = d.next;
+    let n = d.count;
+    let mid = part_ends(d, ix, v, g, &at, &groups);
+    answer::done(next, n, add_copies(mid, v, parts))
+}
+
+// 09
+pub fn unglue(d: Drawing, i: u32) -> Answer
+    requires { ⌜ T (soundDrawing d) ⌝ }
+    ensures { λ r. ⌜ Answers d (ungluing i) r ⌝ }
+{
+    let ix = store::index_of(d);
+    let n = d.count;
+    let ids = ix.ids;
+    let kinds = ix.kinds;
+    let k = store::value_at(4, &ids, &kinds, n, i);
+    if k == 0 {
+        return unglue_vertex(d, i);
+    }
+    if k == 1 {
+        return unglue_edge(Use::Step, d, i);
+    }
+    if k == 2 {
+        return unglue_edge(Use::Ring, d, i);
+    }
+    answer::refused(d, 4)
+}
