@@ -43,9 +43,7 @@ pub fn obey(d: Drawing, script: &[u8], c: Command) -> Answer
             first,
             moved,
             place,
-        } => cutline::cut_face_open(
-            d, script, face, c1, s1, c2, s2, bends, first, moved, place,
-        ),
+        } => cutline::cut_face_open(d, script, face, c1, s1, c2, s2, bends, first, moved, place),
         Command::CutFaceClosed {
             face,
             bends,
