@@ -64,4 +64,3 @@ module _ (d : Drawing) (z : Sizes d) (ix : Index) (f : ℕ) (m : Named d ix f) (
       both-done s g =
           g ∙ ap (λ (t : Sheet). appended t y) (eb ∙ ap (λ (t : Sheet). appended t x) ea)
           ∙ appended-one (appended (recycled (sheetOf d) f ks) x) y ∙ sym (appended-next x (y ∷ []) (recycled (sheetOf d) f ks))
-
