@@ -106,6 +106,10 @@ alone-is : (m : ℕ) (st : List ℕ) → aloneIn (cycleOf m st) ≡ cond (eqb m 
 alone-is zero st = refl
 alone-is (suc m) st = sym (ap (λ (b : Bool). cond b 1 0) (ne-eqb (suc m) 0 (λ e. omega arith)))
 
+pub alone-small : (k : Cycle) → aloneIn k ≤ 1
+alone-small (lone v) = omega arith
+alone-small (path hs) = omega arith
+
 -- ---- of a face
 module _ (d : Drawing) (z : Sizes d) (ix : Index) (f : ℕ) (m : Named d ix f) where
   abbrev look : Look

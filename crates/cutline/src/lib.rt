@@ -1,14 +1,25 @@
 ghost use mathlib.Core.Path.{_≡_};
-ghost use Prim.Native.Nat.{_<_};
+ghost use mathlib.Core.Bool.{true, false};
+ghost use Prim.Native.Nat.{_+_, _*_, _<_, _≤_};
+ghost use lib.Dec.{T, eqb};
 ghost use lib.ListN.{length, getD};
+ghost use Rattle.number.specs.Readers.{all};
 ghost use Rattle.number.specs.Numbers.{readNumber};
+ghost use Rattle.coordinate.specs.Bounds.{within};
+ghost use Rattle.bends.specs.Bends.{positionsAt};
 ghost use Rattle.complex.specs.Cells.{cellAt, cyclesOf};
+ghost use Rattle.complex.specs.Decode.{cutFaceOpen};
 ghost use Rattle.complex.specs.Cut.{noCycle, cutCorners};
 ghost use Rattle.complex.specs.Sizes.{aloneIn};
 ghost use Rattle.store.specs.View.{sheetOf};
+ghost use Rattle.sound.specs.Soundness.{soundDrawing};
 ghost use Rattle.command.specs.Lists.{Stand, numbersRead};
+ghost use Rattle.answer.specs.Answers.{Answers};
 ghost use Rattle.outline.specs.Faces.{Named};
+ghost use Rattle.split.specs.Along.{Along};
 ghost use Rattle.cutline.specs.Corners.{cornerOn, movedFit};
+use answer::Answer;
+use answer::Totals;
 use store::Drawing;
 use store::Index;
 
@@ -87,4 +98,120 @@ fn corners_exist(
     let counts = ix.cycles;
     let k = store::value_at(0, &ids, &counts, d.count, f);
     moved_fit(script, place, moved, k, c1, c2)
+}
+
+// From corner s1 to corner s2 of one cycle: the face is cut in two.
+fn cut_one_cycle(
+    d: Drawing,
+    ix: Index,
+    script: &[u8],
+    f: u32,
+    c: u32,
+    s1: u32,
+    s2: u32,
+    bends: u32,
+    first: usize,
+    moved: u32,
+    place: usize,
+) -> Answer
+    requires { ⌜ Along d ix (now script) f c s1 c s2 bends first moved place ⌝ }
+    requires { ⌜ all within (positionsAt (now script) first bends) ≡ true ⌝ }
+    ensures { λ r. ⌜ Answers d (cutFaceOpen f c s1 c s2 (positionsAt (now (script .entry)) first bends) (numbersRead (now (script .entry)) place moved)) r ⌝ }
+{
+    let t = answer::totals_of(&ix.bends, &ix.cycles, d.count, &d.cycles);
+    let more = Totals {
+        cells: 2,
+        cycles: 1,
+        steps: 2,
+        bends: store::wide(bends),
+    };
+    let alone = lone_step(d, ix, f, c);
+    let less = Totals {
+        cells: 0,
+        cycles: 0,
+        steps: alone,
+        bends: 0,
+    };
+    let no = answer::late_no(d.next, 2, t, more, less);
+    if no != 0 {
+        return answer::refused(d, no);
+    }
+    let out = split::split_face(d, ix, script, f, c, s1, s2, bends, first, moved, place);
+    answer::done(d.next, d.count, out)
+}
+
+// From a corner of one cycle to a corner of another: the two become one.
+fn cut_two_cycles(
+    d: Drawing,
+    ix: Index,
+    script: &[u8],
+    f: u32,
+    c1: u32,
+    s1: u32,
+    c2: u32,
+    s2: u32,
+    bends: u32,
+    first: usize,
+    moved: u32,
+    place: usize,
+) -> Answer
+    requires { ⌜ Along d ix (now script) f c1 s1 c2 s2 bends first moved place ⌝ }
+    requires { ⌜ eqb c1 c2 ≡ false ⌝ }
+    requires { ⌜ all within (positionsAt (now script) first bends) ≡ true ⌝ }
+    ensures { λ r. ⌜ Answers d (cutFaceOpen f c1 s1 c2 s2 (positionsAt (now (script .entry)) first bends) (numbersRead (now (script .entry)) place moved)) r ⌝ }
+{
+    let t = answer::totals_of(&ix.bends, &ix.cycles, d.count, &d.cycles);
+    let more = Totals {
+        cells: 1,
+        cycles: 0,
+        steps: 2,
+        bends: store::wide(bends),
+    };
+    let alone = lone_step(d, ix, f, c1) + lone_step(d, ix, f, c2);
+    let less = Totals {
+        cells: 0,
+        cycles: 1,
+        steps: alone,
+        bends: 0,
+    };
+    let no = answer::late_no(d.next, 1, t, more, less);
+    if no != 0 {
+        return answer::refused(d, no);
+    }
+    let out = split::bridge_cycles(d, ix, script, f, c1, s1, c2, s2, bends, first, moved, place);
+    answer::done(d.next, d.count, out)
+}
+
+pub fn cut_face_open(
+    d: Drawing,
+    script: &[u8],
+    f: u32,
+    c1: u32,
+    s1: u32,
+    c2: u32,
+    s2: u32,
+    bends: u32,
+    first: usize,
+    moved: u32,
+    place: usize,
+) -> Answer
+    requires { ⌜ T (soundDrawing d) ⌝ }
+    requires { ⌜ first + 16 * bends ≤ length (now script) ⌝ }
+    requires { ⌜ Stand readNumber (now script) place moved ⌝ }
+    ensures { λ r. ⌜ Answers d (cutFaceOpen f c1 s1 c2 s2 (positionsAt (now (script .entry)) first bends) (numbersRead (now (script .entry)) place moved)) r ⌝ }
+{
+    if !bends::bends_within(script, first, bends) {
+        return answer::refused(d, 3);
+    }
+    let ix = store::index_of(d);
+    if !outline::is_face(ix, d.count, f) {
+        return answer::refused(d, 4);
+    }
+    if !corners_exist(d, ix, script, f, c1, s1, c2, s2, moved, place) {
+        return answer::refused(d, 5);
+    }
+    if c1 == c2 {
+        return cut_one_cycle(d, ix, script, f, c1, s1, s2, bends, first, moved, place);
+    }
+    cut_two_cycles(d, ix, script, f, c1, s1, c2, s2, bends, first, moved, place)
 }
