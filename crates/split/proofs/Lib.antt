@@ -1,0 +1,5 @@
+pub mod Arcs
+pub mod Places
+pub mod Parts
+pub mod Bridges
+pub mod Corners
