@@ -7,12 +7,11 @@ use native.Mathlib.Omega.{arith}
 use borrow.Author.Tests.{ltb-true, lt-ltb, le-ltb, ne-eqb}
 use lib.Dec.{eqb, ltb, ltb→lt}
 use lib.ListN.{length, take, drop, getD, length-drop, length-map, List·getD-map}
-use lib.Seq.{length-take-le, take-take, getD-take, getD-drop, drop-drop}
+use lib.Seq.{length-take-le, getD-take, getD-drop}
 use Rattle.number.specs.Numbers.{readNumber}
 use Rattle.number.proofs.Counted.{times-length}
 use Rattle.complex.specs.Lists.{isEmpty, holds, places}
-use Rattle.complex.specs.Cells.{Halfedge, Cycle, Figure, lone, path, Look, cellAt, isOpen}
-use Rattle.complex.specs.Cells as cells
+use Rattle.complex.specs.Cells.{Halfedge, Cycle, lone, path, Look, cellAt, isOpen, cyclesOf}
 use Rattle.complex.specs.Cut.{noCycle, noStep, cornerExists, cutCorners}
 use Rattle.complex.specs.Sizes.{aloneIn}
 use Rattle.complex.proofs.Bools.{truth, both}
@@ -20,64 +19,18 @@ use Rattle.store.specs.declared.Drawing.{Drawing}
 use Rattle.store.specs.declared.Index.{Index}
 use Rattle.store.specs.Index.{valueAt}
 use Rattle.store.specs.Sizes.{Sizes}
-use Rattle.store.specs.View.{sheetOf, halfedgeOf, width, cycleOf, cyclesOf, widthSum}
+use Rattle.store.specs.View.{sheetOf, halfedgeOf, width, cycleOf, widthSum}
 use Rattle.sound.specs.Looks.{Looks}
 use Rattle.sound.proofs.Meaning.{looks-in, open-at}
 use Rattle.cycles.specs.declared.Spans.{Spans}
 use Rattle.command.specs.Lists.{Stand, numbersRead}
-use Rattle.outline.specs.Faces.{Named, Rows, Within, Spanned, cyclesAt}
+use Rattle.outline.specs.Faces.{Named, Rows, Spanned}
 use Rattle.outline.specs.Arcs.{cornerIn}
 use Rattle.outline.proofs.Lists.{at-length}
+use Rattle.split.proofs.Places.{place-room, place-cycle}
 use Rattle.cutline.specs.Corners.{cornerOn, movedFit}
 
--- ---- a cycle in the arrays
--- the cycle at a place, and where its steps begin
-list-at : (ns st : List ℕ) (c : ℕ) → c < length ns → getD (cyclesOf ns st) c noCycle ≡ cycleOf (getD ns c 0) (drop (widthSum (take c ns)) st)
-list-at [] st c h = absurd (omega arith)
-list-at (n ∷ ns) st zero h = refl
-list-at (n ∷ ns) st (suc c) h = list-at ns (drop (width n) st) c (omega arith) ∙ ap (cycleOf (getD ns c 0)) (drop-drop (widthSum (take c ns)) (width n) st)
-
--- what comes before it, with it, is no wider than all
-wide-upto : (ns : List ℕ) (c : ℕ) → c < length ns → widthSum (take c ns) + width (getD ns c 0) ≤ widthSum ns
-wide-upto [] c h = absurd (omega arith)
-wide-upto (n ∷ ns) zero h = omega arith
-wide-upto (n ∷ ns) (suc c) h = let k = wide-upto ns c (omega arith) in omega arith
-
-module _ (cycles steps : List ℕ) (t : Spans) (w : Within cycles steps t) (c : ℕ) (h : c < t .cycles .count) where
-  abbrev pub numberAt : ℕ
-  numberAt = getD cycles (t .cycles .first + c) 0
-
-  abbrev pub placeAt : ℕ
-  placeAt = t .steps .first + widthSum (take c (drop (t .cycles .first) cycles))
-
-  abbrev numbers : List ℕ
-  numbers = take (t .cycles .count) (drop (t .cycles .first) cycles)
-
-  in-numbers : c < length numbers
-  in-numbers =
-      let l = length-take-le (t .cycles .count) (drop (t .cycles .first) cycles) (omega (arith, w .inCycles, w .cyclesSize, length-drop (t .cycles .first) cycles)) in
-      omega arith
-
-  number-is : getD numbers c 0 ≡ numberAt
-  number-is = getD-take (t .cycles .count) (drop (t .cycles .first) cycles) c 0 h ∙ getD-drop (t .cycles .first) cycles c 0
-
-  before-is : take c numbers ≡ take c (drop (t .cycles .first) cycles)
-  before-is = take-take c (t .cycles .count) (drop (t .cycles .first) cycles) (omega arith)
-
-  pub cycle-at : getD (cyclesAt cycles steps t) c noCycle ≡ cycleOf numberAt (drop placeAt steps)
-  cycle-at =
-      list-at numbers (drop (t .steps .first) steps) c in-numbers
-      ∙ ap₂ (λ (n : ℕ) (l : List ℕ). cycleOf n (drop (widthSum l) (drop (t .steps .first) steps))) number-is before-is
-      ∙ ap (cycleOf numberAt) (drop-drop (widthSum (take c (drop (t .cycles .first) cycles))) (t .steps .first) steps)
-
-  pub place-in : placeAt + width numberAt ≤ 2048
-  place-in =
-      let k = wide-upto numbers c in-numbers in
-      let a = ap widthSum before-is in
-      let b = ap width number-is in
-      omega (arith, w .inSteps, w .wide)
-
--- ---- its corners
+-- ---- a cycle in the arrays, and its corners
 module _ (look : Look) (ix : Index) (n : ℕ) (o : (i : ℕ) → eqb (valueAt 4 (take n (ix .ids)) (take n (ix .kinds)) i) 1 ≡ isOpen (look i)) (steps : List ℕ) (z : length steps ≡ 2048) (at s : ℕ) where
   module _ (m : ℕ) (h : at + suc m ≤ 2048) where
     abbrev hs : List Halfedge
@@ -116,7 +69,7 @@ module _ (d : Drawing) (z : Sizes d) (ix : Index) (f : ℕ) (m : Named d ix f) w
   look = cellAt (sheetOf d)
 
   abbrev ks : List Cycle
-  ks = cells.cyclesOf (look f)
+  ks = cyclesOf (look f)
 
   seen : Looks d ix
   seen = looks-in d z (m .fits) ix (m .index) (m .rising)
@@ -141,18 +94,18 @@ module _ (d : Drawing) (z : Sizes d) (ix : Index) (f : ℕ) (m : Named d ix f) w
         cycle-is : getD ks c noCycle ≡ cycleOf (getD (d .cycles) (t .cycles .first + i) 0) (drop (t .steps .first + widthSum (take i (drop (t .cycles .first) (d .cycles)))) (d .steps))
         cycle-is =
             ap₂ (λ (l : List Cycle) (n : ℕ). getD l n noCycle) (sym (s .list)) (sym e)
-            ∙ cycle-at (d .cycles) (d .steps) t (s .within) i h
+            ∙ place-cycle (d .cycles) (d .steps) t (s .within) i h
 
         pub place-asks : (length (d .cycles) ≡ 512) × ((t .cycles .first + i ≤ 512) × (t .steps .first + widthSum (take i (drop (t .cycles .first) (d .cycles))) ≤ 2048))
         place-asks =
             let w = s .within in
-            let p = place-in (d .cycles) (d .steps) t w i h in
+            let p = place-room (d .cycles) (d .steps) t w i h in
             let n = w .inCycles in
             (w .cyclesSize, (omega arith, omega arith))
 
         module _ (at : ℕ) (ea : at ≡ t .steps .first + widthSum (take i (drop (t .cycles .first) (d .cycles)))) where
           pub corner-asks : Rows ix (d .count) × ((length (d .steps) ≡ 2048) × (at + width (getD (d .cycles) (t .cycles .first + i) 0) ≤ 2048))
-          corner-asks = let p = place-in (d .cycles) (d .steps) t (s .within) i h in (rows, (s .within .stepsSize, omega arith))
+          corner-asks = let p = place-room (d .cycles) (d .steps) t (s .within) i h in (rows, (s .within .stepsSize, omega arith))
 
           pub corner-on : (k : ℕ) (b : Bool) → b ≡ cornerIn ix (d .count) (getD (d .cycles) (t .cycles .first + i) 0) (d .steps) at k → b ≡ cornerOn look ks c k
           corner-on k b eb =
