@@ -9,7 +9,7 @@ use lib.Dec.{leb}
 use lib.ListN.{length, take, drop, length-map, length-drop}
 use lib.Seq.{length-take-le, take-all, take-take, take-append-le, take-append-add, drop-append-le, drop-append-add, drop-drop}
 use Rattle.complex.specs.Lists.{one, rotated, distance}
-use Rattle.complex.specs.Cells.{Halfedge, path, along, against, stepsOf}
+use Rattle.complex.specs.Cells.{Halfedge, path, stepsOf}
 use Rattle.complex.specs.Cut.{stretch, remainder}
 use Rattle.complex.proofs.Split.{length-rotated}
 use Rattle.store.specs.View.{halfedgeOf, width, cycleOf}
@@ -17,7 +17,7 @@ use Rattle.store.proofs.Lists.{map-append}
 use Rattle.cycles.proofs.Splicing.{run-take}
 use Rattle.outline.specs.Arcs.{arcOf}
 use Rattle.outline.proofs.Lists.{along-read, against-read}
-use Rattle.split.specs.Parts.{nearCycle, farCycle, bridgeCycle}
+use Rattle.split.specs.Parts.{nearCycle, farCycle}
 
 -- ---- rotated lists
 module _ {A B : Type 0} (f : A → B) where

@@ -7,9 +7,9 @@ use native.Mathlib.Omega.{arith}
 use native.Mathlib.Numerals.{add-one}
 use borrow.Author.Tests.{eqb-true, eqb-false}
 use lib.Dec.{eqb}
-use lib.ListN.{length, take, drop, getD, set, replicate, length-append, length-set, length-replicate, getD-replicate}
+use lib.ListN.{length, take, getD, set, replicate, length-append, length-set, length-replicate, getD-replicate}
 use lib.Seq.{length-take-le, take-suc-set, getD-set-same, getD-set-other, getD-take}
-use Rattle.complex.specs.Lists.{total, one, rotated, holds, without}
+use Rattle.complex.specs.Lists.{total, one, rotated, without}
 use Rattle.complex.specs.Cells.{Halfedge, Cycle, path, along, against, stepsOf}
 use Rattle.complex.specs.Sound.{stepCount}
 use Rattle.complex.specs.Cut.{noCycle}
@@ -29,7 +29,7 @@ use Rattle.outline.proofs.Lists.{at-length, built-as, along-read, against-read}
 use Rattle.outline.proofs.Moved.{without-kept}
 use Rattle.split.specs.declared.Place.{Place}
 use Rattle.split.specs.Along.{bridge}
-use Rattle.split.specs.Parts.{cycleAt, bridgeCycle, Cornered, Joining, Bridging}
+use Rattle.split.specs.Parts.{cycleAt, bridgeCycle, Joining, Bridging}
 use Rattle.split.proofs.Arcs.{corner-most, halves-length, whole-arc}
 use Rattle.split.proofs.Places.{steps-within, cornered-room, cornered-cycle}
 

@@ -1,14 +1,14 @@
 -- The corners of a face's cycles: where they stand in the arrays, and their vertices. Assumes nothing.
 use Prim.Native.Nat.{ℕ, zero, suc, _+_, _/_, _%_, _<_, _≤_}
-use mathlib.Core.Path.{_≡_, refl, ap, ap₂, sym, subst, _∙_}
-use mathlib.Core.Bool.{Bool, true, false, cond, _&&_}
-use mathlib.Core.List.{List, [], _∷_, map}
+use mathlib.Core.Path.{_≡_, ap, ap₂, sym, subst, _∙_}
+use mathlib.Core.Bool.{cond}
+use mathlib.Core.List.{List, map}
 use native.Mathlib.Omega.{arith}
 use borrow.Author.Tests.{eqb-true, ne-eqb}
 use lib.Dec.{T, eqb, ltb, ltb→lt}
 use lib.ListN.{length, take, drop, getD, length-map, length-drop, List·getD-map}
 use lib.Seq.{length-take-le, getD-take, getD-drop}
-use Rattle.complex.specs.Cells.{Halfedge, Cycle, Look, cellAt, isOpen, startOf, endOf, tailOf}
+use Rattle.complex.specs.Cells.{Cycle, Look, cellAt, isOpen, tailOf}
 use Rattle.complex.specs.Cells as cells
 use Rattle.complex.specs.Cut.{noCycle, noStep, corner, cornerExists}
 use Rattle.complex.proofs.Bools.{true-of, both}
@@ -16,17 +16,17 @@ use Rattle.store.specs.declared.Drawing.{Drawing}
 use Rattle.store.specs.declared.Index.{Index}
 use Rattle.store.specs.Sizes.{Sizes}
 use Rattle.store.specs.View.{sheetOf, halfedgeOf, width, widthSum, cycleOf}
-use Rattle.sound.specs.Looks.{Looks, told}
+use Rattle.sound.specs.Looks.{Looks}
 use Rattle.sound.specs.Soundness.{soundDrawing}
 use Rattle.sound.proofs.Meaning.{looks}
 use Rattle.cycles.specs.declared.Spans.{Spans}
-use Rattle.outline.specs.Faces.{Named, Spanned, Rows, cyclesAt}
+use Rattle.outline.specs.Faces.{Named, Spanned, Rows}
 use Rattle.outline.specs.Arcs.{cornerVertex}
 use Rattle.outline.proofs.Lists.{at-length}
 use Rattle.outline.proofs.Edits.{rows-in}
 use Rattle.split.specs.declared.Place.{Place}
 use Rattle.split.specs.Parts.{placeOf, cycleAt, Cornered}
-use Rattle.split.proofs.Places.{steps-within, place-room, place-cycle, cornered-room, cornered-cycle}
+use Rattle.split.proofs.Places.{steps-within, place-room, place-cycle}
 
 -- a corner that exists has a number below the cycle's width
 corner-width : (look : Look) (m s : ℕ) (st : List ℕ) → m ≤ length st → T (cornerExists look (cycleOf m st) s) → s < width m

@@ -3,3 +3,4 @@ pub mod Places
 pub mod Parts
 pub mod Bridges
 pub mod Corners
+pub mod Cuts

@@ -16,10 +16,10 @@ use Rattle.script.specs.Walks.{Marks, below}
 use Rattle.script.proofs.Moved.{places-below}
 use Rattle.outline.specs.Faces.{cyclesAt}
 use Rattle.outline.proofs.Lists.{at-length}
-use Rattle.outline.proofs.Moved.{without-kept, chosen-kept, turned-size}
+use Rattle.outline.proofs.Moved.{without-kept, chosen-kept}
 use Rattle.split.specs.declared.Place.{Place}
 use Rattle.split.specs.Along.{nearSide, farSide}
-use Rattle.split.specs.Parts.{cycleAt, nearCycle, farCycle, Cornered, Parting}
+use Rattle.split.specs.Parts.{cycleAt, nearCycle, farCycle, Parting}
 use Rattle.split.proofs.Places.{cornered-cycle}
 
 module _ {cycles steps : List ℕ} {t : Spans} {script : List ℕ} {moved place c : ℕ} {p : Place} {s1 s2 e : ℕ} (r : Parting cycles steps t script moved place c p s1 s2 e) where

@@ -3,7 +3,6 @@ use Prim.Native.Nat.{ℕ, _+_}
 use mathlib.Core.Path.{ap}
 use borrow.Author.Needs.{needs}
 use lib.ListN.{getD}
-use Rattle.split.specs.declared.Place.{Place}
 use Rattle.split.proofs.place_of.Statement.{statement}
 use Rattle.split.proofs.place_of.Tie as tie
 
