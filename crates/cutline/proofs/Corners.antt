@@ -4,7 +4,7 @@ use mathlib.Core.Path.{_≡_, refl, ap, ap₂, sym, _∙_}
 use mathlib.Core.Bool.{Bool, true, false, not, cond, _&&_}
 use mathlib.Core.List.{List, [], _∷_, map}
 use native.Mathlib.Omega.{arith}
-use borrow.Author.Tests.{ltb-true, lt-ltb, le-ltb, ne-eqb}
+use borrow.Author.Tests.{ltb-true, lt-ltb, le-ltb, ne-eqb, not-true, not-false}
 use lib.Dec.{eqb, ltb, ltb→lt}
 use lib.ListN.{length, take, drop, getD, length-drop, length-map, List·getD-map}
 use lib.Seq.{length-take-le, getD-take, getD-drop}
@@ -79,8 +79,8 @@ module _ (d : Drawing) (z : Sizes d) (ix : Index) (f : ℕ) (m : Named d ix f) w
       let s = m .index .sizes in
       record { few = m .fits .cells; ids = s .0; kinds = s .1; starts = s .2; ends = s .3; cycles = s .5; rising = m .rising }
 
-  pub count-told : valueAt 0 (take (d .count) (ix .ids)) (take (d .count) (ix .cycles)) f ≡ length ks
-  count-told = seen .cycles f
+  pub count-told : (k : ℕ) → k ≡ valueAt 0 (take (d .count) (ix .ids)) (take (d .count) (ix .cycles)) f → k ≡ length ks
+  count-told k e = e ∙ seen .cycles f
 
   module _ (t : Spans) (s : Spanned d f t) where
     pub many-cycles : length ks ≡ t .cycles .count
@@ -147,14 +147,17 @@ module _ (look : Look) (ks : List Cycle) (c1 s1 c2 s2 : ℕ) (ms : List ℕ) whe
       go true false true y p = refl
       go true true x y p = refl
 
-  pub first-missing : cornerOn look ks c1 s1 ≡ false → false ≡ cutCorners look ks c1 s1 c2 s2 ms
-  first-missing e = sym (corners-parts ∙ rw e)
+  -- what was answered of each corner
+  module _ (a : Bool) (ea : a ≡ cornerOn look ks c1 s1) where
+    pub first-missing : not a ≡ true → false ≡ cutCorners look ks c1 s1 c2 s2 ms
+    first-missing n = sym (corners-parts ∙ rw (sym ea ∙ not-true a n))
 
-  pub second-missing : cornerOn look ks c1 s1 ≡ true → cornerOn look ks c2 s2 ≡ false → false ≡ cutCorners look ks c1 s1 c2 s2 ms
-  second-missing e g = sym (corners-parts ∙ rw (e, g))
+    module _ (na : not a ≡ false) (b : Bool) (eb : b ≡ cornerOn look ks c2 s2) where
+      pub second-missing : not b ≡ true → false ≡ cutCorners look ks c1 s1 c2 s2 ms
+      second-missing n = sym (corners-parts ∙ rw (sym ea ∙ not-false a na, sym eb ∙ not-true b n))
 
-  pub both-there : cornerOn look ks c1 s1 ≡ true → cornerOn look ks c2 s2 ≡ true → (k : ℕ) → k ≡ length ks → (b : Bool) → b ≡ movedFit k c1 c2 ms → b ≡ cutCorners look ks c1 s1 c2 s2 ms
-  both-there e g k ek b eb = eb ∙ ap (λ (n : ℕ). movedFit n c1 c2 ms) ek ∙ sym (corners-parts ∙ rw (e, g))
+      pub both-there : not b ≡ false → (k : ℕ) → k ≡ length ks → (r : Bool) → r ≡ movedFit k c1 c2 ms → r ≡ cutCorners look ks c1 s1 c2 s2 ms
+      both-there nb k ek r er = er ∙ ap (λ (n : ℕ). movedFit n c1 c2 ms) ek ∙ sym (corners-parts ∙ rw (sym ea ∙ not-false a na, sym eb ∙ not-false b nb))
 
   -- both cycles exist
   pub cycles-there : cutCorners look ks c1 s1 c2 s2 ms ≡ true → (c1 < length ks) × (c2 < length ks)

@@ -1,4 +1,4 @@
--- 0C: question 5 in parts. Definitions only.
+-- 0C: question 5 by its parts. Definitions only.
 use Prim.Native.Nat.{ℕ}
 use mathlib.Core.Bool.{Bool, not, _&&_, cond}
 use mathlib.Core.List.{List}

@@ -1,7 +1,5 @@
 -- `corners_exist` meets its contract. Assumes nothing.
 use borrow.Author.Needs.{needs}
-use borrow.Author.Tests.{not-true, not-false}
-use mathlib.Core.Path.{sym, _∙_}
 use Rattle.complex.specs.Cells.{cellAt, cyclesOf}
 use Rattle.store.specs.View.{sheetOf}
 use Rattle.store.proofs.Sizes.{sizes}
@@ -18,7 +16,8 @@ returns c =
     let o = c .before in
     let a = o .before .before .args in
     let s = sheetOf (a .d) in
-    first-missing (cellAt s) (cyclesOf (cellAt s (a .f))) (a .c1) (a .s1) (a .c2) (a .s2) (numbersRead (a .script .now) (a .place) (a .moved)) (sym (o .corner-on .ensures) ∙ not-true _ (c .if1 .taken))
+    first-missing (cellAt s) (cyclesOf (cellAt s (a .f))) (a .c1) (a .s1) (a .c2) (a .s2) (numbersRead (a .script .now) (a .place) (a .moved))
+    (o .corner-on .result) (o .corner-on .ensures) (c .if1 .taken)
 
 corner-on-requires-2 : tie.Need-corner-on-requires-2
 corner-on-requires-2 c κs = search needs
@@ -29,8 +28,8 @@ returns-2 c =
     let o = o2 .before .before in
     let a = o .before .before .args in
     let s = sheetOf (a .d) in
-    second-missing (cellAt s) (cyclesOf (cellAt s (a .f))) (a .c1) (a .s1) (a .c2) (a .s2) (numbersRead (a .script .now) (a .place) (a .moved)) (sym (o .corner-on .ensures) ∙ not-false _ (o2 .before .if1 .left))
-    (sym (o2 .corner-on2 .ensures) ∙ not-true _ (c .if2 .taken))
+    second-missing (cellAt s) (cyclesOf (cellAt s (a .f))) (a .c1) (a .s1) (a .c2) (a .s2) (numbersRead (a .script .now) (a .place) (a .moved))
+    (o .corner-on .result) (o .corner-on .ensures) (o2 .before .if1 .left) (o2 .corner-on2 .result) (o2 .corner-on2 .ensures) (c .if2 .taken)
 
 value-at-requires : tie.Need-value-at-requires
 value-at-requires c κs = search needs
@@ -47,8 +46,9 @@ returns-3 c =
     let st = o .before .before in
     let a = st .args in
     let s = sheetOf (a .d) in
-    both-there (cellAt s) (cyclesOf (cellAt s (a .f))) (a .c1) (a .s1) (a .c2) (a .s2) (numbersRead (a .script .now) (a .place) (a .moved)) (sym (o .corner-on .ensures) ∙ not-false _ (o2 .before .if1 .left))
-    (sym (o2 .corner-on2 .ensures) ∙ not-false _ (e .if2 .left)) (v .value-at .result) (v .value-at .ensures ∙ count-told (a .d) (sizes (a .d) _ (st .good .0)) (a .ix) (a .f) (st .pre .0)) (c .moved-fit .result) (c .moved-fit .ensures)
+    both-there (cellAt s) (cyclesOf (cellAt s (a .f))) (a .c1) (a .s1) (a .c2) (a .s2) (numbersRead (a .script .now) (a .place) (a .moved))
+    (o .corner-on .result) (o .corner-on .ensures) (o2 .before .if1 .left) (o2 .corner-on2 .result) (o2 .corner-on2 .ensures) (e .if2 .left)
+    (v .value-at .result) (count-told (a .d) (sizes (a .d) _ (st .good .0)) (a .ix) (a .f) (st .pre .0) (v .value-at .result) (v .value-at .ensures)) (c .moved-fit .result) (c .moved-fit .ensures)
 
 pub corners-exist-spec : {M : Type 1} → statement M
 corners-exist-spec =
