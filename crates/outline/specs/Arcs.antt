@@ -1,19 +1,21 @@
--- 0C: arcs of a cycle, and its corners, in the arrays. Definitions only.
+-- Arcs of a cycle, its corners, and another cycle in its place, in the arrays. Definitions only.
 use Prim.Native.Nat.{ℕ, _+_, _/_, _%_, _≤_, _<_}
 use mathlib.Core.Path.{_≡_}
 use mathlib.Core.Bool.{Bool, false, cond, _&&_}
 use mathlib.Core.List.{List, _++_}
 use lib.Dec.{eqb, ltb}
-use lib.ListN.{length, take, drop, getD}
-use Rattle.complex.specs.Lists.{rotated}
+use lib.ListN.{length, take, drop, getD, set}
+use Rattle.complex.specs.Lists.{rotated, total}
+use Rattle.complex.specs.Sound.{stepCount}
+use Rattle.complex.specs.Cut.{noCycle}
 use Rattle.store.specs.declared.Index.{Index}
 use Rattle.store.specs.Index.{valueAt}
 use Rattle.store.specs.View.{width, widthSum}
 use Rattle.store.specs.Edits.{kept}
 use Rattle.cycles.specs.declared.Used.{Used}
 use Rattle.cycles.specs.declared.Spans.{Spans}
-use Rattle.cycles.specs.Building.{Building}
-use Rattle.outline.specs.Faces.{Within}
+use Rattle.cycles.specs.Building.{Building, built}
+use Rattle.outline.specs.Faces.{Within, cyclesAt}
 
 -- len of the n steps at a place, from one of them on and round the end
 abbrev pub arcOf : List ℕ → ℕ → ℕ → ℕ → ℕ → List ℕ
@@ -54,17 +56,17 @@ pub record CopyRoom (cycles steps : List ℕ) (from k step : ℕ) (skip : List B
   pub cycleRoom : u .cycles + length (kept (take k skip) (take k (drop from cycles))) ≤ 512
   pub stepRoom : u .steps + widthSum (kept (take k skip) (take k (drop from cycles))) ≤ 2048
 
--- cycle c of the spans has m steps at a place, it is not flagged, and there is room for an arc of it and a step
-pub record Split (cycles steps : List ℕ) (t : Spans) (flags : List Bool) (c m at from len : ℕ) : Type 0 where
+-- cycle c of the spans has m steps at a place, it is not flagged, and there is room for the one cycle of a list instead
+pub record Placed (cycles steps : List ℕ) (t : Spans) (flags : List Bool) (c m at : ℕ) (counts : List ℕ) (u : Used) (out : List ℕ) : Type 0 where
   pub within : Within cycles steps t
   pub flagsSize : length flags ≡ 512
   pub cycle : c < t .cycles .count
   pub number : getD cycles (t .cycles .first + c) 0 ≡ m
   pub place : t .steps .first + widthSum (take c (drop (t .cycles .first) cycles)) ≡ at
   pub stays : getD flags c false ≡ false
-  pub start : from ≤ m
-  pub least : len ≤ m
-  pub room : t .steps .count + len < 2048 + width m
+  pub building : Building counts u out
+  pub single : u .cycles ≡ 1
+  pub room : total stepCount (kept (take (t .cycles .count) flags) (set (cyclesAt cycles steps t) c (getD (built counts u out) 0 noCycle))) ≤ 2048
 
 -- whether a cycle of m steps at a place has the corner s, by the rows of an index
 abbrev pub cornerIn : Index → ℕ → ℕ → List ℕ → ℕ → ℕ → Bool

@@ -3,16 +3,17 @@ ghost use mathlib.Core.Bool.{not};
 ghost use mathlib.Core.List.{_++_, [], map};
 ghost use Prim.Native.Nat.{_+_, _<_, _≤_};
 ghost use lib.Dec.{eqb};
-ghost use lib.ListN.{length, take, drop, set};
+ghost use lib.ListN.{length, take, drop, set, getD};
 ghost use Rattle.complex.specs.Lists.{one};
 ghost use Rattle.complex.specs.Cells.{path, face};
+ghost use Rattle.complex.specs.Cut.{noCycle};
 ghost use Rattle.store.specs.View.{sheetOf, Fits, halfedgeOf, width, widthSum, cyclesOf};
 ghost use Rattle.store.specs.Edits.{kept, appended};
 ghost use Rattle.store.specs.Index.{valueAt};
 ghost use Rattle.cycles.specs.Building.{Building, Built, built, more};
 ghost use Rattle.append.specs.Appends.{Room};
 ghost use Rattle.outline.specs.Faces.{Named, Within, Spanned, cyclesAt, recycled, Roomy, Rows};
-ghost use Rattle.outline.specs.Arcs.{arcOf, Arc, Pasted, ArcRoom, CopyRoom, Split, cornerIn, cornerVertex};
+ghost use Rattle.outline.specs.Arcs.{arcOf, Arc, Pasted, ArcRoom, CopyRoom, Placed, cornerIn, cornerVertex};
 use cycles::Spans;
 use cycles::Used;
 use store::Drawing;
@@ -246,8 +247,8 @@ pub fn after(at: usize, m: usize) -> usize
     at + m
 }
 
-// The cycles of a span that are not flagged; in the place of cycle c, of m steps at a place, an arc of it and then a step.
-pub fn with_arc<'a>(
+// The cycles of a span that are not flagged; in the place of cycle c, of m steps at a place, the one cycle of a list.
+pub fn with_cycle<'a>(
     cycles: &'a [u32; 512],
     steps: &'a [u32; 2048],
     t: Spans,
@@ -255,17 +256,16 @@ pub fn with_arc<'a>(
     c: usize,
     m: usize,
     at: usize,
-    from: usize,
-    len: usize,
-    h: u32,
+    l: Listed,
 ) -> Listed
-    requires { ⌜ Split (now cycles) (now steps) t (now flags) c m at from len ⌝ }
-    ensures { λ r. ⌜ Built (kept (take (t .cycles .count) (now (flags .entry))) (set (cyclesAt (now (cycles .entry)) (now (steps .entry)) t) c (path (map halfedgeOf (arcOf (now (steps .entry)) at m from len) ++ one (halfedgeOf h))))) (r .counts) (r .used) (r .steps) ⌝ }
+    requires { ⌜ Placed (now cycles) (now steps) t (now flags) c m at (l .counts) (l .used) (l .steps) ⌝ }
+    ensures { λ r. ⌜ Built (kept (take (t .cycles .count) (now (flags .entry))) (set (cyclesAt (now (cycles .entry)) (now (steps .entry)) t) c (getD (built (l .counts) (l .used) (l .steps)) 0 noCycle))) (r .counts) (r .used) (r .steps) ⌝ }
 {
     let k = t.cycles;
     let s = t.steps;
     let before = and_cycles(cycles, steps, k.first, c, s.first, flags, no_cycles());
-    let arc = and_arc(steps, at, m, from, len, h, before);
+    let stays = [false; 1];
+    let put = and_cycles(&l.counts, &l.steps, 0, 1, 0, &stays, before);
     let next = c + 1;
     let end = after(at, m);
     and_cycles(
@@ -275,6 +275,6 @@ pub fn with_arc<'a>(
         k.count - next,
         end,
         &flags[next..],
-        arc,
+        put,
     )
 }

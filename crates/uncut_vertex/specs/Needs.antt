@@ -3,7 +3,6 @@ use Prim.Native.Nat.{ℕ, _<_}
 use mathlib.Core.Path.{_≡_}
 use mathlib.Core.Bool.{Bool, true, false, _&&_}
 use mathlib.Core.List.{[], _∷_}
-use lib.Dec.{T}
 use Rattle.coordinate.specs.declared.Position.{Position}
 use Rattle.complex.specs.Cells.{openEdge, closedEdge, cellAt, bendsOf, positionOf, ids}
 use Rattle.complex.specs.Edits.{others, both, rewired, sameVertex, inPlaceOf, reshape}
@@ -16,18 +15,10 @@ use Rattle.append.specs.Runs.{runsOf, InRange}
 use Rattle.store.specs.declared.Drawing.{Drawing}
 use Rattle.store.specs.Index.{rowOf}
 use Rattle.store.specs.View.{sheetOf}
-use Rattle.sound.specs.Soundness.{soundDrawing}
 use Rattle.append.specs.Appends.{remade, RoomIn}
+pub use Rattle.dropping.specs.Rows.{Pair}
 
--- the rows of two cells of a sound drawing
-pub record Pair (d : Drawing) (i a j b : ℕ) : Type 0 where
-  pub sound : T (soundDrawing d)
-  pub first : a ≡ rowOf i (ids (sheetOf d .cells))
-  pub firstIn : a < d .count
-  pub second : b ≡ rowOf j (ids (sheetOf d .cells))
-  pub secondIn : b < d .count
-
--- and that of a third
+-- the rows of three cells of a sound drawing
 pub record Triple (d : Drawing) (i a j b k c : ℕ) : Type 0 where
   pub pair : Pair d i a j b
   pub third : c ≡ rowOf k (ids (sheetOf d .cells))

@@ -16,18 +16,6 @@ ghost use Rattle.uncut_vertex.specs.Needs.{Pair, Triple, allBut, Looped,
 use coordinate::Position;
 use store::Drawing;
 
-// The flags of two dead rows.
-fn dead_rows(a: usize, b: usize) -> [bool; 256]
-    requires { ⌜ a < 256 ⌝ }
-    requires { ⌜ b < 256 ⌝ }
-    ensures { λ r. ⌜ r ≡ set (set (replicate 256 false) a true) b true ⌝ }
-{
-    let mut dead = [false; 256];
-    dead[a] = true;
-    dead[b] = true;
-    dead
-}
-
 // The steps of e become those of the next cell, and the vertex v and e go; a and b are their rows.
 fn swap_out(d: Drawing, v: u32, a: usize, e: u32, b: usize) -> Drawing
     requires { ⌜ Pair d v a e b ⌝ }
@@ -37,7 +25,7 @@ fn swap_out(d: Drawing, v: u32, a: usize, e: u32, b: usize) -> Drawing
 {
     let next = d.next;
     let mid = rewire::swap_edge(d, e, next, false);
-    let dead = dead_rows(a, b);
+    let dead = dropping::dead_rows(a, b);
     keep::keep(mid, dead)
 }
 
