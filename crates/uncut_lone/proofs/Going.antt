@@ -46,6 +46,7 @@ use Rattle.outline.proofs.Lists.{at-length}
 use Rattle.outline.proofs.Rows.{roomy}
 use Rattle.outline.proofs.Edits.{named-in}
 use Rattle.outline.proofs.Late.{sound-in, next-in, Asked, room}
+use Rattle.dropping.proofs.Dropped.{remade-rebuild}
 use Rattle.uncut_case.proofs.Passing.{uncut-passed, uncut-new, uncut-change, uncut-result}
 use Rattle.uncut_case.proofs.Meaning.{cycles-held}
 use Rattle.uncut_lone.specs.declared.Held.{Held}
@@ -150,3 +151,8 @@ module _ (d : Drawing) (z : Sizes d) (w : T (soundDrawing d)) (v : ℕ) (e : unc
         fewer a b k c ha hb hk hc =
             ap₂ _&&_ (le-leb (a + 0 - 1) cellsMost (omega arith))
             (ap₂ _&&_ (le-leb (b + 0 - 1) cyclesMost (omega arith)) (ap₂ _&&_ (le-leb (k + 0 - 1) stepsMost (omega arith)) (le-leb (c + 0 - 0) bendsMost (omega arith))))
+
+    pub roomed : (f : ℕ) (ks : List Cycle) → uncutResult (sheetOf d) v lonely ≡ rebuild (both v v) (replaced f (face ks)) [] (sheetOf d) → Roomy (rebuild (both v v) (replaced f (face ks)) [] (sheetOf d))
+    roomed f ks q =
+        let g = replaced f (face ks) in
+        subst Roomy (remade-rebuild (both v v) g (sheetOf d)) (roomy (remade (both v v) g (sheetOf d)) [] (room d z w (uncut v) 0 asked refl (both v v) g [] (uncut-result (sheetOf d) v lonely e ∙ q)))
