@@ -5,43 +5,38 @@ use mathlib.Core.Bool.{Bool, true, _&&_, cond}
 use mathlib.Core.List.{List, []}
 use mathlib.Core.Option.{some}
 use native.Mathlib.Omega.{arith}
-use lib.Dec.{T, leb}
+use lib.Dec.{T}
 use lib.ListN.{length, take, getD}
 use lib.Seq.{getD-take}
 use borrow.Author.Tests.{le-leb}
 use Rattle.coordinate.specs.declared.Position.{Position}
 use Rattle.complex.specs.Lists.{total, one, without}
-use Rattle.complex.specs.Cells.{Cycle, Figure, vertex, face, LiveCell, Sheet, cellAt, ids, isFace, isLive}
+use Rattle.complex.specs.Cells.{Cycle, vertex, face, Sheet, cellAt, ids, isFace, isLive}
 use Rattle.complex.specs.Cells as cells
 use Rattle.complex.specs.Edits.{rebuild, both, replaced}
 use Rattle.complex.specs.Sound.{idsEnd, cellsMost, cyclesMost, stepsMost, bendsMost}
 use Rattle.complex.specs.Sizes.{sized, sizesFit, moreLess, changedBy}
 use Rattle.complex.specs.Decode.{uncut}
-use Rattle.complex.specs.Commands.{result}
 use Rattle.complex.specs.Uses.{loneUse, usesBy, allCycles}
 use Rattle.complex.specs.Uncut.{lonely, uncutCase, uncutResult}
 use Rattle.complex.proofs.Bools.{truth}
-use Rattle.complex.proofs.Keep.{Sound}
 use Rattle.complex.proofs.Uncut.{Holds, is-lonely, uncut-holds}
 use Rattle.store.specs.declared.Drawing.{Drawing}
 use Rattle.store.specs.declared.Cell.{Cell}
 use Rattle.store.specs.declared.Index.{Index}
-use Rattle.store.specs.Index.{Indexes, Rising}
+use Rattle.store.specs.Index.{Indexes}
 use Rattle.store.specs.Sizes.{Sizes}
-use Rattle.store.specs.View.{sheetOf, Fits, cyclesOf, cycleCount, cycleTotal, widthSum}
+use Rattle.store.specs.View.{sheetOf, cyclesOf, cycleCount, widthSum}
 use Rattle.store.specs.Edits.{placesOf}
 use Rattle.store.proofs.Lists.{places-sum, width-places}
 use Rattle.store.proofs.Stands.{stands, count-is, ids-same}
 use Rattle.sound.specs.Soundness.{soundDrawing}
-use Rattle.sound.proofs.Parts.{cycleRow}
-use Rattle.sound.proofs.Meaning.{sound-fits, looks, cycles-are}
-use Rattle.cycles.specs.declared.Used.{Used}
+use Rattle.sound.proofs.Meaning.{sound-fits, cycles-are}
 use Rattle.cycles.specs.declared.Spans.{Spans}
-use Rattle.cycles.specs.Building.{Built, built}
-use Rattle.append.specs.Appends.{remade, RoomIn}
-use Rattle.answer.specs.Late.{sizesBy, lateNo, Summed}
+use Rattle.append.specs.Appends.{remade}
+use Rattle.answer.specs.Late.{Summed}
 use Rattle.answer.proofs.Laws.{summed, totalsIn}
-use Rattle.outline.specs.Faces.{Named, Within, Spanned, cyclesAt, Roomy}
+use Rattle.outline.specs.Faces.{Named, Spanned, cyclesAt, Roomy}
 use Rattle.outline.proofs.Lists.{at-length}
 use Rattle.outline.proofs.Rows.{roomy}
 use Rattle.outline.proofs.Edits.{named-in}

@@ -5,11 +5,10 @@ use mathlib.Core.Bool.{Bool, true, false, _||_}
 use mathlib.Core.List.{List, [], _++_}
 use native.Mathlib.Omega.{arith}
 use lib.Dec.{eqb}
-use lib.ListN.{length, take, getD, set, replicate, length-set, length-replicate, getD-replicate}
+use lib.ListN.{take, getD, set, replicate, length-set, length-replicate, getD-replicate}
 use lib.Seq.{getD-set-same, getD-set-other}
 use borrow.Author.Tests.{eqb-true, eqb-false}
-use Rattle.complex.specs.Lists.{one, holds, without}
-use Rattle.complex.specs.Cells.{Cycle}
+use Rattle.complex.specs.Lists.{one, without}
 use Rattle.store.specs.Edits.{kept}
 use Rattle.script.specs.Walks.{Marks}
 use Rattle.cycles.specs.declared.Used.{Used}

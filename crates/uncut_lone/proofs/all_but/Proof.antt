@@ -3,8 +3,6 @@ use borrow.Author.Needs.{needs}
 use Rattle.uncut_lone.proofs.Listing.{but-asks, but-built}
 use Rattle.uncut_lone.proofs.all_but.Statement.{statement}
 use Rattle.uncut_lone.proofs.all_but.Tie as tie
-use Rattle.uncut_lone.proofs.all_but.Reads as reads
-use Rattle.uncut_lone.proofs.all_but.Lts as lts
 
 array-write-skip : tie.Need-array-write-skip
 array-write-skip c = search needs
