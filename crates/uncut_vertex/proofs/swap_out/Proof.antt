@@ -10,7 +10,7 @@ use Rattle.store.specs.View.{sheetOf}
 use Rattle.store.proofs.Sizes.{sizes}
 use Rattle.store.proofs.Grow.{next-is}
 use Rattle.sound.proofs.Meaning.{sound-fits}
-use Rattle.uncut_vertex.proofs.Dropping.{dropped-both}
+use Rattle.dropping.proofs.Both.{dropped-both}
 use Rattle.uncut_vertex.proofs.Joining.{next-most}
 use mathlib.Core.Path.{sym}
 use Rattle.uncut_vertex.proofs.swap_out.Statement.{statement}
