@@ -2,19 +2,18 @@
 use Prim.Native.Nat.{ℕ, suc, _+_, _-_, _≤_}
 use mathlib.Core.Path.{_≡_, refl, ap, ap₂, sym, subst, _∙_}
 use mathlib.Core.Bool.{Bool, true, false, _&&_, cond}
-use mathlib.Core.List.{List, []}
+use mathlib.Core.List.{[]}
 use native.Mathlib.Omega.{arith}
 use borrow.Author.Tests.{le-leb}
 use lib.Dec.{T, leb, eqb}
 use lib.ListN.{length}
 use Rattle.complex.specs.Lists.{distance}
-use Rattle.complex.specs.Cells.{Figure, Sheet, cellAt}
+use Rattle.complex.specs.Cells.{Figure, cellAt}
 use Rattle.complex.specs.Edits.{rebuild}
 use Rattle.complex.specs.Sound.{idsEnd, cellsMost, cyclesMost, stepsMost, bendsMost}
 use Rattle.complex.specs.Decode.{uncut}
 use Rattle.complex.specs.Uncut.{Uncut, twoFaces, oneCycle, rings, uncutCase, uncutResult, allowed, cycleOfUse}
-use Rattle.complex.specs.Sizes.{Sizes as Counted, Change, sized, nothing, moreLess, changedBy, sizesFit, aloneLeft, bendCount, newByUncut, uncutChange}
-use Rattle.complex.specs.Uses.{Use as Used}
+use Rattle.complex.specs.Sizes.{Sizes as Counted, Change, sized, nothing, moreLess, changedBy, sizesFit, aloneLeft, newByUncut, uncutChange}
 use Rattle.store.specs.declared.Drawing.{Drawing}
 use Rattle.store.specs.declared.Index.{Index}
 use Rattle.store.specs.Index.{Indexes}
@@ -23,7 +22,7 @@ use Rattle.store.specs.View.{sheetOf, Fits}
 use Rattle.sound.specs.Soundness.{soundDrawing}
 use Rattle.sound.proofs.Meaning.{sound-fits}
 use Rattle.append.specs.Appends.{remade}
-use Rattle.append.proofs.Rooms.{Below, below}
+use Rattle.append.proofs.Rooms.{below}
 use Rattle.dropping.proofs.Dropped.{remade-rebuild}
 use Rattle.answer.specs.declared.Answer.{Answer}
 use Rattle.answer.specs.declared.Totals.{Totals}

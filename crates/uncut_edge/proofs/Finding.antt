@@ -19,7 +19,7 @@ use Rattle.cycles.specs.declared.Used.{Used}
 use Rattle.cycles.specs.declared.Spans.{Spans}
 use Rattle.cycles.proofs.Building.{cycle-at}
 use Rattle.dropping.proofs.Dropped.{live-below, row-among}
-use Rattle.outline.specs.Faces.{Spanned, cyclesAt}
+use Rattle.outline.specs.Faces.{Spanned}
 use Rattle.outline.proofs.Lists.{at-length}
 use Rattle.reface.specs.Needs.{Refaced}
 use Rattle.uncut_cycles.specs.declared.Place.{Place}

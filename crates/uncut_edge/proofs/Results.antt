@@ -1,18 +1,17 @@
 -- The face that stays, with the cycles that are left. Assumes nothing.
 use Prim.Native.Nat.{ℕ, suc, _+_, _<_, _≤_}
 use mathlib.Core.Path.{_≡_, refl, ap, ap₂, sym, subst, _∙_}
-use mathlib.Core.Bool.{Bool, true, false, _&&_, cond, false≢true}
+use mathlib.Core.Bool.{Bool, true, false, _&&_, cond}
 use mathlib.Core.List.{List, [], _∷_, _++_}
-use mathlib.Core.Option.{Option, none, some}
+use mathlib.Core.Option.{some}
 use native.Mathlib.Omega.{arith}
 use borrow.Author.Tests.{eq-eqb}
 use lib.Dec.{T, eqb}
 use lib.ListN.{length, getD, set}
 use Rattle.complex.specs.Lists.{one, without}
-use Rattle.complex.specs.Cells.{Halfedge, Cycle, Figure, face, LiveCell, Sheet, someIf, lookup, cellAt, cyclesOf, stepsOf, isEdge, isFace}
+use Rattle.complex.specs.Cells.{Cycle, Figure, face, LiveCell, Sheet, someIf, lookup, cellAt, cyclesOf, stepsOf, isEdge}
 use Rattle.complex.specs.Edits.{others, both, replaced, rebuild}
 use Rattle.complex.specs.Sound.{cyclesIn, stepsIn, over}
-use Rattle.complex.specs.Uses.{Use as Used}
 use Rattle.complex.specs.Cut.{noCycle, stretch}
 use Rattle.complex.specs.Uncut.{twoFaces, oneCycle, rings, uncutResult, pathOr}
 use Rattle.complex.proofs.Bools.{truth}
@@ -26,14 +25,14 @@ use Rattle.store.specs.View.{sheetOf}
 use Rattle.sound.specs.Soundness.{soundDrawing}
 use Rattle.sound.proofs.Meaning.{looks}
 use Rattle.cycles.specs.declared.Used.{Used as Taken}
-use Rattle.cycles.specs.Building.{Building, Built, built}
-use Rattle.outline.specs.Faces.{Named, Roomy, Rows}
+use Rattle.cycles.specs.Building.{Built, built}
+use Rattle.outline.specs.Faces.{Roomy, Rows}
 use Rattle.outline.proofs.Edits.{rows-in, named-in}
 use Rattle.outline.proofs.Late.{sound-in}
 use Rattle.outline.proofs.Lists.{built-as}
 use Rattle.uncut_case.specs.declared.Use.{Use}
 use Rattle.uncut_cycles.specs.declared.Place.{Place}
-use Rattle.uncut_cycles.specs.Paths.{Few, listAt, stepsAt, followingIn, mergedList, Merging, partedList, Parting, ringedList, Ringing}
+use Rattle.uncut_cycles.specs.Paths.{Few, followingIn, mergedList, Merging, partedList, Parting, ringedList, Ringing}
 use Rattle.uncut_cycles.proofs.Lists.{steps-length}
 use Rattle.uncut_edge.specs.Needs.{useAt, headIn, joinedCycles, partedCycles, ringlessCycles, Case, Has, Found, Going}
 use Rattle.uncut_edge.proofs.Told.{Apart, Together, told, edge-in, face-of, face-in, cycle-of, some-of, stays-alone, stays-with}

@@ -1,14 +1,13 @@
 -- What the case of 0E tells of an edge and its two uses. Assumes nothing.
 use Prim.Native.Nat.{ℕ, _≤_, _<_}
-use mathlib.Core.Path.{_≡_, refl, ap, ap₂, sym, subst, _∙_}
+use mathlib.Core.Path.{_≡_, refl, ap, ap₂, subst, _∙_}
 use mathlib.Core.Bool.{Bool, true, not, _&&_, false≢true}
-use mathlib.Core.List.{List}
 use mathlib.Core.Option.{Option, none, some}
 use native.Mathlib.Omega.{arith}
 use borrow.Author.Tests.{ne-eqb}
-use lib.Dec.{T, eqb}
+use lib.Dec.{T}
 use lib.ListN.{length, getD}
-use Rattle.complex.specs.Cells.{Cycle, Figure, vertex, openEdge, closedEdge, face, Sheet, cellAt, cyclesOf, stepsOf, isEdge, isFace, isLive}
+use Rattle.complex.specs.Cells.{Figure, vertex, openEdge, closedEdge, face, Sheet, cellAt, cyclesOf, stepsOf, isEdge, isFace, isLive}
 use Rattle.complex.specs.Edits.{both}
 use Rattle.complex.specs.Uses.{Use as Used}
 use Rattle.complex.specs.Cut.{noCycle}

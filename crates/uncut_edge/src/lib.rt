@@ -82,8 +82,8 @@ fn join_faces(d: Drawing, ix: Index, e: u32, u: Use, w: Use) -> Drawing
     ensures { λ r. ⌜ sheetOf r ≡ uncutResult (sheetOf d) e (twoFaces (useAt e u) (useAt e w)) ⌝ }
     ensures { λ r. ⌜ Fits r ⌝ }
 {
-    let l = joined(d, ix, e, u, w);
-    without_cells(d, ix, e, w.face, u.face, l)
+    let all = joined(d, ix, e, u, w);
+    without_cells(d, ix, e, w.face, u.face, all)
 }
 
 // The result is never too large.
@@ -106,9 +106,9 @@ fn parted(d: Drawing, ix: Index, e: u32, u: Use, w: Use) -> Listed
     ensures { λ r. ⌜ Built (partedCycles (cellAt (sheetOf d)) (useAt e u) (useAt e w)) (r .counts) (r .used) (r .steps) ⌝ }
 {
     let p = place_of(d, ix, u.face, u.cycle);
-    let v = head_of(ix, d.count, e, u.back);
-    let x = head_of(ix, d.count, e, w.back);
-    uncut_cycles::parted_cycles(&d.cycles, &d.steps, p, u.step, w.step, v, x)
+    let here = head_of(ix, d.count, e, u.back);
+    let last = head_of(ix, d.count, e, w.back);
+    uncut_cycles::parted_cycles(&d.cycles, &d.steps, p, u.step, w.step, here, last)
 }
 
 fn part_cycle(d: Drawing, ix: Index, e: u32, u: Use, w: Use) -> Drawing
@@ -116,8 +116,8 @@ fn part_cycle(d: Drawing, ix: Index, e: u32, u: Use, w: Use) -> Drawing
     ensures { λ r. ⌜ sheetOf r ≡ uncutResult (sheetOf d) e (oneCycle (useAt e u) (useAt e w)) ⌝ }
     ensures { λ r. ⌜ Fits r ⌝ }
 {
-    let l = parted(d, ix, e, u, w);
-    without_cells(d, ix, e, e, u.face, l)
+    let two = parted(d, ix, e, u, w);
+    without_cells(d, ix, e, e, u.face, two)
 }
 
 // Of the sizes only the number of cycles grows, by one.
@@ -166,8 +166,8 @@ fn drop_rings(d: Drawing, ix: Index, e: u32, u: Use, w: Use) -> Drawing
     ensures { λ r. ⌜ sheetOf r ≡ uncutResult (sheetOf d) e (rings (useAt e u) (useAt e w)) ⌝ }
     ensures { λ r. ⌜ Fits r ⌝ }
 {
-    let l = ringless(d, ix, e, u, w);
-    without_cells(d, ix, e, w.face, u.face, l)
+    let rest = ringless(d, ix, e, u, w);
+    without_cells(d, ix, e, w.face, u.face, rest)
 }
 
 // The result is never too large.

@@ -1,7 +1,6 @@
 -- `place_of` meets its contract. Assumes nothing.
 use borrow.Author.Needs.{needs}
 use native.Mathlib.Omega.{arith}
-use mathlib.Core.Path.{_∙_}
 use Rattle.store.proofs.Sizes.{sizes}
 use Rattle.uncut_edge.proofs.Finding.{place-asks, index-in, found}
 use Rattle.uncut_edge.proofs.place_of.Statement.{statement}

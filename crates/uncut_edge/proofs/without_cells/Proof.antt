@@ -1,5 +1,4 @@
 -- `without_cells` meets its contract. Assumes nothing.
-use borrow.Author.Needs.{needs}
 use Rattle.store.proofs.Sizes.{sizes}
 use Rattle.sound.proofs.Meaning.{sound-fits, looks}
 use Rattle.uncut_edge.proofs.Finding.{going}
