@@ -18,7 +18,7 @@ use Rattle.uncut_case.specs.declared.AtVertex.{AtVertex}
 use Rattle.uncut_case.specs.declared.AtVertex.the-variants.{Refused, Lonely, Loop, Joint}
 use Rattle.uncut_case.specs.Found.{useOf}
 use Rattle.uncut_case.specs.Cases.{vertexCase, edgeCase}
-use Rattle.uncut_edge.specs.Uses.{useAt}
+use Rattle.uncut_edge.specs.Needs.{useAt}
 
 -- ---- a vertex
 abbrev pub vertexOf : AtVertex → Uncut
