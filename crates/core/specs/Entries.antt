@@ -4,6 +4,7 @@ use mathlib.Core.Path.{_≡_}
 use mathlib.Core.Bool.{cond}
 use mathlib.Core.List.{List}
 use lib.Dec.{T}
+use Rattle.complex.specs.Cells.{empty}
 use Rattle.complex.specs.Answer.{Answer as Said, no, command, rest}
 use Rattle.store.specs.declared.Drawing.{Drawing}
 use Rattle.store.specs.View.{sheetOf}
@@ -24,3 +25,8 @@ pub record Commanded (d : Drawing) (bytes : List ℕ) (r : Answer) : Type 0 wher
   pub said : saidBy r ≡ commandOn d bytes
   pub back : (r .number ≡ 0 → ⊥) → r .drawing ≡ d
   pub sound : T (soundDrawing d) → T (soundDrawing (r .drawing))
+
+-- the empty drawing
+pub record Empty (d : Drawing) : Type 0 where
+  pub sheet : sheetOf d ≡ empty
+  pub sound : T (soundDrawing d)

@@ -32,7 +32,7 @@ module _ (steps : List ℕ) (base n from len : ℕ) (z : length steps ≡ 2048) 
   front : (k : ℕ) → from + k ≤ n → take k (drop from round) ≡ take k (drop (base + from) steps)
   front k g = run-take k from n (drop base steps) g ∙ ap (take k) (drop-drop from base steps)
 
-  arc-length : length (arcOf steps base n from len) ≡ len
+  pub arc-length : length (arcOf steps base n from len) ≡ len
   arc-length =
       let r = round-length in
       let e = length-append (drop from round) (take from round) in

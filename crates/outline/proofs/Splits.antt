@@ -45,7 +45,7 @@ front-about {A} l z i k h g =
     (sym (take-all (k - (i + 1)) r (omega arith)) ∙ run-take (k - (i + 1)) (suc i) k l (omega arith) ∙ ap (λ (n : ℕ). take (k - (i + 1)) (drop n l)) (sym (add-one i))))
 
 -- what is kept of cycles that are read has as many steps as its counts are wide
-kept-steps : (bs : List Bool) (ns st : List ℕ) → widthSum ns ≤ length st → total stepCount (kept bs (cyclesOf ns st)) ≡ widthSum (kept bs ns)
+pub kept-steps : (bs : List Bool) (ns st : List ℕ) → widthSum ns ≤ length st → total stepCount (kept bs (cyclesOf ns st)) ≡ widthSum (kept bs ns)
 kept-steps [] ns st h = refl
 kept-steps (b ∷ bs) [] st h = refl
 kept-steps (b ∷ bs) (n ∷ ns) st h = go b (list-steps (n ∷ []) st (omega arith)) (kept-steps bs ns (drop (width n) st) (omega (arith, length-drop (width n) st)))

@@ -10,7 +10,7 @@ use Rattle.complex.specs.Sound.{stepCount}
 use Rattle.complex.specs.Cut.{noCycle}
 use Rattle.store.specs.declared.Index.{Index}
 use Rattle.store.specs.Index.{valueAt}
-use Rattle.store.specs.View.{width, widthSum}
+use Rattle.store.specs.View.{widthSum}
 use Rattle.store.specs.Edits.{kept}
 use Rattle.cycles.specs.declared.Used.{Used}
 use Rattle.cycles.specs.declared.Spans.{Spans}

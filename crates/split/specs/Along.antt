@@ -1,5 +1,5 @@
 -- 0C: what its faces get, and what is known once questions 3 to 8 got a yes. Definitions only.
-use Prim.Native.Nat.{ℕ, _+_, _*_, _≤_, _<_}
+use Prim.Native.Nat.{ℕ, _+_, _*_, _≤_}
 use mathlib.Core.Path.{_≡_}
 use mathlib.Core.Bool.{true, false}
 use mathlib.Core.List.{List, [], _∷_, _++_}
@@ -9,7 +9,7 @@ use Rattle.number.specs.Numbers.{readNumber}
 use Rattle.coordinate.specs.declared.Position.{Position}
 use Rattle.bends.specs.Bends.{positionsAt}
 use Rattle.complex.specs.Lists.{one, rotated, without, chosen}
-use Rattle.complex.specs.Cells.{Cycle, path, Figure, openEdge, face, Sheet, Look, cellAt, along, against, cyclesOf, stepsOf}
+use Rattle.complex.specs.Cells.{Cycle, path, Figure, openEdge, face, Look, cellAt, along, against, cyclesOf, stepsOf}
 use Rattle.complex.specs.Cut.{noCycle, corner, stretch, remainder, cutCorners}
 use Rattle.store.specs.declared.Drawing.{Drawing}
 use Rattle.store.specs.declared.Index.{Index}

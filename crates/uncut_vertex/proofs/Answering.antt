@@ -3,17 +3,16 @@ use Prim.Native.Nat.{ℕ, _+_, _<_, _≤_}
 use native.Mathlib.Omega.{arith}
 use mathlib.Core.Path.{_≡_, refl, sym, ap, ap₂, _∙_, subst}
 use mathlib.Core.Bool.{Bool, true, false, cond}
-use mathlib.Core.List.{List, [], _∷_}
+use mathlib.Core.List.{[], _∷_}
 use lib.ListN.{length, getD, take}
 use lib.Dec.{T, leb}
 use Rattle.coordinate.specs.declared.Position.{Position}
 use Rattle.complex.specs.Lists.{total}
-use Rattle.complex.specs.Cells.{Figure, openEdge, closedEdge, Sheet, cellAt, isLive, bendsOf, positionOf}
+use Rattle.complex.specs.Cells.{openEdge, closedEdge, Sheet, cellAt, isLive, bendsOf, positionOf}
 use Rattle.complex.specs.Sound.{idsEnd, ceilings}
 use Rattle.complex.specs.Edits.{both, rewired, sameVertex, inPlaceOf, rebuild}
 use Rattle.complex.specs.Uses.{stepUse}
 use Rattle.complex.specs.Decode.{uncut}
-use Rattle.complex.specs.Commands.{result}
 use Rattle.complex.specs.Sizes.{sized, moreLess, changedBy, newByUncut, uncutChange}
 use Rattle.complex.specs.Uncut.{Uncut, loop, joint, inOne, joined, uncutCase, uncutResult, allowed}
 use Rattle.complex.proofs.Bools.{true-of}
@@ -22,12 +21,11 @@ use Rattle.store.specs.declared.Index.{Index}
 use Rattle.store.specs.Index.{Indexes, rowOf}
 use Rattle.store.specs.Sizes.{Sizes}
 use Rattle.store.specs.View.{sheetOf, cyclesOf, bendSum}
-use Rattle.store.specs.Places.{bendsIn}
 use Rattle.sound.specs.Soundness.{soundDrawing}
 use Rattle.sound.proofs.Meaning.{sound-fits, looks}
 use Rattle.append.specs.declared.Runs.{Runs}
 use Rattle.append.specs.Runs.{runsOf, InRange}
-use Rattle.append.specs.Appends.{remade, RoomIn, figureAt}
+use Rattle.append.specs.Appends.{remade, RoomIn}
 use Rattle.append.proofs.Copied.{row-range}
 use Rattle.answer.specs.declared.Totals.{Totals}
 use Rattle.answer.specs.Late.{sizesBy, lateNo}

@@ -1,30 +1,26 @@
 -- What the cases loop and joint of 0E tell of a drawing. Assumes nothing.
-use Prim.Native.Nat.{ℕ, _<_}
+use Prim.Native.Nat.{ℕ}
 use mathlib.Core.Path.{_≡_, refl, sym, ap, _∙_, subst}
 use mathlib.Core.Bool.{Bool, true, false, false≢true}
 use mathlib.Core.List.{List, [], _∷_, append-nil}
 use mathlib.Core.Option.{Option, none, some}
-use lib.Dec.{T, eqb}
+use lib.Dec.{T, eqb, leb}
 use borrow.Author.Tests.{ne-eqb}
 use Rattle.number.specs.Readers.{spread}
 use Rattle.coordinate.specs.declared.Position.{Position}
 use Rattle.complex.specs.Lists.{any}
 use Rattle.complex.specs.Cells.{Halfedge, Figure, vertex, openEdge, closedEdge, face, LiveCell, Sheet, cellAt, lookup, isLive, isOpen, isFace, positionOf}
-use Rattle.complex.specs.Sound.{figureOk}
+use Rattle.complex.specs.Sound.{idsEnd, figureOk, ceilings}
 use Rattle.complex.specs.Edits.{reshape, rebuild, rewired, sameVertex}
-use Rattle.complex.specs.Decode.{uncut}
 use Rattle.complex.specs.Uses.{endsAt, Passage, passagesAt, loneUse, usesBy}
 use Rattle.complex.specs.Uncut.{Uncut, refused, lonely, loop, joint, twoFaces, oneCycle, rings, inOne, joined, uncutCase, uncutResult, allowed}
-use Rattle.complex.proofs.Bools.{truth, true-of, pair}
+use Rattle.complex.proofs.Bools.{truth, pair}
 use Rattle.complex.proofs.Keep.{Sound}
 use Rattle.complex.proofs.Adds.{stays-at}
-use Rattle.complex.proofs.Asked.{Passed}
 use Rattle.complex.proofs.UnglueVertex.{Every}
 use Rattle.complex.proofs.UncutEdge.{own-cells}
 use Rattle.complex.proofs.UncutVertex.{real-ends, joint-sound}
 use Rattle.complex.proofs.Uncut.{Holds, is-lonely, is-loop, is-joint, is-two, is-one, is-rings, uncut-holds}
-use Rattle.complex.specs.Sound.{idsEnd, ceilings}
-use lib.Dec.{leb}
 use Rattle.store.specs.Sheet.{allReal}
 use Rattle.store.specs.Places.{cyclesIn, cyclesAt}
 use Rattle.store.proofs.Grow.{real-append}
@@ -90,9 +86,6 @@ module _ (s : Sheet) (S : Sound s) (keep : ℕ → Bool) (f : ℕ → Figure →
   figure-real : (j : ℕ) (t : Figure) → cellAt s j ≡ some t → allReal (cyclesIn (f j t)) ≡ true
   figure-real j t q = go (keep j) refl
     where
-      look : ℕ → Option Figure
-      look = lookup (rebuild keep f new s .cells)
-
       go : (b : Bool) → keep j ≡ b → allReal (cyclesIn (f j t)) ≡ true
       go true e =
           let k : T (figureOk (lookup (rebuild keep f new s .cells)) (f j t)) = R .figures j (f j t) (stays-at keep f new s j t (truth e) q) in

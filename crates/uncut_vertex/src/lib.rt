@@ -1,6 +1,6 @@
 ghost use mathlib.Core.Path.{_≡_};
 ghost use mathlib.Core.Bool.{true, false, cond};
-ghost use Prim.Native.Nat.{_<_};
+ghost use Prim.Native.Nat.{_<_, _≤_};
 ghost use lib.Dec.{T};
 ghost use lib.ListN.{getD, set, take, replicate};
 ghost use Rattle.complex.specs.Edits.{both, rewired, sameVertex, inPlaceOf, reshape, rebuild};
@@ -18,7 +18,7 @@ ghost use Rattle.sound.specs.Soundness.{soundDrawing};
 ghost use Rattle.append.specs.Appends.{remade};
 ghost use Rattle.append.specs.Runs.{runsOf};
 ghost use Rattle.answer.specs.Answers.{Answers};
-ghost use Rattle.answer.specs.Late.{sizesBy, lateNo};
+ghost use Rattle.answer.specs.Late.{sizesBy, lateNo, Small};
 ghost use Rattle.cut.specs.Cuts.{placeOf, noCell, Counted};
 ghost use Rattle.complex.specs.Cells.{openEdge, cellAt, isLive};
 ghost use mathlib.Core.List.{_∷_, []};
@@ -127,6 +127,30 @@ fn place_at(d: Drawing, row: usize) -> Position
     cut::position_of(s)
 }
 
+// Questions 7 and 8 where a vertex becomes a bend of a new edge, so many cells and steps fewer: the number of the first
+// no, or 0.
+fn bend_no(next: u32, t: Totals, cells: usize, steps: usize) -> u32
+    requires { ⌜ next ≤ 65536 ⌝ }
+    requires { ⌜ Small t ⌝ }
+    requires { ⌜ cells ≤ 4294967296 ⌝ }
+    requires { ⌜ steps ≤ 4294967296 ⌝ }
+    ensures { λ r. ⌜ r ≡ lateNo next 1 (changedBy (sizesBy t) (moreLess (sized 0 0 0 1) (sized cells 0 steps 0))) ⌝ }
+{
+    let more = Totals {
+        cells: 0,
+        cycles: 0,
+        steps: 0,
+        bends: 1,
+    };
+    let less = Totals {
+        cells: cells,
+        cycles: 0,
+        steps: steps,
+        bends: 0,
+    };
+    answer::late_no(next, 1, t, more, less)
+}
+
 // 0E at a vertex with both ends of the edge e.
 pub fn looped(d: Drawing, v: u32, e: u32) -> Answer
     requires { ⌜ T (soundDrawing d) ⌝ }
@@ -137,19 +161,7 @@ pub fn looped(d: Drawing, v: u32, e: u32) -> Answer
     let n = d.count;
     let next = d.next;
     let t = answer::totals_of(&ix.bends, &ix.cycles, n, &d.cycles);
-    let more = Totals {
-        cells: 0,
-        cycles: 0,
-        steps: 0,
-        bends: 1,
-    };
-    let less = Totals {
-        cells: 1,
-        cycles: 0,
-        steps: 0,
-        bends: 0,
-    };
-    let no = answer::late_no(next, 1, t, more, less);
+    let no = bend_no(next, t, 1, 0);
     if no != 0 {
         return answer::refused(d, no);
     }
@@ -235,41 +247,23 @@ fn join_at(d: Drawing, ix: Index, v: u32, x: u32, back1: bool, y: u32, back2: bo
 {
     let n = d.count;
     let ids = ix.ids;
-    let a = store::find(&ids, n, v);
-    let p = place_at(d, a);
+    let row = store::find(&ids, n, v);
+    let p = place_at(d, row);
     let s = side_of(d, ix, x, back1);
     let t = side_of(d, ix, y, back2);
     let r = joint_runs(p, s, back1, t, back2);
     let start = either(back1, s.far, t.far);
     let end = either(back1, t.far, s.far);
-    join_edges(d, v, a, x, s.row, y, t.row, start, end, r)
+    join_edges(d, v, row, x, s.row, y, t.row, start, end, r)
 }
 
-// Questions 7 and 8 of 0E that joins y to another edge: the vertex becomes a bend, and the steps of y go.
-fn joint_late<'a>(
-    cycles: &'a [u32; 512],
-    steps: &'a [u32; 2048],
-    next: u32,
-    y: u32,
-    t: Totals,
-) -> u32
+// Questions 7 and 8 where y is joined to another edge: the steps of y go.
+fn joint_no<'a>(cycles: &'a [u32; 512], steps: &'a [u32; 2048], next: u32, y: u32, t: Totals) -> u32
     requires { ⌜ Counted (now cycles) (now steps) next t ⌝ }
     ensures { λ r. ⌜ r ≡ lateNo next 1 (changedBy (sizesBy t) (moreLess (sized 0 0 0 1) (sized 2 0 (total (stepUse y) (cyclesOf (take (t .cycles) (now (cycles .entry))) (now (steps .entry)))) 0))) ⌝ }
 {
     let uses = copies::count_steps(cycles, t.cycles, steps, y);
-    let more = Totals {
-        cells: 0,
-        cycles: 0,
-        steps: 0,
-        bends: 1,
-    };
-    let less = Totals {
-        cells: 2,
-        cycles: 0,
-        steps: uses,
-        bends: 0,
-    };
-    answer::late_no(next, 1, t, more, less)
+    bend_no(next, t, 2, uses)
 }
 
 // 0E at a vertex with one end each of the edges x and y, which leave it.
@@ -282,7 +276,7 @@ pub fn jointed(d: Drawing, v: u32, x: u32, back1: bool, y: u32, back2: bool) -> 
     let n = d.count;
     let next = d.next;
     let t = answer::totals_of(&ix.bends, &ix.cycles, n, &d.cycles);
-    let no = joint_late(&d.cycles, &d.steps, next, y, t);
+    let no = joint_no(&d.cycles, &d.steps, next, y, t);
     if no != 0 {
         return answer::refused(d, no);
     }

@@ -1,4 +1,4 @@
--- `uncut::join_edges` meets its contract. Assumes nothing.
+-- `join_edges` meets its contract. Assumes nothing.
 use Rattle.store.proofs.Sizes.{sizes}
 use Rattle.uncut_vertex.proofs.Joining.{merged-room, merged-result}
 use Rattle.uncut_vertex.proofs.join_edges.Statement.{statement}

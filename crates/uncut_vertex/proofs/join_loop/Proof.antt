@@ -1,4 +1,4 @@
--- `uncut::join_loop` meets its contract. Assumes nothing.
+-- `join_loop` meets its contract. Assumes nothing.
 use borrow.Author.Needs.{needs}
 use native.Mathlib.Omega.{arith}
 use mathlib.Core.Path.{_∙_}

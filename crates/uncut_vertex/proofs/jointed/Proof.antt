@@ -25,8 +25,8 @@ totals-of-requires c κs =
     let d = st .args .t1 in
     summed d (sizes d _ (st .good .0)) (sound-fits d (st .pre .0)) (i .index-of .result) (i .index-of .ensures)
 
-joint-late-requires : tie.Need-joint-late-requires
-joint-late-requires c κs =
+joint-no-requires : tie.Need-joint-no-requires
+joint-no-requires c κs =
     let t = c .before .before .before in
     let i = t .before .before .before .before .before .before in
     let st = i .before in
@@ -45,8 +45,8 @@ returns c =
     let a = st .args in
     let d = a .t1 in
     let z = sizes d _ (st .good .0) in
-    let k = joint-asked d z (st .pre .0) (a .v) (a .x) (a .back1) (a .y) (a .back2) (st .pre .1) (i .index-of .result) (i .index-of .ensures) (t .totals-of .result) (t .totals-of .ensures) (l .joint-late .result) (l .joint-late .ensures) in
-    refuses d z (st .pre .0) (uncut (a .v)) (l .joint-late .result) k (c .before .if1 .taken) _ (c .refused .ensures)
+    let k = joint-asked d z (st .pre .0) (a .v) (a .x) (a .back1) (a .y) (a .back2) (st .pre .1) (i .index-of .result) (i .index-of .ensures) (t .totals-of .result) (t .totals-of .ensures) (l .joint-no .result) (l .joint-no .ensures) in
+    refuses d z (st .pre .0) (uncut (a .v)) (l .joint-no .result) k (c .before .if1 .taken) _ (c .refused .ensures)
 
 join-at-requires : tie.Need-join-at-requires
 join-at-requires c κs =
@@ -57,8 +57,8 @@ join-at-requires c κs =
     let a = st .args in
     let d = a .t1 in
     let z = sizes d _ (st .good .0) in
-    let k = joint-asked d z (st .pre .0) (a .v) (a .x) (a .back1) (a .y) (a .back2) (st .pre .1) (i .index-of .result) (i .index-of .ensures) (t .totals-of .result) (t .totals-of .ensures) (l .joint-late .result) (l .joint-late .ensures) in
-    joint-meets d z (st .pre .0) (a .v) (a .x) (a .back1) (a .y) (a .back2) (st .pre .1) (l .joint-late .result) k (c .if1 .left) (i .index-of .result) (i .index-of .ensures)
+    let k = joint-asked d z (st .pre .0) (a .v) (a .x) (a .back1) (a .y) (a .back2) (st .pre .1) (i .index-of .result) (i .index-of .ensures) (t .totals-of .result) (t .totals-of .ensures) (l .joint-no .result) (l .joint-no .ensures) in
+    joint-meets d z (st .pre .0) (a .v) (a .x) (a .back1) (a .y) (a .back2) (st .pre .1) (l .joint-no .result) k (c .if1 .left) (i .index-of .result) (i .index-of .ensures)
 
 done-requires : tie.Need-done-requires
 done-requires c κs =
@@ -70,9 +70,9 @@ done-requires c κs =
     let a = st .args in
     let d = a .t1 in
     let z = sizes d _ (st .good .0) in
-    let k = joint-asked d z (st .pre .0) (a .v) (a .x) (a .back1) (a .y) (a .back2) (st .pre .1) (i .index-of .result) (i .index-of .ensures) (t .totals-of .result) (t .totals-of .ensures) (l .joint-late .result) (l .joint-late .ensures) in
+    let k = joint-asked d z (st .pre .0) (a .v) (a .x) (a .back1) (a .y) (a .back2) (st .pre .1) (i .index-of .result) (i .index-of .ensures) (t .totals-of .result) (t .totals-of .ensures) (l .joint-no .result) (l .joint-no .ensures) in
     let o = c .join-at in
-    counts-done d z (st .pre .0) (uncut (a .v)) (l .joint-late .result) k (y .if1 .left) (o .result) (sizes (o .result) _ (o .ok)) (o .ensures .1) (o .ensures .0 ∙ sym (uncut-result (sheetOf d) (a .v) (joint (leaving (a .x) (a .back1)) (leaving (a .y) (a .back2))) (st .pre .1)))
+    counts-done d z (st .pre .0) (uncut (a .v)) (l .joint-no .result) k (y .if1 .left) (o .result) (sizes (o .result) _ (o .ok)) (o .ensures .1) (o .ensures .0 ∙ sym (uncut-result (sheetOf d) (a .v) (joint (leaving (a .x) (a .back1)) (leaving (a .y) (a .back2))) (st .pre .1)))
 
 returns-2 : tie.Need-returns-2
 returns-2 c =
@@ -85,9 +85,9 @@ returns-2 c =
     let a = st .args in
     let d = a .t1 in
     let z = sizes d _ (st .good .0) in
-    let k = joint-asked d z (st .pre .0) (a .v) (a .x) (a .back1) (a .y) (a .back2) (st .pre .1) (i .index-of .result) (i .index-of .ensures) (t .totals-of .result) (t .totals-of .ensures) (l .joint-late .result) (l .joint-late .ensures) in
+    let k = joint-asked d z (st .pre .0) (a .v) (a .x) (a .back1) (a .y) (a .back2) (st .pre .1) (i .index-of .result) (i .index-of .ensures) (t .totals-of .result) (t .totals-of .ensures) (l .joint-no .result) (l .joint-no .ensures) in
     let o = oc .join-at in
-    answers d z (st .pre .0) (uncut (a .v)) (l .joint-late .result) k (y .if1 .left) (o .result) (sizes (o .result) _ (o .ok)) (o .ensures .1) (o .ensures .0 ∙ sym (uncut-result (sheetOf d) (a .v) (joint (leaving (a .x) (a .back1)) (leaving (a .y) (a .back2))) (st .pre .1))) _ (c .done .ensures)
+    answers d z (st .pre .0) (uncut (a .v)) (l .joint-no .result) k (y .if1 .left) (o .result) (sizes (o .result) _ (o .ok)) (o .ensures .1) (o .ensures .0 ∙ sym (uncut-result (sheetOf d) (a .v) (joint (leaving (a .x) (a .back1)) (leaving (a .y) (a .back2))) (st .pre .1))) _ (c .done .ensures)
 
 pub jointed-spec : {M : Type 1} → statement M
 jointed-spec =
@@ -95,7 +95,7 @@ jointed-spec =
     (tie.spec
     index-of-requires
     totals-of-requires
-    joint-late-requires
+    joint-no-requires
     refused-requires
     returns
     join-at-requires

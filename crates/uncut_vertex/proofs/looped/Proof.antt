@@ -1,6 +1,6 @@
 -- `looped` meets its contract: questions 7 and 8, then the closed edge. Assumes nothing.
 use borrow.Author.Needs.{needs}
-use mathlib.Core.Path.{refl, sym, _∙_}
+use mathlib.Core.Path.{sym, _∙_}
 use lib.Dec.{lit≤}
 use Rattle.complex.specs.Decode.{uncut}
 use Rattle.complex.specs.Uncut.{loop}
@@ -25,12 +25,12 @@ totals-of-requires c κs =
     let d = st .args .t1 in
     summed d (sizes d _ (st .good .0)) (sound-fits d (st .pre .0)) (i .index-of .result) (i .index-of .ensures)
 
-late-no-requires : tie.Need-late-no-requires
-late-no-requires c κs =
+bend-no-requires : tie.Need-bend-no-requires
+bend-no-requires c κs =
     let i = c .before .before .before .before .before .before in
     let st = i .before in
     let d = st .args .t1 in
-    (next-in d (st .pre .0), (lit≤ tt, (rw (c .totals-of .ensures) (totals-small d (sizes d _ (st .good .0)) (sound-fits d (st .pre .0)) (i .index-of .result) (i .index-of .ensures)), record { cells = lit≤ tt; cycles = lit≤ tt; steps = lit≤ tt; bends = lit≤ tt }, record { cells = lit≤ tt; cycles = lit≤ tt; steps = lit≤ tt; bends = lit≤ tt })))
+    (next-in d (st .pre .0), (rw (c .totals-of .ensures) (totals-small d (sizes d _ (st .good .0)) (sound-fits d (st .pre .0)) (i .index-of .result) (i .index-of .ensures)), (lit≤ tt, lit≤ tt)))
 
 refused-requires : tie.Need-refused-requires
 refused-requires c κs = search needs
@@ -44,8 +44,8 @@ returns c =
     let a = st .args in
     let d = a .t1 in
     let z = sizes d _ (st .good .0) in
-    let k = loop-asked d z (st .pre .0) (a .v) (a .e) (st .pre .1) (i .index-of .result) (i .index-of .ensures) (t .totals-of .result) (t .totals-of .ensures) (l .late-no .result) (l .late-no .ensures) in
-    refuses d z (st .pre .0) (uncut (a .v)) (l .late-no .result) k (c .before .if1 .taken) _ (c .refused .ensures)
+    let k = loop-asked d z (st .pre .0) (a .v) (a .e) (st .pre .1) (i .index-of .result) (i .index-of .ensures) (t .totals-of .result) (t .totals-of .ensures) (l .bend-no .result) (l .bend-no .ensures) in
+    refuses d z (st .pre .0) (uncut (a .v)) (l .bend-no .result) k (c .before .if1 .taken) _ (c .refused .ensures)
 
 find-requires : tie.Need-find-requires
 find-requires c κs =
@@ -83,8 +83,8 @@ join-loop-requires c κs =
     let a = st .args in
     let d = a .t1 in
     let z = sizes d _ (st .good .0) in
-    let k = loop-asked d z (st .pre .0) (a .v) (a .e) (st .pre .1) (i .index-of .result) (i .index-of .ensures) (t .totals-of .result) (t .totals-of .ensures) (l .late-no .result) (l .late-no .ensures) in
-    looped-needs d z (st .pre .0) (a .v) (a .e) (st .pre .1) (l .late-no .result) k (y .if1 .left) (i .index-of .result) (i .index-of .ensures) (fd .find .result) (f2 .find2 .result) (fd .find .ensures) (f2 .find2 .ensures) (c .place-at .result) (c .place-at .ensures)
+    let k = loop-asked d z (st .pre .0) (a .v) (a .e) (st .pre .1) (i .index-of .result) (i .index-of .ensures) (t .totals-of .result) (t .totals-of .ensures) (l .bend-no .result) (l .bend-no .ensures) in
+    looped-needs d z (st .pre .0) (a .v) (a .e) (st .pre .1) (l .bend-no .result) k (y .if1 .left) (i .index-of .result) (i .index-of .ensures) (fd .find .result) (f2 .find2 .result) (fd .find .ensures) (f2 .find2 .ensures) (c .place-at .result) (c .place-at .ensures)
 
 done-requires : tie.Need-done-requires
 done-requires c κs =
@@ -97,9 +97,9 @@ done-requires c κs =
     let a = st .args in
     let d = a .t1 in
     let z = sizes d _ (st .good .0) in
-    let k = loop-asked d z (st .pre .0) (a .v) (a .e) (st .pre .1) (i .index-of .result) (i .index-of .ensures) (t .totals-of .result) (t .totals-of .ensures) (l .late-no .result) (l .late-no .ensures) in
+    let k = loop-asked d z (st .pre .0) (a .v) (a .e) (st .pre .1) (i .index-of .result) (i .index-of .ensures) (t .totals-of .result) (t .totals-of .ensures) (l .bend-no .result) (l .bend-no .ensures) in
     let o = c .join-loop in
-    counts-done d z (st .pre .0) (uncut (a .v)) (l .late-no .result) k (y .if1 .left) (o .result) (sizes (o .result) _ (o .ok)) (o .ensures .1) (o .ensures .0 ∙ sym (uncut-result (sheetOf d) (a .v) (loop (a .e)) (st .pre .1)))
+    counts-done d z (st .pre .0) (uncut (a .v)) (l .bend-no .result) k (y .if1 .left) (o .result) (sizes (o .result) _ (o .ok)) (o .ensures .1) (o .ensures .0 ∙ sym (uncut-result (sheetOf d) (a .v) (loop (a .e)) (st .pre .1)))
 
 returns-2 : tie.Need-returns-2
 returns-2 c =
@@ -113,9 +113,9 @@ returns-2 c =
     let a = st .args in
     let d = a .t1 in
     let z = sizes d _ (st .good .0) in
-    let k = loop-asked d z (st .pre .0) (a .v) (a .e) (st .pre .1) (i .index-of .result) (i .index-of .ensures) (t .totals-of .result) (t .totals-of .ensures) (l .late-no .result) (l .late-no .ensures) in
+    let k = loop-asked d z (st .pre .0) (a .v) (a .e) (st .pre .1) (i .index-of .result) (i .index-of .ensures) (t .totals-of .result) (t .totals-of .ensures) (l .bend-no .result) (l .bend-no .ensures) in
     let o = oc .join-loop in
-    answers d z (st .pre .0) (uncut (a .v)) (l .late-no .result) k (y .if1 .left) (o .result) (sizes (o .result) _ (o .ok)) (o .ensures .1) (o .ensures .0 ∙ sym (uncut-result (sheetOf d) (a .v) (loop (a .e)) (st .pre .1))) _ (c .done .ensures)
+    answers d z (st .pre .0) (uncut (a .v)) (l .bend-no .result) k (y .if1 .left) (o .result) (sizes (o .result) _ (o .ok)) (o .ensures .1) (o .ensures .0 ∙ sym (uncut-result (sheetOf d) (a .v) (loop (a .e)) (st .pre .1))) _ (c .done .ensures)
 
 pub looped-spec : {M : Type 1} → statement M
 looped-spec =
@@ -123,7 +123,7 @@ looped-spec =
     (tie.spec
     index-of-requires
     totals-of-requires
-    late-no-requires
+    bend-no-requires
     refused-requires
     returns
     find-requires

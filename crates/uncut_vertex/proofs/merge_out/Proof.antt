@@ -1,4 +1,4 @@
--- `uncut::merge_out` meets its contract. Assumes nothing.
+-- `merge_out` meets its contract. Assumes nothing.
 use borrow.Author.Needs.{needs}
 use native.Mathlib.Omega.{arith}
 use Prim.Native.Nat.{ℕ}

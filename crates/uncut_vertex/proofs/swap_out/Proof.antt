@@ -1,4 +1,4 @@
--- `uncut::swap_out` meets its contract. Assumes nothing.
+-- `swap_out` meets its contract. Assumes nothing.
 use borrow.Author.Needs.{needs}
 use native.Mathlib.Omega.{arith}
 use mathlib.Core.Path.{ap, _∙_}
