@@ -7,9 +7,6 @@ use plain::{Drawing, Outcome};
 
 use crate::{Call, Core, Line, LONGEST_FILE};
 
-/// How many copies of the drawing stand ready, so that a timed command meets its own: few enough for the cache.
-const BATCH: u32 = 16;
-
 pub struct Ordinary {
     pub drawing: Drawing,
 }
@@ -26,18 +23,25 @@ impl Ordinary {
         Line { number, first, new, removed, rest }
     }
 
+    /// How many copies of the drawing are made at a time: few enough for the cache.
+    fn batch(&self) -> u32 {
+        (131_072 / plain::file_of(&self.drawing).len() as u32).clamp(8, 128)
+    }
+
     /// Commands change the drawing in place, so each gets a copy that was made before the clock started.
     fn time_commands(&self, bytes: &[u8], rounds: u32) -> Duration {
-        let mut total = Duration::ZERO;
-        for _ in 0..rounds.div_ceil(BATCH) {
-            let mut copies = vec![self.drawing.clone(); BATCH as usize];
+        let batch = self.batch();
+        let (mut total, mut left) = (Duration::ZERO, rounds);
+        while left > 0 {
+            let mut copies = vec![self.drawing.clone(); batch.min(left) as usize];
+            left -= copies.len() as u32;
             let start = Instant::now();
             for copy in &mut copies {
                 black_box(plain::edit(black_box(copy), black_box(bytes)));
             }
             total += start.elapsed();
         }
-        total * rounds / (rounds.div_ceil(BATCH) * BATCH)
+        total
     }
 }
 

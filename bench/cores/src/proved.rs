@@ -151,9 +151,9 @@ impl Core for Proved {
         (number, count as usize)
     }
 
-    /// The library reads the file before the first round: that time is measured alone and taken off.
+    /// The library reads the file before the first round: that time, the least of a few, is taken off.
     fn time(&mut self, call: Call, rounds: u32) -> Duration {
-        let opening = self.repeat(call, 0);
+        let opening = (0..5).map(|_| self.repeat(call, 0)).min().unwrap_or_default();
         self.repeat(call, rounds).saturating_sub(opening)
     }
 }
