@@ -28,12 +28,19 @@ impl Ordinary {
         (131_072 / plain::file_of(&self.drawing).len() as u32).clamp(8, 128)
     }
 
+    /// A copy with places free, as a drawing has that grew by commands.
+    fn roomy_copy(&self) -> Drawing {
+        let mut copy = self.drawing.clone();
+        copy.cells.reserve(8);
+        copy
+    }
+
     /// Commands change the drawing in place, so each gets a copy that was made before the clock started.
     fn time_commands(&self, bytes: &[u8], rounds: u32) -> Duration {
         let batch = self.batch();
         let (mut total, mut left) = (Duration::ZERO, rounds);
         while left > 0 {
-            let mut copies = vec![self.drawing.clone(); batch.min(left) as usize];
+            let mut copies: Vec<Drawing> = (0..batch.min(left)).map(|_| self.roomy_copy()).collect();
             left -= copies.len() as u32;
             let start = Instant::now();
             for copy in &mut copies {

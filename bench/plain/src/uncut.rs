@@ -56,29 +56,32 @@ impl Editor<'_> {
         let (a, b) = (ends[0], ends[1]);
         let dropped = uses_of(self.drawing, b.edge).len() as i64;
         self.admit(1, Sizes { cells: -2, cycles: 0, steps: -dropped, bends: 1 })?;
-        let far_a = self.far_end(a);
-        let far_b = self.far_end(b);
-        let mut toward = self.take_bends(a.edge);
-        let mut onward = self.take_bends(b.edge);
+        let joint = self.joined(a, b, position);
         self.take(vertex);
+        let joint = self.issue(joint);
+        self.replace_steps(a.edge, |step, path| path.push(Halfedge { edge: joint, ..step }));
+        self.replace_steps(b.edge, |_, _| {});
+        self.done(1, 3)
+    }
+
+    /// Takes both edges out and joins them at these ends: from a's far end on to b's, then directed as a.
+    fn joined(&mut self, a: EdgeEnd, b: EdgeEnd, between: Position) -> Shape {
+        let (far_a, far_b) = (self.far_end(a), self.far_end(b));
+        let mut bends = self.take_bends(a.edge);
+        let mut onward = self.take_bends(b.edge);
         if !a.is_end {
-            toward.reverse();
+            bends.reverse();
         }
         if b.is_end {
             onward.reverse();
         }
-        let mut bends = toward;
-        bends.push(position);
+        bends.push(between);
         bends.append(&mut onward);
-        let joint = if a.is_end {
-            self.issue(Shape::Open { start: far_a, end: far_b, bends })
-        } else {
-            bends.reverse();
-            self.issue(Shape::Open { start: far_b, end: far_a, bends })
-        };
-        self.replace_steps(a.edge, |step, path| path.push(Halfedge { edge: joint, ..step }));
-        self.replace_steps(b.edge, |_, _| {});
-        self.done(1, 3)
+        if a.is_end {
+            return Shape::Open { start: far_a, end: far_b, bends };
+        }
+        bends.reverse();
+        Shape::Open { start: far_b, end: far_a, bends }
     }
 
     /// The vertex at the other end of an edge.

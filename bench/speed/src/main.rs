@@ -58,7 +58,7 @@ fn about(times: &Times) {
     );
     println!("Sizes are those of the drawing, or of the result where the command adds cells or steps.");
     println!("Buffers: star and write fill a buffer made once and not cleared between calls.");
-    println!("Drawings: plain changes the drawing in place, on copies made before the clock starts.");
+    println!("Drawings: plain changes the drawing in place, on copies with free places, made before the clock starts.");
     if times.cores.len() == 1 {
         println!("No proved core is linked (DAZOLBEI_LIB): plain alone.");
     } else {

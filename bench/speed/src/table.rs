@@ -17,7 +17,7 @@ impl Times {
 
 pub fn print(times: &Times) {
     for (core, name) in times.cores.iter().enumerate() {
-        heading(&format!("{name}: ns per call"), "  16 to 256 cells");
+        heading(&format!("{name}: ns per call"), "   16 to 256 cells   600 to 2048 steps");
         for (row, (_, label)) in ROWS.iter().enumerate() {
             let cells = (0..SIZES.len()).map(|size| format!("{:>12.0}", times.time(row, size, core)));
             println!("{label:<26}{}{}", cells.collect::<String>(), growth(times, row, core));
@@ -40,8 +40,12 @@ fn heading(title: &str, last: &str) {
     println!("{title:<26}{sizes}{last}");
 }
 
-/// How often the time is multiplied from 16 to 256 cells, and the power of the number of cells that this is.
+/// How often the time is multiplied from 16 to 256 cells and from 600 to 2,048 steps, and the power of the size that
+/// this is.
 fn growth(times: &Times, row: usize, core: usize) -> String {
-    let factor = times.time(row, 2, core) / times.time(row, 0, core);
-    format!("   x{factor:<6.1} n^{:.2}", factor.log2() / 4.0)
+    let grown = |from: usize, to: usize, factor_of_size: f64| {
+        let factor = times.time(row, to, core) / times.time(row, from, core);
+        format!("   x{factor:<5.1} n^{:<8.2}", factor.ln() / factor_of_size.ln())
+    };
+    grown(0, 2, 256.0 / 16.0) + &grown(3, 4, 2_048.0 / 600.0)
 }
