@@ -33,7 +33,8 @@ impl Faults {
             return faults;
         }
         let several = random.one_in(3);
-        let only = random.below(5);
+        // Few kinds have places, so these are drawn more often.
+        let only = [0, 1, 2, 3, 3, 3, 4][random.below(7)];
         let mut level = |which| {
             let wanted = which == only || (several && random.chance(40));
             if wanted {

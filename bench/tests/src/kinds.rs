@@ -204,7 +204,12 @@ fn cut_along_open(pen: &mut Pen, drawing: &Drawing, style: Style) -> Option<()> 
         c2 = c1;
         s2 = cycles.get(c1 as usize).map_or(0, |cycle| pen.random.below(picks::corners(drawing, cycle)) as u32);
     }
-    let moved = if c1 == c2 { picks::some_below(pen.random, cycles.len(), Some(c1)) } else { vec![] };
+    // Where two cycles are joined nothing may be moved, however good the list is: with a fault it is the only one.
+    let only_moved = c1 != c2 && pen.faults.places > 0 && pen.random.chance(50);
+    if only_moved {
+        pen.faults.places = 0;
+    }
+    let moved = if c1 == c2 || only_moved { picks::some_below(pen.random, cycles.len(), Some(c1)) } else { vec![] };
     let steps = |c: u32| cycles.get(c as usize).map_or(0, |cycle| cycle.steps() as u32);
     pen.id(face);
     pen.place(c1, cycles.len() as u32);
