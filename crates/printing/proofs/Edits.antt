@@ -6,13 +6,13 @@ use mathlib.Core.Path.{_≡_, sym, ap, _∙_}
 use mathlib.Core.Bool.{Bool, true, false}
 use mathlib.Core.List.{List, [], _∷_, _++_}
 use lib.ListN.{length, drop}
-use lib.Seq.{sets-eq}
+use lib.Seq.{sets-eq, length-take-le}
 use Rattle.number.specs.Readers.{spread}
 use Rattle.complex.specs.Cells.{Sheet}
 use Rattle.complex.specs.Euler.{euler}
 use Rattle.complex.specs.Program.{run, Output, tooLong, printed, printedRun, scriptMost, editOutput, newline, lineText, tooLongText, outputText}
 use Rattle.printing.specs.Texts.{Put, endText, Edited}
-use Rattle.printing.proofs.Puts.{put-then, put-as, output-text}
+use Rattle.printing.proofs.Puts.{put-length, put-then, output-text}
 
 -- a text at the buffer's front
 edited : (bytes entry exit text : List ℕ) (m r : ℕ) → m ≤ length entry → Put entry 0 text m exit r → text ≡ outputText (editOutput bytes) → Edited bytes entry exit r
@@ -20,10 +20,15 @@ edited bytes entry exit text m r h p e =
     record {
       count = first ∙ ap length e;
       text = p .stands ∙ sets-eq text entry 0 (let s = p .short in omega arith) ∙ ap (λ (n : ℕ). text ++ drop n entry) (sym (p .ends)) ∙ ap (λ (t : List ℕ). t ++ drop r entry) e;
+      fits = within;
+      front = sym (length-take-le r exit within);
     }
   where
     first : r ≡ length text
     first = let f = p .ends in omega arith
+
+    within : r ≤ length exit
+    within = let f = first in let g = p .short in let l = put-length p in omega arith
 
 -- above the most bytes, or not
 abbrev chosen : List ℕ → Bool → Output

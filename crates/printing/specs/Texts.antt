@@ -4,7 +4,7 @@ use mathlib.Core.Path.{_≡_}
 use mathlib.Core.List.{List, _++_}
 use lib.Dec.{T}
 use lib.IntN.{ℤ}
-use lib.ListN.{length, drop}
+use lib.ListN.{length, take, drop}
 use lib.Seq.{sets}
 use Rattle.number.specs.Readers.{spread}
 use Rattle.complex.specs.Program.{run, editOutput, decimal, signed, space, newline, lineText, eulerWord, cellsWord, outputText}
@@ -32,7 +32,9 @@ pub record LinesPrinted (bytes entry exit : List ℕ) (r : Printed) : Type 0 whe
 abbrev pub textMost : ℕ
 textMost = 2883648
 
--- the buffer begins with what `edit` prints for the bytes, r bytes in all
+-- the buffer begins with what `edit` prints for the bytes, r bytes in all; a caller that lends the first r places needs the last two parts
 pub record Edited (bytes entry exit : List ℕ) (r : ℕ) : Type 0 where
   pub count : r ≡ length (outputText (editOutput bytes))
   pub text : exit ≡ outputText (editOutput bytes) ++ drop r entry
+  pub fits : r ≤ length exit
+  pub front : r ≡ length (take r exit)

@@ -15,6 +15,20 @@ use store::Drawing;
 
 const SCRIPT_MOST: usize = 65536;
 
+// Zeros for a script: a byte more than the longest.
+pub fn script_space() -> [u8; 65537]
+    ensures { λ r. ⌜ 65537 ≡ length r ⌝ }
+{
+    [0; 65537]
+}
+
+// Zeros for what the longest script prints.
+pub fn text_space() -> [u8; 2883648]
+    ensures { λ r. ⌜ textMost ≡ length r ⌝ }
+{
+    [0; 2883648]
+}
+
 ghost use lib.IntN.{natAbs};
 
 // A number in decimal, from a place on; the place after it.
