@@ -1,9 +1,28 @@
 // The calls for programs in C and Rust. A drawing crosses as its file, a slice as a pointer and a length, a second result
 // through a pointer. A no gives its number, 0 for all else save what 9 gives, and leaves the lent buffers as they were.
 ghost use mathlib.Core.Path.{_≡_};
+ghost use mathlib.Core.List.{_∷_, []};
+ghost use Prim.Native.Nat.{_+_, _*_, _≤_, _<_};
+ghost use lib.Dec.{T};
+ghost use lib.ListN.{length};
+ghost use lib.Seq.{sets};
 ghost use Rattle.complex.specs.File.{readFile};
+ghost use Rattle.sound.specs.Soundness.{soundDrawing};
 ghost use Rattle.files.specs.Again.{again};
 ghost use Rattle.dazolbei.specs.Calls.{filledAs, starAt, eulerAs, eulerAt};
+ghost use Rattle.dazolbei.specs.Runs.{lineWidth, lengthsEnd, roomFor, runAs, runAt};
+ghost use Rattle.dazolbei.specs.Reaches.{Reaches};
+use command::Decoded;
+use store::Drawing;
+
+// How many numbers are told of a command.
+const LINE_WIDTH: usize = 5;
+
+// The longest script, whose length is a u32.
+const SCRIPT_MOST: usize = 4294967295;
+
+// Room for the longest file of a sound drawing.
+const FILE_MOST: usize = 65536;
 
 // Question 10: are the bytes, all of them, a sound drawing's file?
 #[no_mangle]
@@ -61,4 +80,102 @@ pub extern "C" fn dz_write(file: &[u8], buffer: &mut [u8], count: &mut u32) -> u
     let w = core::write(d, buffer);
     *count = w.count as u32;
     w.number
+}
+
+// The five numbers of a command, from a place on.
+fn put_line(
+    number: u32,
+    first: u32,
+    new: u32,
+    removed: u32,
+    left: u32,
+    lines: &mut [u32],
+    at: usize,
+)
+    requires { ⌜ at + lineWidth ≤ length (now lines) ⌝ }
+    ensures { λ r. ⌜ now (lines .exit) ≡ sets (now (lines .entry)) at (number ∷ first ∷ new ∷ removed ∷ left ∷ []) ⌝ }
+{
+    lines[at] = number;
+    lines[at + 1] = first;
+    lines[at + 2] = new;
+    lines[at + 3] = removed;
+    lines[at + 4] = left;
+}
+
+// The drawing after a script's commands, and how many there were, one that is not read among them.
+struct Reached {
+    drawing: Drawing,
+    commands: usize,
+}
+
+// Runs a script's commands, each on the drawing that the one before it gave, until no byte is left or one is not read.
+fn run_script(start: Drawing, script: &[u8], lines: &mut [u32]) -> Reached
+    requires { ⌜ T (soundDrawing start) ⌝ }
+    requires { ⌜ length (now script) < lengthsEnd ⌝ }
+    requires { ⌜ lineWidth * length (now script) ≤ length (now lines) ⌝ }
+    ensures { λ r. ⌜ Reaches start (now (script .entry)) (now (lines .entry)) (now (lines .exit)) r ⌝ }
+{
+    let mut d = start;
+    let mut at: usize = 0;
+    let mut commands: usize = 0;
+    while at < script.len() {
+        let left = &script[at..];
+        let Decoded::Whole(c, next) = command::decode(left) else {
+            put_line(2, 0, 0, 0, left.len() as u32, lines, LINE_WIDTH * commands);
+            return Reached {
+                drawing: d,
+                commands: commands + 1,
+            };
+        };
+        let a = obey::obey(d, left, c);
+        at = at + next;
+        put_line(a.number, a.first, a.new, a.removed, (script.len() - at) as u32, lines, LINE_WIDTH * commands);
+        d = a.drawing;
+        commands = commands + 1;
+    }
+    Reached { drawing: d, commands }
+}
+
+// Whether the lent memory has the room that a script's run may need.
+fn has_room(script: usize, lines: usize, out: usize) -> bool
+    ensures { λ r. ⌜ r ≡ roomFor script lines out ⌝ }
+{
+    if SCRIPT_MOST < script {
+        return false;
+    }
+    if lines < LINE_WIDTH * script {
+        return false;
+    }
+    FILE_MOST <= out
+}
+
+// Runs a script on the drawing of a file. Of each command five numbers go to the lines: number, first, new, removed and
+// the length of the rest; the file of the drawing at the end goes to the first places of out.
+#[no_mangle]
+pub extern "C" fn dz_run(
+    file: &[u8],
+    script: &[u8],
+    lines: &mut [u32],
+    out: &mut [u8],
+    commands: &mut u32,
+    bytes: &mut u32,
+) -> u32
+    ensures { λ r. ⌜ runAs r (now (lines .exit)) (now (out .exit)) (now (commands .exit)) (now (bytes .exit)) ≡ runAt (now (file .entry)) (now (script .entry)) (now (lines .entry)) (now (out .entry)) ⌝ }
+{
+    *commands = 0;
+    *bytes = 0;
+    let a = core::read(file);
+    if a.number != 0 {
+        return 10;
+    }
+    if !has_room(script.len(), lines.len(), out.len()) {
+        return 9;
+    }
+    let d = a.drawing;
+    let r = run_script(d, script, lines);
+    let e = r.drawing;
+    let w = core::write(e, out);
+    *commands = r.commands as u32;
+    *bytes = w.count as u32;
+    0
 }
