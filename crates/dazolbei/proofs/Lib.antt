@@ -1,3 +1,4 @@
 pub mod Whole
 pub mod Opening
 pub mod Going
+pub mod Running
