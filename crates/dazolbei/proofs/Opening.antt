@@ -14,7 +14,8 @@ use Rattle.complex.specs.Cells.{LiveCell, Sheet, lookup, cellAt, isLive}
 use Rattle.complex.specs.Sound.{cellsMost, cyclesMost, stepsMost, bendsMost, cyclesIn, stepsIn, bendsIn, over, sound}
 use Rattle.complex.specs.Boundary.{bounds, star}
 use Rattle.complex.specs.File.{fileOf, readFile}
-use Rattle.complex.specs.Calls.{Filled, unfilled, filled, starCall, EulerAnswer, eulerCall}
+use Rattle.complex.specs.Answer.{no, command}
+use Rattle.complex.specs.Calls.{Filled, unfilled, filled, starCall, EulerAnswer, eulerCall, writeCall}
 use Rattle.complex.proofs.Bools.{truth, true-of, both}
 use Rattle.complex.proofs.Keep.{sound-parts}
 use Rattle.store.specs.declared.Drawing.{Drawing}
@@ -28,6 +29,7 @@ use Rattle.reader.specs.declared.ReadAnswer.{ReadAnswer}
 use Rattle.reader.specs.Outcome.{FileRead}
 use Rattle.writer.specs.Writes.{writeOf}
 use Rattle.writer.proofs.Filing.{writable, file-small, write-sound}
+use Rattle.core.specs.Entries.{commandOn}
 use Rattle.files.specs.Again.{again}
 use Rattle.files.proofs.Both.{read-is-sound, written-again}
 use Rattle.dazolbei.specs.Calls.{isFile, drawn, starAt, eulerAs, eulerAt}
@@ -97,20 +99,30 @@ module _ (s : List ℕ) (a : ReadAnswer) (f : FileRead s a) where
     pub opened : T (soundDrawing (a .drawing))
     opened = truth (read-is-sound s B a f e)
 
+    pub star-drawn : (i : ℕ) (l : List ℕ) → starOf (a .drawing) i l ≡ starCall (drawn s) i l
+    star-drawn i l = star-of-sheet (a .drawing) opened i l ∙ ap (λ (x : Sheet). starCall x i l) (f .sheet)
+
     pub star-is : (i : ℕ) (l : List ℕ) → starOf (a .drawing) i l ≡ starAt s i l
-    star-is i l =
-        star-of-sheet (a .drawing) opened i l
-        ∙ ap (λ (x : Sheet). starCall x i l) (f .sheet)
-        ∙ sym (ap (λ (b : Bool). cond b (starCall (drawn s) i l) (unfilled 10 l)) is-file)
+    star-is i l = star-drawn i l ∙ sym (ap (λ (b : Bool). cond b (starCall (drawn s) i l) (unfilled 10 l)) is-file)
 
     pub star-few : (i : ℕ) (l : List ℕ) → starOf (a .drawing) i l .count ≤ cellsMost
     star-few i l = subst (λ (x : Filled). x .count ≤ cellsMost) (sym (star-of-sheet (a .drawing) opened i l)) (star-count (sheetOf (a .drawing)) (sound-sheet (a .drawing) opened) i l)
 
+    pub euler-drawn : eulerOf (a .drawing) ≡ eulerCall (drawn s)
+    euler-drawn = euler-of-sheet (a .drawing) opened ∙ ap eulerCall (f .sheet)
+
     pub euler-is : eulerOf (a .drawing) ≡ eulerAt s
-    euler-is =
-        euler-of-sheet (a .drawing) opened
-        ∙ ap eulerCall (f .sheet)
-        ∙ sym (ap (λ (b : Bool). cond b (eulerCall (drawn s)) (eulerAs 10 (pos 0))) is-file)
+    euler-is = euler-drawn ∙ sym (ap (λ (b : Bool). cond b (eulerCall (drawn s)) (eulerAs 10 (pos 0))) is-file)
+
+    pub write-drawn : (l : List ℕ) → writeOf (a .drawing) l ≡ writeCall (drawn s) l
+    write-drawn l =
+        ap (λ (b : Bool). cond b (writeCall (sheetOf (a .drawing)) l) (unfilled 1 l)) (true-of (soundDrawing (a .drawing)) opened)
+        ∙ ap (λ (x : Sheet). writeCall x l) (f .sheet)
+
+    pub command-drawn : (bytes : List ℕ) → commandOn (a .drawing) bytes ≡ command (drawn s) bytes
+    command-drawn bytes =
+        ap (λ (b : Bool). cond b (command (sheetOf (a .drawing)) bytes) (no 1 (sheetOf (a .drawing)))) (true-of (soundDrawing (a .drawing)) opened)
+        ∙ ap (λ (x : Sheet). command x bytes) (f .sheet)
 
     pub again-is : (l : List ℕ) → writeOf (a .drawing) l ≡ again s l
     again-is l = written-again s B a f e l ∙ sym (ap (λ (b : Bool). cond b (filled s l) (unfilled 10 l)) is-file)

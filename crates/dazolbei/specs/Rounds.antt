@@ -12,22 +12,22 @@ use Rattle.complex.specs.File.{readFile}
 use Rattle.dazolbei.specs.Calls.{isFile, drawn}
 use Rattle.dazolbei.specs.Runs.{fileMost}
 
--- the number of a call that is made so many times; 0 if it is not made
+-- the number of the last of so many rounds of a call; 0 if there are none
 abbrev pub lastOf : ℕ → ℕ → ℕ
 lastOf rounds number = cond (eqb rounds 0) 0 number
 
 -- a buffer of so many places
-abbrev pub blank : ℕ → List ℕ
+unfoldable pub blank : ℕ → List ℕ
 blank n = replicate n 0
 
--- the number of a call on s: 0 a command, 1 star, 2 Euler, 3 write, 4 read; no other call is one that exists
-abbrev pub callNumber : Sheet → ℕ → ℕ → List ℕ → ℕ
-callNumber s what id bytes =
-    cond (eqb what 0) (command s bytes .number)
-    (cond (eqb what 1) (starCall s id (blank cellsMost) .number)
-    (cond (eqb what 2) (eulerCall s .number)
-    (cond (eqb what 3) (writeCall s (blank fileMost) .number)
-    (cond (eqb what 4) (readFile bytes .number) 5))))
+-- the rounds on s: 0 of a command, 1 of star, 2 of Euler, 3 of write, 4 of read; any other call is none that exists
+abbrev pub roundsOn : Sheet → ℕ → ℕ → List ℕ → ℕ → ℕ
+roundsOn s what id bytes rounds =
+    cond (eqb what 0) (lastOf rounds (command s bytes .number))
+    (cond (eqb what 1) (lastOf rounds (starCall s id (blank cellsMost) .number))
+    (cond (eqb what 2) (lastOf rounds (eulerCall s .number))
+    (cond (eqb what 3) (lastOf rounds (writeCall s (blank fileMost) .number))
+    (cond (eqb what 4) (lastOf rounds (readFile bytes .number)) 5))))
 
 abbrev pub repeatAt : List ℕ → ℕ → ℕ → List ℕ → ℕ → ℕ
-repeatAt file what id bytes rounds = cond (isFile file) (lastOf rounds (callNumber (drawn file) what id bytes)) 10
+repeatAt file what id bytes rounds = cond (isFile file) (roundsOn (drawn file) what id bytes rounds) 10

@@ -7,11 +7,16 @@ ghost use lib.Dec.{T};
 ghost use lib.ListN.{length};
 ghost use lib.Seq.{sets};
 ghost use Rattle.complex.specs.File.{readFile};
+ghost use Rattle.complex.specs.Sound.{cellsMost};
+ghost use Rattle.query.specs.Calls.{starOf, eulerOf};
+ghost use Rattle.writer.specs.Writes.{writeOf};
+ghost use Rattle.core.specs.Entries.{commandOn};
 ghost use Rattle.sound.specs.Soundness.{soundDrawing};
 ghost use Rattle.files.specs.Again.{again};
 ghost use Rattle.dazolbei.specs.Calls.{filledAs, starAt, eulerAs, eulerAt};
-ghost use Rattle.dazolbei.specs.Runs.{lineWidth, lengthsEnd, roomFor, runAs, runAt};
+ghost use Rattle.dazolbei.specs.Runs.{lineWidth, fileMost, lengthsEnd, roomFor, runAs, runAt};
 ghost use Rattle.dazolbei.specs.Reaches.{Reaches};
+ghost use Rattle.dazolbei.specs.Rounds.{lastOf, blank, repeatAt};
 use command::Decoded;
 use store::Drawing;
 
@@ -129,11 +134,22 @@ fn run_script(start: Drawing, script: &[u8], lines: &mut [u32]) -> Reached
         };
         let a = obey::obey(d, left, c);
         at = at + next;
-        put_line(a.number, a.first, a.new, a.removed, (script.len() - at) as u32, lines, LINE_WIDTH * commands);
+        put_line(
+            a.number,
+            a.first,
+            a.new,
+            a.removed,
+            (script.len() - at) as u32,
+            lines,
+            LINE_WIDTH * commands,
+        );
         d = a.drawing;
         commands = commands + 1;
     }
-    Reached { drawing: d, commands }
+    Reached {
+        drawing: d,
+        commands,
+    }
 }
 
 // Whether the lent memory has the room that a script's run may need.
@@ -178,4 +194,96 @@ pub extern "C" fn dz_run(
     *commands = r.commands as u32;
     *bytes = w.count as u32;
     0
+}
+
+// ---- rounds of a call on one drawing, for measuring: nothing that a round gives is kept but its number
+
+fn rounds_of_command(d: Drawing, bytes: &[u8], rounds: u32) -> u32
+    ensures { λ r. ⌜ r ≡ lastOf rounds (commandOn d (now (bytes .entry)) .number) ⌝ }
+{
+    let mut number: u32 = 0;
+    let mut i: u32 = 0;
+    while i < rounds {
+        let a = core::command(d, bytes);
+        number = a.number;
+        i = i + 1;
+    }
+    number
+}
+
+// The buffer is cleared once.
+fn rounds_of_star(d: Drawing, id: u32, rounds: u32) -> u32
+    ensures { λ r. ⌜ r ≡ lastOf rounds (starOf d id (blank cellsMost) .number) ⌝ }
+{
+    let mut buffer: [u32; 256] = [0; 256];
+    let mut number: u32 = 0;
+    let mut i: u32 = 0;
+    while i < rounds {
+        let s = core::star(d, id, &mut buffer);
+        number = s.number;
+        i = i + 1;
+    }
+    number
+}
+
+fn rounds_of_euler(d: Drawing, rounds: u32) -> u32
+    ensures { λ r. ⌜ r ≡ lastOf rounds (eulerOf d .number) ⌝ }
+{
+    let mut number: u32 = 0;
+    let mut i: u32 = 0;
+    while i < rounds {
+        let e = core::euler(d);
+        number = e.number;
+        i = i + 1;
+    }
+    number
+}
+
+// The buffer is cleared once.
+fn rounds_of_write(d: Drawing, rounds: u32) -> u32
+    ensures { λ r. ⌜ r ≡ lastOf rounds (writeOf d (blank fileMost) .number) ⌝ }
+{
+    let mut buffer: [u8; 65536] = [0; 65536];
+    let mut number: u32 = 0;
+    let mut i: u32 = 0;
+    while i < rounds {
+        let w = core::write(d, &mut buffer);
+        number = w.number;
+        i = i + 1;
+    }
+    number
+}
+
+fn rounds_of_read(bytes: &[u8], rounds: u32) -> u32
+    ensures { λ r. ⌜ r ≡ lastOf rounds (readFile (now (bytes .entry)) .number) ⌝ }
+{
+    let mut number: u32 = 0;
+    let mut i: u32 = 0;
+    while i < rounds {
+        let a = core::read(bytes);
+        number = a.number;
+        i = i + 1;
+    }
+    number
+}
+
+// Reads a file once, then makes a call so many times on the drawing read: 0 the command in the bytes, 1 star of the id,
+// 2 Euler, 3 write, 4 read of the bytes. The number of the last round.
+#[no_mangle]
+pub extern "C" fn dz_repeat(file: &[u8], what: u32, id: u32, bytes: &[u8], rounds: u32) -> u32
+    ensures { λ r. ⌜ r ≡ repeatAt (now (file .entry)) what id (now (bytes .entry)) rounds ⌝ }
+{
+    let a = core::read(file);
+    if a.number != 0 {
+        return 10;
+    }
+    let d = a.drawing;
+    match what {
+        0 => rounds_of_command(d, bytes, rounds),
+        1 => rounds_of_star(d, id, rounds),
+        2 => rounds_of_euler(d, rounds),
+        3 => rounds_of_write(d, rounds),
+        4 => rounds_of_read(bytes, rounds),
+        _ => 5,
+    }
 }
