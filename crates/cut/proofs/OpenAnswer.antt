@@ -74,7 +74,7 @@ module _ (d : Drawing) (z : Sizes d) (w : T (soundDrawing d)) (ix : Index) (x : 
       }
 
   module _ (e q : ℕ) (k : isOpen (cellAt (sheetOf d) e) ≡ true) where
-    uses-are : usesBy (stepUse e) (sheetOf d .cells) ≡ total (stepUse e) (cyclesOf (take (t .cycles) (d .cycles)) (d .steps))
+    pub uses-are : usesBy (stepUse e) (sheetOf d .cells) ≡ total (stepUse e) (cyclesOf (take (t .cycles) (d .cycles)) (d .steps))
     uses-are = uses-held d z (sound-fits d w) (stepUse e) ∙ ap (λ (n : ℕ). total (stepUse e) (cyclesOf (take n (d .cycles)) (d .steps))) (sym cycles-are)
 
     pub open-live : isLive (cellAt (sheetOf d) e) ≡ true

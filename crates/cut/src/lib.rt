@@ -125,7 +125,7 @@ fn cut_closed(d: Drawing, e: u32, q: usize) -> Answer
 }
 
 // The position of a vertex.
-fn position_of(s: Shape) -> Position
+pub fn position_of(s: Shape) -> Position
     ensures { λ r. ⌜ r ≡ placeOf s ⌝ }
 {
     match s {

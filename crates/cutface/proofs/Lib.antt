@@ -1,8 +1,2 @@
-pub mod Rows
-pub mod Late
-pub mod Lists
 pub mod Edits
-pub mod Moved
 pub mod Rounds
-pub mod Arcs
-pub mod Splits

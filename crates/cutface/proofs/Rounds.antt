@@ -38,12 +38,12 @@ use Rattle.append.specs.Appends.{Room}
 use Rattle.append.specs.Requirements.{BytesRoom}
 use Rattle.command.specs.Lists.{Stand, numbersRead}
 use Rattle.script.specs.Walks.{Marks}
-use Rattle.cutface.specs.Faces.{Within, Spanned, cyclesAt, recycled, Roomy}
+use Rattle.outline.specs.Faces.{Within, Spanned, cyclesAt, recycled, Roomy}
 use Rattle.cutface.specs.Rounds.{stayed, left, RoundCut, roundNo}
-use Rattle.cutface.proofs.Late.{next-in}
-use Rattle.cutface.proofs.Lists.{at-length, along-read, against-read}
-use Rattle.cutface.proofs.Moved.{without-kept, chosen-kept}
-use Rattle.cutface.proofs.Edits.{room-listed, sheet-listed, first-room, second-room, both-done}
+use Rattle.outline.proofs.Late.{next-in}
+use Rattle.outline.proofs.Lists.{at-length, along-read, against-read}
+use Rattle.outline.proofs.Moved.{without-kept, chosen-kept}
+use Rattle.outline.proofs.Edits.{room-listed, sheet-listed, first-room, second-room, both-done}
 
 -- ---- bends in a script
 bends-none : (s : List ℕ) (at n : ℕ) → isEmpty (positionsAt s at n) ≡ eqb n 0
@@ -101,7 +101,7 @@ module _ (d : Drawing) (z : Sizes d) (ix : Index) (script : List ℕ) (f bends f
         let b = s .fewSteps in
         let c = r .cycleRoom in
         let e = r .stepRoom in
-        (s .within, (omega arith, (omega arith, (r .stand, (ap (places 0 ms) own-length ∙ r .rise, next-in d (r .named .sound))))))
+        (s .within, (omega arith, (omega arith, (r .stand, (ap (places 0 ms) own-length ∙ r .rise, next-in d (r .sound))))))
 
     pub old-list : (counts : List ℕ) (u : Used) (steps : List ℕ) → Built (stayed ms (cyclesAt (d .cycles) (d .steps) t) (d .next)) counts u steps → built counts u steps ≡ oldList
     old-list counts u steps b = b .list ∙ ap₂ (stayed ms) (s .list) (sym (next-is d))

@@ -1,3 +1,1 @@
-pub mod Faces
 pub mod Rounds
-pub mod Arcs

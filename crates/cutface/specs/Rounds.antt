@@ -3,7 +3,7 @@ use Prim.Native.Nat.{ℕ, _+_, _*_, _≤_}
 use mathlib.Core.Path.{_≡_}
 use mathlib.Core.Bool.{true, cond}
 use mathlib.Core.List.{List, [], _∷_, _++_}
-use lib.Dec.{eqb}
+use lib.Dec.{T, eqb}
 use lib.ListN.{length, take}
 use Rattle.number.specs.Numbers.{readNumber}
 use Rattle.bends.specs.Bends.{positionsAt}
@@ -14,9 +14,10 @@ use Rattle.store.specs.declared.Drawing.{Drawing}
 use Rattle.store.specs.declared.Index.{Index}
 use Rattle.store.specs.Index.{valueAt}
 use Rattle.store.specs.View.{sheetOf, cycleTotal, stepTotal}
+use Rattle.sound.specs.Soundness.{soundDrawing}
 use Rattle.append.specs.Appends.{RoomIn}
 use Rattle.command.specs.Lists.{Stand, numbersRead}
-use Rattle.cutface.specs.Faces.{Named, recycled}
+use Rattle.outline.specs.Faces.{Named, recycled}
 
 -- the cycles that stay, and then e
 abbrev pub stayed : List ℕ → List Cycle → ℕ → List Cycle
@@ -29,6 +30,7 @@ left ms ks e = path (one (against e)) ∷ chosen noCycle ms ks
 -- questions 3 to 8 got a yes
 pub record RoundCut (d : Drawing) (ix : Index) (script : List ℕ) (f bends first moved place : ℕ) : Type 0 where
   pub named : Named d ix f
+  pub sound : T (soundDrawing d)
   pub bytes : first + 16 * bends ≤ length script
   pub stand : Stand readNumber script place moved
   pub rise : places 0 (numbersRead script place moved) (length (cyclesOf (cellAt (sheetOf d) f))) ≡ true

@@ -12,3 +12,15 @@ pub fn dead_row(row: usize) -> [bool; 256]
     dead[row] = true;
     dead
 }
+
+// The flags of two dead rows.
+pub fn dead_rows(a: usize, b: usize) -> [bool; 256]
+    requires { ⌜ a < 256 ⌝ }
+    requires { ⌜ b < 256 ⌝ }
+    ensures { λ r. ⌜ r ≡ set (set (replicate 256 false) a true) b true ⌝ }
+{
+    let mut dead = [false; 256];
+    dead[a] = true;
+    dead[b] = true;
+    dead
+}

@@ -5,7 +5,9 @@ use mathlib.Core.List.{List}
 use lib.Dec.{T}
 use lib.ListN.{length}
 use Rattle.complex.specs.Cells.{empty}
+use Rattle.complex.specs.Calls.{Filled, filled}
 use Rattle.complex.specs.Demands.{after, AfterAll}
+use Rattle.complex.specs.File.{fileOf}
 use Rattle.complex.specs.Program.{run, commandsOf}
 use Rattle.store.specs.View.{sheetOf}
 use Rattle.sound.specs.Soundness.{soundDrawing}
@@ -18,3 +20,7 @@ pub record RanAll (bytes : List ℕ) (r : Ran) : Type 0 where
   pub commands : r .commands ≡ length (run bytes .lines)
   pub reached : sheetOf (r .drawing) ≡ after empty (commandsOf bytes)
   pub demand : AfterAll (commandsOf bytes)
+
+-- the file of the drawing that the bytes' commands end with, in the first places of a buffer that has room
+abbrev pub savedTo : List ℕ → List ℕ → Filled
+savedTo bytes buffer = filled (fileOf (run bytes .sheet)) buffer

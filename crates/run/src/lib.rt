@@ -1,7 +1,10 @@
 // A script from the empty drawing.
-ghost use Rattle.run.specs.Runs.{RanAll};
+ghost use mathlib.Core.Path.{_≡_};
+ghost use Rattle.writer.specs.Writes.{answered as written};
+ghost use Rattle.run.specs.Runs.{RanAll, savedTo};
 use command::Decoded;
 use store::Drawing;
+use writer::Written;
 
 // The drawing after a script's commands, and how many there were, one that is not read among them.
 pub struct Ran {
@@ -33,4 +36,13 @@ pub fn run(script: &[u8]) -> Ran
         drawing: d,
         commands,
     }
+}
+
+// The file of the drawing after a script's commands, in the buffer's first places: 0 or 9, and the count of its bytes.
+pub fn save(script: &[u8], buffer: &mut [u8]) -> Written
+    ensures { λ r. ⌜ written r (now (buffer .exit)) ≡ savedTo (now (script .entry)) (now (buffer .entry)) ⌝ }
+{
+    let r = run(script);
+    let d = r.drawing;
+    core::write(d, buffer)
 }

@@ -1,2 +1,2 @@
-pub mod Dropping
-pub mod Joining
+pub mod Cases
+pub mod Finding

@@ -1,116 +1,100 @@
 ghost use mathlib.Core.Path.{_≡_};
-ghost use mathlib.Core.Bool.{true, false};
-ghost use Prim.Native.Nat.{_<_};
-ghost use lib.ListN.{set, replicate};
-ghost use Rattle.complex.specs.Edits.{both, rewired, sameVertex, inPlaceOf, reshape, rebuild};
-ghost use Rattle.complex.specs.Uncut.{loop, inOne, uncutResult};
-ghost use Rattle.number.specs.Readers.{spread};
-ghost use Rattle.store.specs.Sheet.{allReal};
-ghost use Rattle.store.specs.Places.{cyclesAt};
-ghost use Rattle.store.specs.View.{sheetOf, Fits};
-ghost use Rattle.append.specs.Appends.{remade};
-ghost use Rattle.append.specs.Runs.{runsOf};
-ghost use Rattle.complex.specs.Cells.{openEdge};
-ghost use mathlib.Core.List.{_∷_, []};
-ghost use Rattle.uncut.specs.Needs.{Pair, Triple, allBut, Looped, Merged};
-use coordinate::Position;
+ghost use mathlib.Core.Bool.{true, cond};
+ghost use lib.Dec.{T};
+ghost use Rattle.complex.specs.Cells.{cellAt, isVertex, isClosed, isEdge};
+ghost use Rattle.complex.specs.Decode.{uncut as uncutting};
+ghost use Rattle.store.specs.Index.{Indexes};
+ghost use Rattle.store.specs.View.{sheetOf};
+ghost use Rattle.sound.specs.Soundness.{soundDrawing};
+ghost use Rattle.answer.specs.Answers.{Answers};
+ghost use Rattle.uncut_case.specs.Cases.{openCase, closedCase};
+use answer::Answer;
 use store::Drawing;
+use store::Index;
+use uncut_case::AtEdge;
+use uncut_case::AtVertex;
+use uncut_case::Uses;
 
-// The flags of two dead rows.
-fn dead_rows(a: usize, b: usize) -> [bool; 256]
-    requires { ⌜ a < 256 ⌝ }
-    requires { ⌜ b < 256 ⌝ }
-    ensures { λ r. ⌜ r ≡ set (set (replicate 256 false) a true) b true ⌝ }
+// 0E at a vertex.
+fn at_vertex(d: Drawing, ix: Index, v: u32) -> Answer
+    requires { ⌜ T (soundDrawing d) ⌝ }
+    requires { ⌜ Indexes d ix ⌝ }
+    requires { ⌜ isVertex (cellAt (sheetOf d) v) ≡ true ⌝ }
+    ensures { λ r. ⌜ Answers d (uncutting v) r ⌝ }
 {
-    let mut dead = [false; 256];
-    dead[a] = true;
-    dead[b] = true;
-    dead
+    let n = d.count;
+    let ids = ix.ids;
+    let kinds = ix.kinds;
+    let starts = ix.starts;
+    let ends = ix.ends;
+    let counts = ix.cycles;
+    let cy = d.cycles;
+    let st = d.steps;
+    let m = cycles::place_sum(0, &counts, 0, n);
+    let c = uncut_case::at_vertex(&ids, &kinds, &starts, &ends, n, &cy, m, &st, v);
+    match c {
+        AtVertex::Refused => answer::refused(d, 6),
+        AtVertex::Lonely => uncut_lone::lonely(d, v),
+        AtVertex::Loop(e) => uncut_vertex::looped(d, v, e),
+        AtVertex::Joint {
+            one,
+            back1,
+            two,
+            back2,
+        } => uncut_vertex::jointed(d, v, one, back1, two, back2),
+    }
 }
 
-// The steps of e become those of the next cell, and the vertex v and e go; a and b are their rows.
-fn swap_out(d: Drawing, v: u32, a: usize, e: u32, b: usize) -> Drawing
-    requires { ⌜ Pair d v a e b ⌝ }
-    requires { ⌜ e < 2147483648 ⌝ }
-    ensures { λ r. ⌜ sheetOf r ≡ remade (both v e) (rewired sameVertex (inPlaceOf e (sheetOf d .next) false)) (sheetOf d) ⌝ }
-    ensures { λ r. ⌜ Fits r ⌝ }
+fn edge_case(closed: bool, x: Uses) -> AtEdge
+    ensures { λ r. ⌜ r ≡ cond closed (closedCase x) (openCase x) ⌝ }
 {
-    let next = d.next;
-    let mid = rewire::swap_edge(d, e, next, false);
-    let dead = dead_rows(a, b);
-    keep::keep(mid, dead)
+    if closed {
+        return uncut_case::closed_case(x);
+    }
+    uncut_case::open_case(x)
 }
 
-// The vertex v at p becomes the first bend of the edge e, both of whose ends were there; a and b are their rows.
-pub fn join_loop(d: Drawing, v: u32, a: usize, e: u32, b: usize, p: Position) -> Drawing
-    requires { ⌜ Looped d v a e b p ⌝ }
-    ensures { λ r. ⌜ sheetOf r ≡ uncutResult (sheetOf d) v (loop e) ⌝ }
-    ensures { λ r. ⌜ Fits r ⌝ }
+// 0E at an edge, closed or open.
+fn at_edge(d: Drawing, ix: Index, closed: bool, e: u32) -> Answer
+    requires { ⌜ T (soundDrawing d) ⌝ }
+    requires { ⌜ Indexes d ix ⌝ }
+    requires { ⌜ isClosed (cellAt (sheetOf d) e) ≡ closed ⌝ }
+    requires { ⌜ isEdge (cellAt (sheetOf d) e) ≡ true ⌝ }
+    ensures { λ r. ⌜ Answers d (uncutting e) r ⌝ }
 {
-    let first = append::bends_before(d, b);
-    let c = d.cells[b];
-    let s = c.shape;
-    let m = store::wide(store::bend_count(s));
-    let mid = swap_out(d, v, a, e, b);
-    let r = append::Runs {
-        first: 0,
-        count: 0,
-        turned: false,
-        middle: true,
-        at: p,
-        first2: first,
-        count2: m,
-        turned2: false,
-    };
-    append::append_closed(mid, d, r)
+    let n = d.count;
+    let ids = ix.ids;
+    let counts = ix.cycles;
+    let cy = d.cycles;
+    let st = d.steps;
+    let x = uncut_case::uses_of(&ids, &counts, n, &cy, &st, e);
+    let c = edge_case(closed, x);
+    match c {
+        AtEdge::Refused => answer::refused(d, 6),
+        AtEdge::TwoFaces(u, w) => uncut_edge::two_faces(d, e, u, w),
+        AtEdge::OneCycle(u, w) => uncut_edge::one_cycle(d, e, u, w),
+        AtEdge::Rings(u, w) => uncut_edge::rings(d, e, u, w),
+    }
 }
 
-// The flags of three dead rows.
-fn three_dead(a: usize, b: usize, c: usize) -> [bool; 256]
-    requires { ⌜ a < 256 ⌝ }
-    requires { ⌜ b < 256 ⌝ }
-    requires { ⌜ c < 256 ⌝ }
-    ensures { λ r. ⌜ r ≡ set (set (set (replicate 256 false) a true) b true) c true ⌝ }
+// 0E
+pub fn uncut(d: Drawing, i: u32) -> Answer
+    requires { ⌜ T (soundDrawing d) ⌝ }
+    ensures { λ r. ⌜ Answers d (uncutting i) r ⌝ }
 {
-    let mut dead = [false; 256];
-    dead[a] = true;
-    dead[b] = true;
-    dead[c] = true;
-    dead
-}
-
-// The steps of x become those of the next cell, those of y go, and the vertex v, x and y go; a, b and c are their rows.
-pub fn merge_out(d: Drawing, v: u32, a: usize, x: u32, b: usize, y: u32, c: usize) -> Drawing
-    requires { ⌜ Triple d v a x b y c ⌝ }
-    requires { ⌜ x < 2147483648 ⌝ }
-    requires { ⌜ y < 2147483648 ⌝ }
-    requires { ⌜ allReal (spread cyclesAt (reshape (rewired sameVertex (inOne x y (sheetOf d .next))) (sheetOf d .cells))) ≡ true ⌝ }
-    ensures { λ r. ⌜ sheetOf r ≡ remade (allBut v x y) (rewired sameVertex (inOne x y (sheetOf d .next))) (sheetOf d) ⌝ }
-    ensures { λ r. ⌜ Fits r ⌝ }
-{
-    let next = d.next;
-    let mid = rewire::merge_edge_steps(d, x, y, next);
-    let dead = three_dead(a, b, c);
-    keep::keep(mid, dead)
-}
-
-// Two edges become one through the vertex v, from start to end, with the bends of r.
-pub fn join_edges(
-    d: Drawing,
-    v: u32,
-    a: usize,
-    x: u32,
-    b: usize,
-    y: u32,
-    c: usize,
-    start: u32,
-    end: u32,
-    r: append::Runs,
-) -> Drawing
-    requires { ⌜ Merged d v a x b y c start end r ⌝ }
-    ensures { λ q. ⌜ sheetOf q ≡ rebuild (allBut v x y) (rewired sameVertex (inOne x y (sheetOf d .next))) (openEdge start end (runsOf (d .bends) r) ∷ []) (sheetOf d) ⌝ }
-    ensures { λ q. ⌜ Fits q ⌝ }
-{
-    let mid = merge_out(d, v, a, x, b, y, c);
-    append::append_open(mid, d, start, end, r)
+    let ix = store::index_of(d);
+    let n = d.count;
+    let ids = ix.ids;
+    let kinds = ix.kinds;
+    let k = store::value_at(4, &ids, &kinds, n, i);
+    if k == 0 {
+        return at_vertex(d, ix, i);
+    }
+    if k == 1 {
+        return at_edge(d, ix, false, i);
+    }
+    if k == 2 {
+        return at_edge(d, ix, true, i);
+    }
+    answer::refused(d, 4)
 }

@@ -3,3 +3,4 @@ pub mod Finding
 pub mod Using
 pub mod Deciding
 pub mod Meaning
+pub mod Passing

@@ -1,20 +1,16 @@
 ghost use mathlib.Core.Path.{_≡_};
 ghost use Prim.Native.Nat.{_+_, _≤_};
-ghost use lib.Dec.{T};
 ghost use lib.ListN.{take, drop, length};
 ghost use mathlib.Core.Bool.{true, false, not, Bool·beq};
 ghost use mathlib.Core.List.{_∷_, [], map};
 ghost use Rattle.complex.specs.Lists.{any, consIf, total};
 ghost use Rattle.complex.specs.Cells.{stepsOf};
-ghost use Rattle.complex.specs.Uses.{passage, passages, passagesAt, endsAt, loneUse, usesBy, stepUses, cycleUses, usesOf};
-ghost use Rattle.complex.specs.Uncut.{uncutVertex, uncutOpen, uncutClosed};
-ghost use Rattle.store.specs.View.{halfedgeOf, width, widthSum, cycleOf, cyclesOf, sheetOf};
+ghost use Rattle.complex.specs.Uses.{passage, passages, loneUse, stepUses, cycleUses};
+ghost use Rattle.store.specs.View.{halfedgeOf, width, widthSum, cycleOf, cyclesOf};
 ghost use Rattle.sound.specs.Rows.{rowsOf};
-ghost use Rattle.sound.specs.Soundness.{soundDrawing};
 ghost use Rattle.uncut_case.specs.Turns.{Rowed, sideIn, leavesIn, turnsBack, turnsAt, turnsIn};
-ghost use Rattle.uncut_case.specs.Cases.{vertexCase, edgeCase, pairCase, endsCase, openPair, openCase, closedPair, closedCase};
+ghost use Rattle.uncut_case.specs.Cases.{pairCase, endsCase, openPair, openCase, closedPair, closedCase};
 ghost use Rattle.uncut_case.specs.Found.{fed, rowEnds, endsIn, oneEnd, endsOf, noUses, addUse, oneUse, usesTwo, usesIn, Faces};
-use store::Drawing;
 
 // How many edge ends, and the first two: an edge and whether its halfedge leaves backward.
 pub struct Ends {
@@ -623,53 +619,4 @@ pub fn closed_case(x: Uses) -> AtEdge
         return closed_pair(u, w);
     }
     AtEdge::Refused
-}
-
-// The case of the vertex v of a drawing.
-pub fn vertex_case(d: Drawing, v: u32) -> AtVertex
-    requires { ⌜ T (soundDrawing d) ⌝ }
-    ensures { λ r. ⌜ r ≡ vertexCase (uncutVertex (passagesAt (sheetOf d .cells) v) (usesBy (loneUse v) (sheetOf d .cells)) (endsAt (sheetOf d .cells) v)) ⌝ }
-{
-    let ix = store::index_of(d);
-    let n = d.count;
-    let ids = ix.ids;
-    let kinds = ix.kinds;
-    let starts = ix.starts;
-    let ends = ix.ends;
-    let m = store::cycle_total(d);
-    let cy = d.cycles;
-    let st = d.steps;
-    at_vertex(&ids, &kinds, &starts, &ends, n, &cy, m, &st, v)
-}
-
-// The uses of the edge e of a drawing.
-pub fn edge_uses(d: Drawing, e: u32) -> Uses
-    requires { ⌜ T (soundDrawing d) ⌝ }
-    ensures { λ r. ⌜ r ≡ usesTwo (usesOf (sheetOf d .cells) e) ⌝ }
-{
-    let ix = store::index_of(d);
-    let n = d.count;
-    let ids = ix.ids;
-    let counts = ix.cycles;
-    let cy = d.cycles;
-    let st = d.steps;
-    uses_of(&ids, &counts, n, &cy, &st, e)
-}
-
-// The case of the open edge e of a drawing.
-pub fn open_edge_case(d: Drawing, e: u32) -> AtEdge
-    requires { ⌜ T (soundDrawing d) ⌝ }
-    ensures { λ r. ⌜ r ≡ edgeCase (uncutOpen (usesOf (sheetOf d .cells) e)) ⌝ }
-{
-    let x = edge_uses(d, e);
-    open_case(x)
-}
-
-// The case of the closed edge e of a drawing.
-pub fn closed_edge_case(d: Drawing, e: u32) -> AtEdge
-    requires { ⌜ T (soundDrawing d) ⌝ }
-    ensures { λ r. ⌜ r ≡ edgeCase (uncutClosed (usesOf (sheetOf d .cells) e)) ⌝ }
-{
-    let x = edge_uses(d, e);
-    closed_case(x)
 }

@@ -14,7 +14,6 @@ use Rattle.complex.specs.Cells.{Cycle, Figure, vertex, openEdge, closedEdge, fa
 use Rattle.complex.specs.Cells as cells
 use Rattle.complex.specs.Uses.{groups, usesBy, loneUse, Passage, passagesAt, allCycles}
 use Rattle.complex.specs.Unglue.{parts}
-use Rattle.complex.proofs.UnglueVertex.{turnsOf}
 use Rattle.store.specs.declared.Drawing.{Drawing}
 use Rattle.store.specs.declared.Index.{Index}
 use Rattle.store.specs.Index.{Indexes}
@@ -25,7 +24,7 @@ use Rattle.store.proofs.Stands.{used-cycles}
 use Rattle.sound.specs.Soundness.{soundDrawing}
 use Rattle.sound.proofs.Meaning.{sound-fits}
 use Rattle.unglue.specs.Search.{Links, Ready, Sorting}
-use Rattle.unglue.specs.Places.{placeAt, linkKept, leftPlaces, rightPlaces, EndMarks, GroupedEnds, Put, Fresh}
+use Rattle.unglue.specs.Places.{placeAt, turnsOf, linkKept, leftPlaces, rightPlaces, EndMarks, GroupedEnds, Put, Fresh}
 use Rattle.unglue.proofs.Search.{sorting-start}
 use Rattle.unglue.proofs.Vertex.{kept-are, label, links-in, classes, grouped}
 

@@ -12,13 +12,13 @@ use lib.Seq.{take-suc, take-suc-set, length-take-le, getD-take}
 use Rattle.complex.specs.Lists.{filter, consIf, one}
 use Rattle.complex.specs.Cells.{Halfedge, Cycle, stepsOf}
 use Rattle.complex.specs.Uses.{Passage, passage, passages, passagesFrom}
-use Rattle.complex.proofs.UnglueVertex.{filter-append, turnsOf}
+use Rattle.complex.proofs.UnglueVertex.{filter-append}
 use Rattle.store.specs.Index.{rowOf}
 use Rattle.store.specs.View.{halfedgeOf, width, widthSum, cycleOf, cyclesOf}
 use Rattle.store.proofs.Lists.{map-append}
 use Rattle.store.proofs.Encode.{flat-append}
 use Rattle.copies.proofs.Passing.{cycles-more}
-use Rattle.unglue.specs.Places.{placeAt, linkKept, leftPlaces, rightPlaces, Paired, Put, nextStep}
+use Rattle.unglue.specs.Places.{placeAt, turnsOf, linkKept, leftPlaces, rightPlaces, Paired, Put, nextStep}
 
 -- ---- a pair more
 pub pair-none : (x y used : ℕ) (xs ys : List ℕ) → Paired false x y used xs ys used xs ys

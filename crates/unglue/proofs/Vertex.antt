@@ -16,7 +16,7 @@ use Rattle.complex.specs.Cells.{Halfedge, Figure, vertex, openEdge, closedEdge,
 use Rattle.complex.specs.Uses.{loneUse, onUses, endsAt, Passage, passagesAt, allCycles, isIn, groups, groupOf, Together, passes, itself, back, chain}
 use Rattle.complex.proofs.Bools.{truth, true-of, both}
 use Rattle.complex.proofs.Keep.{Sound, sound-parts}
-use Rattle.complex.proofs.UnglueVertex.{end-in, open-at, turnsOf}
+use Rattle.complex.proofs.UnglueVertex.{end-in, open-at}
 use Rattle.complex.proofs.Groups.{groupAt, firstAt, together-same, same-together, in-some, in-own, in-only, members-end, none-empty, first-earliest, by-first}
 use Rattle.store.specs.declared.Drawing.{Drawing}
 use Rattle.store.specs.declared.Index.{Index}
@@ -37,7 +37,7 @@ use Rattle.sound.specs.Soundness.{soundDrawing}
 use Rattle.sound.specs.Looks.{told, Looks}
 use Rattle.sound.proofs.Meaning as meaning
 use Rattle.unglue.specs.Search.{Links, Along, Marked, Classes, Numbered}
-use Rattle.unglue.specs.Places.{placeAt, isEnd, linkKept, leftPlaces, rightPlaces, EndMarks, endOf as newOf, NewEnds, GroupedEnds}
+use Rattle.unglue.specs.Places.{placeAt, isEnd, turnsOf, linkKept, leftPlaces, rightPlaces, EndMarks, endOf as newOf, NewEnds, GroupedEnds}
 use Rattle.unglue.proofs.Order.{listed, in-order}
 
 -- ---- rows

@@ -5,9 +5,10 @@ use mathlib.Core.Bool.{Bool, false, _&&_, cond}
 use mathlib.Core.List.{List, [], _++_, map}
 use lib.Dec.{T, eqb, ltb}
 use lib.ListN.{length, take, getD}
+use Rattle.number.specs.Readers.{spread}
 use Rattle.complex.specs.Lists.{filter, consIf}
-use Rattle.complex.specs.Cells.{Halfedge, LiveCell, lookup, isOpen, tailOf}
-use Rattle.complex.specs.Uses.{Passage, groups, groupOf}
+use Rattle.complex.specs.Cells.{Halfedge, Cycle, LiveCell, lookup, isOpen, tailOf, stepsOf}
+use Rattle.complex.specs.Uses.{Passage, passages, groups, groupOf}
 use Rattle.complex.specs.Unglue.{copyOf}
 use Rattle.store.specs.declared.Drawing.{Drawing}
 use Rattle.store.specs.declared.Index.{Index}
@@ -22,6 +23,10 @@ pub record Rows (is : List ℕ) (n : ℕ) : Type 0 where
 
 abbrev pub placeAt : List ℕ → Halfedge → ℕ
 placeAt is h = rowOf (h .edge) is * 2 + cond (h .backward) 1 0
+
+-- the passages of some cycles, cycle by cycle
+abbrev pub turnsOf : List Cycle → List Passage
+turnsOf ks = spread (λ (k : Cycle). passages (stepsOf k)) ks
 
 -- a passage between marked places
 abbrev pub linkKept : List ℕ → List Bool → Passage → Bool

@@ -7,8 +7,8 @@ use Rattle.complex.specs.Cells.{lone}
 use mathlib.Core.Bool.{false}
 use lib.ListN.{replicate, length-replicate}
 use Rattle.cycles.proofs.Building.{built-none}
-use Rattle.cutface.specs.Faces.{cyclesAt}
-use Rattle.cutface.proofs.Lists.{kept-none, at-length, copy-asks, copy-used, built-as, built-then}
+use Rattle.outline.specs.Faces.{cyclesAt}
+use Rattle.outline.proofs.Lists.{kept-none, at-length, copy-asks, copy-used, built-as, built-then}
 use Rattle.cutface.proofs.and_lone.Statement.{statement}
 use Rattle.cutface.proofs.and_lone.Tie as tie
 

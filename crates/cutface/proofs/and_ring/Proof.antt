@@ -3,7 +3,7 @@ use native.Mathlib.Omega.{arith}
 use Prim.Native.Nat.{ℕ}
 use lib.ListN.{replicate, length-replicate}
 use Rattle.cycles.proofs.Building.{built-none}
-use Rattle.cutface.proofs.Lists.{copy-asks, copy-used, ring-built}
+use Rattle.outline.proofs.Lists.{copy-asks, copy-used, ring-built}
 use Rattle.cutface.proofs.and_ring.Statement.{statement}
 use Rattle.cutface.proofs.and_ring.Tie as tie
 

@@ -4,7 +4,8 @@ use mathlib.Core.List.{[], _∷_}
 use Rattle.complex.specs.Cells.{vertex}
 use Rattle.store.specs.View.{sheetOf}
 use Rattle.store.proofs.Sizes.{sizes}
-use Rattle.cutface.proofs.Edits.{room-listed, sheet-listed, lone-asks, lone-list, lone-room, lone-done}
+use Rattle.outline.proofs.Edits.{room-listed, sheet-listed}
+use Rattle.cutface.proofs.Edits.{lone-asks, lone-list, lone-room, lone-done}
 use Rattle.cutface.proofs.cut_at.Statement.{statement}
 use Rattle.cutface.proofs.cut_at.Tie as tie
 

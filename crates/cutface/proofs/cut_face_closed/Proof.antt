@@ -24,8 +24,8 @@ use Rattle.answer.specs.declared.Totals.{Totals}
 use Rattle.answer.specs.Late.{sizesBy, lateNo}
 use Rattle.answer.proofs.Laws.{answers-no, summed, totalsIn, totals-small}
 use Rattle.command.specs.Lists.{numbersRead}
-use Rattle.cutface.proofs.Late.{Asked, next-in, refuses, room, spare, counts-done, answers}
-use Rattle.cutface.proofs.Edits.{rows-in}
+use Rattle.outline.proofs.Late.{Asked, next-in, refuses, room, spare, counts-done, answers}
+use Rattle.outline.proofs.Edits.{rows-in, named-in}
 use Rattle.cutface.proofs.Rounds.{round-three, round-new, round-more, round-result, round-cut, round-refuses, round-passes}
 use Rattle.cutface.proofs.cut_face_closed.Statement.{statement}
 use Rattle.cutface.proofs.cut_face_closed.Tie as tie
@@ -156,7 +156,8 @@ cut-round-requires c κs =
     let q = cutFaceClosed (a .f) (positionsAt s (a .first) (a .bends)) (numbersRead s (a .place) (a .moved)) in
     let o = spare d z w q (l .late-no .result) k (c .if3 .left) in
     record {
-      named = record { sound = w; index = x .index-of .ensures; face = y .0 };
+      named = named-in d z w (x .index-of .result) (x .index-of .ensures) (a .f) (y .0);
+      sound = w;
       bytes = st .pre .1 .0;
       stand = st .pre .1 .1;
       rise = y .1 .0;

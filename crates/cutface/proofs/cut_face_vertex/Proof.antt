@@ -24,8 +24,9 @@ use Rattle.sound.proofs.Meaning.{sound-fits}
 use Rattle.answer.specs.declared.Totals.{Totals}
 use Rattle.answer.specs.Late.{sizesBy, lateNo}
 use Rattle.answer.proofs.Laws.{answers-no, summed, totalsIn, totals-small}
-use Rattle.cutface.proofs.Late.{Asked, next-in, refuses, room, counts-done, answers}
-use Rattle.cutface.proofs.Edits.{rows-in, face-told, vertex-three, vertex-four, vertex-passed, vertex-new, vertex-more, vertex-result, vertex-cut}
+use Rattle.outline.proofs.Late.{Asked, next-in, refuses, room, counts-done, answers}
+use Rattle.outline.proofs.Edits.{rows-in, face-told, named-in}
+use Rattle.cutface.proofs.Edits.{vertex-three, vertex-four, vertex-passed, vertex-new, vertex-more, vertex-result, vertex-cut}
 use Rattle.cutface.proofs.cut_face_vertex.Statement.{statement}
 use Rattle.cutface.proofs.cut_face_vertex.Tie as tie
 
@@ -139,7 +140,7 @@ cut-at-requires c κs =
     let b = sym (i .in-bounds .ensures) ∙ not-false _ (x .before .if1 .left) in
     let h = face-told d z (st .pre) (x .index-of .result) (x .index-of .ensures) (a .f) _ (g .is-face .ensures) ∙ not-false _ (e .if2 .left) in
     let k = asked d z (st .pre) (a .f) (a .p) b h (x .index-of .result) (x .index-of .ensures) (t .totals-of .result) (t .totals-of .ensures) (l .late-no .result) (l .late-no .ensures) in
-    (record { sound = st .pre; index = x .index-of .ensures; face = h }, room d z (st .pre) (cutFaceVertex (a .f) (a .p)) (l .late-no .result) k (c .if3 .left) everyId _ (vertex (a .p) ∷ []) (vertex-result (sheetOf d) (a .f) (a .p)))
+    (named-in d z (st .pre) (x .index-of .result) (x .index-of .ensures) (a .f) h, room d z (st .pre) (cutFaceVertex (a .f) (a .p)) (l .late-no .result) k (c .if3 .left) everyId _ (vertex (a .p) ∷ []) (vertex-result (sheetOf d) (a .f) (a .p)))
 
 done-requires : tie.Need-done-requires
 done-requires c κs =

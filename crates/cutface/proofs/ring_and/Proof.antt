@@ -8,8 +8,8 @@ use Rattle.store.specs.Edits.{kept}
 use lib.ListN.{take}
 use Rattle.cycles.specs.declared.Used.{Used}
 use Rattle.cycles.proofs.Building.{built-none}
-use Rattle.cutface.specs.Faces.{cyclesAt}
-use Rattle.cutface.proofs.Lists.{copy-asks, built-then, ring-built}
+use Rattle.outline.specs.Faces.{cyclesAt}
+use Rattle.outline.proofs.Lists.{copy-asks, built-then, ring-built}
 use Rattle.cutface.proofs.ring_and.Statement.{statement}
 use Rattle.cutface.proofs.ring_and.Tie as tie
 

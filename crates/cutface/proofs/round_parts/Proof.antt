@@ -3,8 +3,8 @@ use borrow.Author.Needs.{needs}
 use native.Mathlib.Omega.{arith}
 use Rattle.command.specs.Lists.{numbersRead}
 use Rattle.script.proofs.Moved.{places-below}
-use Rattle.cutface.proofs.Lists.{built-as}
-use Rattle.cutface.proofs.Moved.{turned-size}
+use Rattle.outline.proofs.Lists.{built-as}
+use Rattle.outline.proofs.Moved.{turned-size}
 use Rattle.cutface.proofs.Rounds.{stayed-kept, left-kept}
 use Rattle.cutface.proofs.round_parts.Statement.{statement}
 use Rattle.cutface.proofs.round_parts.Tie as tie

@@ -4,11 +4,10 @@ use Prim.Native.Nat.{ℕ, _+_, _-_, _≤_, _<_}
 use native.Mathlib.Omega.{arith}
 use mathlib.Core.Path.{_≡_, refl, ap, subst, _∙_}
 use lib.ListN.{length, take, drop, getD, length-drop}
-use Rattle.complex.proofs.UnglueVertex.{turnsOf}
 use Rattle.store.specs.View.{widthSum, cyclesOf}
 use Rattle.store.proofs.Lists.{places-one}
 use Rattle.copies.proofs.Passing.{part-is, from-more, from-within}
-use Rattle.unglue.specs.Places.{Put}
+use Rattle.unglue.specs.Places.{turnsOf, Put}
 use Rattle.unglue.proofs.Links.{put-none, put-over, cycles-turn}
 use Rattle.unglue.proofs.find_links.Statement.{statement}
 use Rattle.unglue.proofs.find_links.Tie as tie

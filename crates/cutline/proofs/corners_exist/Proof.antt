@@ -1,0 +1,63 @@
+-- `corners_exist` meets its contract. Assumes nothing.
+use borrow.Author.Needs.{needs}
+use Rattle.complex.specs.Cells.{cellAt, cyclesOf}
+use Rattle.store.specs.View.{sheetOf}
+use Rattle.store.proofs.Sizes.{sizes}
+use Rattle.command.specs.Lists.{numbersRead}
+use Rattle.cutline.proofs.Corners.{count-told, first-missing, second-missing, both-there}
+use Rattle.cutline.proofs.corners_exist.Statement.{statement}
+use Rattle.cutline.proofs.corners_exist.Tie as tie
+
+corner-on-requires : tie.Need-corner-on-requires
+corner-on-requires c κs = search needs
+
+returns : tie.Need-returns
+returns c =
+    let o = c .before in
+    let a = o .before .before .args in
+    let s = sheetOf (a .d) in
+    first-missing (cellAt s) (cyclesOf (cellAt s (a .f))) (a .c1) (a .s1) (a .c2) (a .s2) (numbersRead (a .script .now) (a .place) (a .moved))
+    (o .corner-on .result) (o .corner-on .ensures) (c .if1 .taken)
+
+corner-on-requires-2 : tie.Need-corner-on-requires-2
+corner-on-requires-2 c κs = search needs
+
+returns-2 : tie.Need-returns-2
+returns-2 c =
+    let o2 = c .before in
+    let o = o2 .before .before in
+    let a = o .before .before .args in
+    let s = sheetOf (a .d) in
+    second-missing (cellAt s) (cyclesOf (cellAt s (a .f))) (a .c1) (a .s1) (a .c2) (a .s2) (numbersRead (a .script .now) (a .place) (a .moved))
+    (o .corner-on .result) (o .corner-on .ensures) (o2 .before .if1 .left) (o2 .corner-on2 .result) (o2 .corner-on2 .ensures) (c .if2 .taken)
+
+value-at-requires : tie.Need-value-at-requires
+value-at-requires c κs = search needs
+
+moved-fit-requires : tie.Need-moved-fit-requires
+moved-fit-requires c κs = search needs
+
+returns-3 : tie.Need-returns-3
+returns-3 c =
+    let v = c .before in
+    let e = v .before .before .before .before .before in
+    let o2 = e .before in
+    let o = o2 .before .before in
+    let st = o .before .before in
+    let a = st .args in
+    let s = sheetOf (a .d) in
+    both-there (cellAt s) (cyclesOf (cellAt s (a .f))) (a .c1) (a .s1) (a .c2) (a .s2) (numbersRead (a .script .now) (a .place) (a .moved))
+    (o .corner-on .result) (o .corner-on .ensures) (o2 .before .if1 .left) (o2 .corner-on2 .result) (o2 .corner-on2 .ensures) (e .if2 .left)
+    (v .value-at .result) (count-told (a .d) (sizes (a .d) _ (st .good .0)) (a .ix) (a .f) (st .pre .0) (v .value-at .result) (v .value-at .ensures)) (c .moved-fit .result) (c .moved-fit .ensures)
+
+pub corners-exist-spec : {M : Type 1} → statement M
+corners-exist-spec =
+    tie.close
+    (tie.spec
+    corner-on-requires
+    returns
+    corner-on-requires-2
+    returns-2
+    value-at-requires
+    moved-fit-requires
+    returns-3)

@@ -1,0 +1,7 @@
+pub mod Rows
+pub mod Late
+pub mod Lists
+pub mod Edits
+pub mod Moved
+pub mod Arcs
+pub mod Splits

@@ -1,0 +1,75 @@
+-- 0C: where a cycle stands in the arrays, and the cycles that come in its place. Definitions only.
+use Prim.Native.Nat.{ℕ, _+_, _≤_, _<_}
+use mathlib.Core.Path.{_≡_}
+use mathlib.Core.Bool.{true, false}
+use mathlib.Core.List.{List, _∷_, _++_}
+use lib.Dec.{eqb}
+use lib.ListN.{length, take, drop, getD}
+use Rattle.number.specs.Numbers.{readNumber}
+use Rattle.complex.specs.Lists.{total, one, rotated, holds, places}
+use Rattle.complex.specs.Cells.{Cycle, path, along, against, stepsOf}
+use Rattle.complex.specs.Sound.{stepCount}
+use Rattle.complex.specs.Cut.{stretch, remainder}
+use Rattle.store.specs.View.{width, widthSum, cycleOf}
+use Rattle.cycles.specs.declared.Spans.{Spans}
+use Rattle.command.specs.Lists.{Stand, numbersRead}
+use Rattle.outline.specs.Faces.{Within, cyclesAt}
+use Rattle.split.specs.declared.Place.{Place}
+use Rattle.split.specs.Along.{nearSide, farSide, bridge}
+
+-- the place of cycle c of the spans
+abbrev pub placeOf : List ℕ → Spans → ℕ → Place
+placeOf cycles t c = record { m = getD cycles (t .cycles .first + c) 0; at = t .steps .first + widthSum (take c (drop (t .cycles .first) cycles)) }
+
+-- the cycle at a place
+abbrev pub cycleAt : List ℕ → Place → Cycle
+cycleAt steps p = cycleOf (p .m) (drop (p .at) steps)
+
+-- P e⁻
+abbrev pub nearCycle : ℕ → ℕ → ℕ → Cycle → Cycle
+nearCycle e s1 s2 k = path (stretch s1 s2 (stepsOf k) ++ one (against e))
+
+-- Q e
+abbrev pub farCycle : ℕ → ℕ → ℕ → Cycle → Cycle
+farCycle e s1 s2 k = path (remainder s1 s2 (stepsOf k) ++ one (along e))
+
+-- one cycle from s1, e, the other from s2, e⁻
+abbrev pub bridgeCycle : ℕ → ℕ → Cycle → ℕ → Cycle → Cycle
+bridgeCycle e s1 k1 s2 k2 = path (rotated s1 (stepsOf k1) ++ (along e ∷ rotated s2 (stepsOf k2) ++ one (against e)))
+
+-- p is the place of cycle c of the spans, which has the corner s
+pub record Cornered (cycles steps : List ℕ) (t : Spans) (c : ℕ) (p : Place) (s : ℕ) : Type 0 where
+  pub within : Within cycles steps t
+  pub cycle : c < t .cycles .count
+  pub place : p ≡ placeOf cycles t c
+  pub corner : s < width (p .m)
+
+-- the moved cycles lie in the script, and there is room for both sides
+pub record Parting (cycles steps : List ℕ) (t : Spans) (script : List ℕ) (moved place c : ℕ) (p : Place) (s1 s2 e : ℕ) : Type 0 where
+  pub start : Cornered cycles steps t c p s1
+  pub end : Cornered cycles steps t c p s2
+  pub stand : Stand readNumber script place moved
+  pub rise : places 0 (numbersRead script place moved) (t .cycles .count) ≡ true
+  pub stays : holds c (numbersRead script place moved) ≡ false
+  pub few : e ≤ 65536
+  pub nearRoom : total stepCount (nearSide e c s1 s2 (numbersRead script place moved) (cyclesAt cycles steps t)) ≤ 2048
+  pub farCycles : length (farSide e c s1 s2 (numbersRead script place moved) (cyclesAt cycles steps t)) ≤ 512
+  pub farRoom : total stepCount (farSide e c s1 s2 (numbersRead script place moved) (cyclesAt cycles steps t)) ≤ 2048
+
+-- two places, each of a cycle with a corner, and room for both cycles and two steps more
+pub record Joining (steps : List ℕ) (p : Place) (s1 : ℕ) (q : Place) (s2 e : ℕ) : Type 0 where
+  pub stepsSize : length steps ≡ 2048
+  pub start : p .at + width (p .m) ≤ 2048
+  pub startCorner : s1 < width (p .m)
+  pub end : q .at + width (q .m) ≤ 2048
+  pub endCorner : s2 < width (q .m)
+  pub few : e ≤ 65536
+  pub room : p .m + q .m + 2 ≤ 2048
+
+-- the corners of two cycles, and there is room for both as one
+pub record Bridging (cycles steps : List ℕ) (t : Spans) (c1 : ℕ) (p : Place) (s1 c2 : ℕ) (q : Place) (s2 e : ℕ) : Type 0 where
+  pub start : Cornered cycles steps t c1 p s1
+  pub end : Cornered cycles steps t c2 q s2
+  pub apart : eqb c1 c2 ≡ false
+  pub few : e ≤ 65536
+  pub room : total stepCount (bridge e c1 s1 c2 s2 (cyclesAt cycles steps t)) ≤ 2048

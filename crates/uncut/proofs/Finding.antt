@@ -1,0 +1,91 @@
+-- The case that the code finds in a drawing's arrays, and a no to questions 4 and 6. Assumes nothing.
+use Prim.Native.Nat.{ℕ, _+_, _≤_}
+use mathlib.Core.Path.{_≡_, refl, ap, ap₂, sym, _∙_}
+use mathlib.Core.Bool.{Bool, true, false, _||_, cond}
+use native.Mathlib.Omega.{arith}
+use lib.Dec.{T, eqb}
+use lib.ListN.{length, take}
+use borrow.Author.Tests.{ne-eqb}
+use Rattle.complex.specs.Lists.{total}
+use Rattle.complex.specs.Cells.{cellAt, isVertex, isOpen, isClosed, isEdge, isVertexOrEdge}
+use Rattle.complex.specs.Decode.{uncut}
+use Rattle.complex.specs.Uses.{loneUse, usesOf}
+use Rattle.complex.specs.Uncut.{refused, uncutCase, allowed}
+use Rattle.store.specs.declared.Drawing.{Drawing}
+use Rattle.store.specs.declared.Index.{Index}
+use Rattle.store.specs.declared.Cell.{Cell}
+use Rattle.store.specs.Index.{Indexes}
+use Rattle.store.specs.Sizes.{Sizes}
+use Rattle.store.specs.View.{sheetOf, cyclesOf, cycleCount, cycleTotal, widthSum}
+use Rattle.store.specs.Edits.{placesOf}
+use Rattle.store.proofs.Lists.{places-sum}
+use Rattle.sound.specs.Soundness.{soundDrawing}
+use Rattle.sound.specs.Looks.{told, Looks}
+use Rattle.sound.proofs.Meaning.{sound-fits, looks, vertex-at, open-at, closed-at}
+use Rattle.answer.specs.declared.Answer.{Answer}
+use Rattle.answer.specs.Answers.{refusal, Answers}
+use Rattle.answer.proofs.Laws.{answers-no}
+use Rattle.outline.proofs.Late.{sound-in}
+use Rattle.uncut_case.specs.declared.Uses.{Uses}
+use Rattle.uncut_case.specs.declared.AtEdge.{AtEdge}
+use Rattle.uncut_case.specs.declared.AtVertex.{AtVertex}
+use Rattle.uncut_case.specs.Turns.{Rowed, turnsIn}
+use Rattle.uncut_case.specs.Found.{endsIn, endsOf, usesIn, usesTwo}
+use Rattle.uncut_case.specs.Cases.{endsCase, openCase, closedCase}
+use Rattle.uncut_case.proofs.Deciding.{open-case, closed-case}
+use Rattle.uncut_case.proofs.Meaning.{rowsIn, rowed-is, vertex-total, uses-are}
+use Rattle.uncut_case.proofs.Passing.{uncut-no-4, uncut-no-6}
+use Rattle.uncut.proofs.Cases.{vertexOf, vertex-told, edgeOf, open-told, closed-told}
+
+module _ (d : Drawing) (z : Sizes d) (w : T (soundDrawing d)) (ix : Index) (x : Indexes d ix) where
+  total-is : total (placesOf 0) (take (d .count) (ix .cycles)) ≡ cycleTotal d
+  total-is = ap (total (placesOf 0)) (x .cycles) ∙ places-sum (λ (c : Cell). cycleCount (c .shape)) (take (d .count) (d .cells))
+
+  pub counting : (0 + d .count ≤ length (ix .cycles)) × (total (placesOf 0) (take (d .count) (ix .cycles)) ≤ 2048)
+  counting = let f = sound-fits d w in let t = total-is in (omega (arith, f .cells, x .sizes .5), omega (arith, f .cycles))
+
+  -- ---- a vertex
+  module _ (v m : ℕ) (em : m ≡ total (placesOf 0) (take (d .count) (ix .cycles))) where
+    pub vertex-asks : Rowed (d .count) (ix .ids) (ix .kinds) (ix .starts) (ix .ends) × ((length (d .cycles) ≡ 512) × ((length (d .steps) ≡ 2048) × ((m ≤ 512) × (widthSum (take m (d .cycles)) ≤ 2048))))
+    vertex-asks =
+        let f = sound-fits d w in
+        let e = em ∙ total-is in
+        (rowed-is d f ix x (looks d z ix x w), (z .cycles, (z .steps, (omega (arith, f .cycles), rw e (f .steps)))))
+
+    pub vertex-found : isVertex (cellAt (sheetOf d) v) ≡ true → (c : AtVertex)
+        → c ≡ endsCase (turnsIn (rowsIn d ix) true v (cyclesOf (take m (d .cycles)) (d .steps))) (turnsIn (rowsIn d ix) false v (cyclesOf (take m (d .cycles)) (d .steps)))
+        (total (loneUse v) (cyclesOf (take m (d .cycles)) (d .steps)))
+        (endsOf (endsIn v (take (d .count) (ix .ids)) (take (d .count) (ix .kinds)) (take (d .count) (ix .starts)) (take (d .count) (ix .ends))))
+        → uncutCase (sheetOf d) v ≡ vertexOf c
+    vertex-found k c e = vertex-told (sheetOf d) v k c (e ∙ vertex-total d z (sound-fits d w) ix x (looks d z ix x w) v m (em ∙ total-is))
+
+  -- ---- an edge
+  module _ (e : ℕ) (u : Uses) (eu : u ≡ usesTwo (usesIn e (take (d .count) (ix .ids)) (take (d .count) (ix .cycles)) (cyclesOf (d .cycles) (d .steps)))) (g : isEdge (cellAt (sheetOf d) e) ≡ true) where
+    uses-is : u ≡ usesTwo (usesOf (sheetOf d .cells) e)
+    uses-is = eu ∙ ap usesTwo (uses-are d z (sound-fits d w) ix x e)
+
+    or-none : (b : Bool) → b || false ≡ b
+    or-none true = refl
+    or-none false = refl
+
+    pub edge-found : (closed : Bool) → isClosed (cellAt (sheetOf d) e) ≡ closed → (c : AtEdge) → c ≡ cond closed (closedCase u) (openCase u) → uncutCase (sheetOf d) e ≡ edgeOf e c
+    edge-found true k c q = closed-told (sheetOf d) (sound-in d w) e k c (q ∙ ap closedCase uses-is ∙ closed-case (usesOf (sheetOf d .cells) e))
+    edge-found false k c q =
+        open-told (sheetOf d) (sound-in d w) e (sym (or-none (isOpen (cellAt (sheetOf d) e))) ∙ ap (λ (b : Bool). isOpen (cellAt (sheetOf d) e) || b) (sym k) ∙ g) c
+        (q ∙ ap openCase uses-is ∙ open-case (usesOf (sheetOf d .cells) e))
+
+-- ---- refusals
+pub or-true : (b : Bool) → b || true ≡ true
+or-true true = refl
+or-true false = refl
+
+module _ (d : Drawing) (w : T (soundDrawing d)) (i : ℕ) where
+  pub refuses-6 : isVertexOrEdge (cellAt (sheetOf d) i) ≡ true → uncutCase (sheetOf d) i ≡ refused → (r : Answer) → r ≡ refusal d 6 → Answers d (uncut i) r
+  refuses-6 k e r q = answers-no d (sound-fits d w) (uncut i) 6 r q (uncut-no-6 (sheetOf d) i k (ap allowed e))
+
+  pub refuses-4 : (ix : Index) → Looks d ix → (k : ℕ) → k ≡ told 4 d ix (ix .kinds) i → (k ≡ 0 → ⊥) → (k ≡ 1 → ⊥) → (k ≡ 2 → ⊥) → (r : Answer) → r ≡ refusal d 4 → Answers d (uncut i) r
+  refuses-4 ix L k e n0 n1 n2 r q =
+      answers-no d (sound-fits d w) (uncut i) 4 r q
+      (uncut-no-4 (sheetOf d) i
+      (ap₂ _||_ (sym (vertex-at L i) ∙ ap (λ (n : ℕ). eqb n 0) (sym e) ∙ ne-eqb k 0 n0)
+      (ap₂ _||_ (sym (open-at L i) ∙ ap (λ (n : ℕ). eqb n 1) (sym e) ∙ ne-eqb k 1 n1) (sym (closed-at L i) ∙ ap (λ (n : ℕ). eqb n 2) (sym e) ∙ ne-eqb k 2 n2))))

@@ -1,0 +1,245 @@
+-- The cycles that two faces or one cycle become when an edge goes. Assumes nothing.
+use Prim.Native.Nat.{ℕ, zero, suc, _+_, _-_, _<_, _≤_}
+use mathlib.Core.Path.{_≡_, refl, ap, ap₂, sym, subst, _∙_}
+use mathlib.Core.Bool.{Bool, true, false, cond}
+use mathlib.Core.List.{List, [], _∷_, _++_, map, append-nil}
+use native.Mathlib.Omega.{arith}
+use native.Mathlib.Numerals.{add-one}
+use borrow.Author.Tests.{leb-false}
+use lib.Dec.{leb}
+use lib.ListN.{length, take, drop, getD, set, length-map, length-drop, length-set}
+use lib.Seq.{length-take-le, take-append-add, take-take, getD-set-same}
+use Rattle.complex.specs.Lists.{total, one, rotated, without, distance}
+use Rattle.complex.specs.Cells.{Halfedge, Cycle}
+use Rattle.complex.specs.Sound.{stepCount}
+use Rattle.complex.specs.Cut.{noCycle, stretch}
+use Rattle.complex.specs.Uncut.{pathOr}
+use Rattle.store.specs.View.{halfedgeOf}
+use Rattle.store.proofs.Lists.{map-append}
+use Rattle.cycles.specs.declared.Used.{Used}
+use Rattle.cycles.specs.Building.{Built, built}
+use Rattle.outline.proofs.Lists.{built-as, built-then}
+use Rattle.uncut_cycles.specs.declared.Stretch.{Stretch}
+use Rattle.uncut_cycles.specs.declared.Place.{Place}
+use Rattle.uncut_cycles.specs.Paths.{Few, stretchOf, InCycle, PathRoom, listAt, stepsAt, allBut, between, noSteps, Lies, Instead, Besides, followingIn, mergedList, Merging, partedList, Parting, ringedList, Ringing}
+use Rattle.uncut_cycles.proofs.Paths.{built-cycles, few-front}
+use Rattle.uncut_cycles.proofs.Places.{list-length, cycle-in}
+
+-- ---- parts of a list, each element changed
+module _ {A B : Type 0} (f : A → B) where
+  map-take : (n : ℕ) (l : List A) → map f (take n l) ≡ take n (map f l)
+  map-take zero l = refl
+  map-take (suc n) [] = refl
+  map-take (suc n) (x ∷ l) = ap (λ (r : List B). f x ∷ r) (map-take n l)
+
+  map-drop : (n : ℕ) (l : List A) → map f (drop n l) ≡ drop n (map f l)
+  map-drop zero l = refl
+  map-drop (suc n) [] = refl
+  map-drop (suc n) (x ∷ l) = map-drop n l
+
+  map-rotated : (n : ℕ) (l : List A) → map f (rotated n l) ≡ rotated n (map f l)
+  map-rotated n l = map-append f (drop n l) (take n l) ∙ ap₂ (λ (x y : List B). x ++ y) (map-drop n l) (map-take n l)
+
+-- the elements but one, from the next on
+rotated-but : {A : Type 0} (l : List A) (n : ℕ) → n < length l → take (length l - 1) (rotated (suc n) l) ≡ drop (suc n) l ++ take n l
+rotated-but {A} l n h =
+    let d = length-drop (suc n) l in
+    let e : length l - 1 ≡ length (drop (suc n) l) + n = omega arith in
+    ap (λ (k : ℕ). take k (rotated (suc n) l)) e ∙ take-append-add (drop (suc n) l) (take (suc n) l) n ∙ ap (λ (r : List A). drop (suc n) l ++ r) (take-take n (suc n) l (omega arith))
+
+distance-least : (n s t : ℕ) → s ≤ n → t < n → distance n s t ≤ n
+distance-least n s t h k = go (leb s t) refl
+  where
+    go : (b : Bool) → leb s t ≡ b → cond b (t - s) (t + n - s) ≤ n
+    go true e = omega arith
+    go false e = let l = leb-false s t e in omega arith
+
+-- ---- stretches of a cycle
+module _ (cycles steps : List ℕ) (p : Place) (l : Lies cycles steps p) where
+  abbrev run : List ℕ
+  run = take (p .count) (drop (p .at) steps)
+
+  run-length : length run ≡ p .count
+  run-length = let i = cycle-in cycles steps p l in length-take-le (p .count) (drop (p .at) steps) (omega (arith, length-drop (p .at) steps, l .within .stepsSize))
+
+  pub steps-length : length (stepsAt steps p) ≡ p .count
+  steps-length = length-map run halfedgeOf ∙ run-length
+
+  -- some of them from the step after s on
+  after-is : (s n : ℕ) → map halfedgeOf (take n (rotated (s + 1) run)) ≡ take n (rotated (suc s) (stepsAt steps p))
+  after-is s n =
+      map-take halfedgeOf n (rotated (s + 1) run)
+      ∙ ap (take n) (map-rotated halfedgeOf (s + 1) run ∙ ap (λ (k : ℕ). rotated k (stepsAt steps p)) (add-one s))
+
+  all-but-is : (s : ℕ) → s < p .count → stretchOf steps (allBut p s) ≡ followingIn s (stepsAt steps p)
+  all-but-is s h =
+      let n = steps-length in
+      after-is s (p .count - 1) ∙ ap (λ (k : ℕ). take (k - 1) (rotated (suc s) (stepsAt steps p))) (sym n) ∙ rotated-but (stepsAt steps p) s (omega arith)
+
+  between-is : (s t : ℕ) → stretchOf steps (between p s t) ≡ stretch (suc s) t (stepsAt steps p)
+  between-is s t =
+      after-is s (distance (p .count) (s + 1) t)
+      ∙ ap₂ (λ (n k : ℕ). take (distance n k t) (rotated (suc s) (stepsAt steps p))) (sym steps-length) (add-one s)
+
+  all-but-in : (s : ℕ) → s < p .count → InCycle (allBut p s)
+  all-but-in s h = record { cycle = cycle-in cycles steps p l; start = omega arith; least = omega arith }
+
+  between-in : (s t : ℕ) → s < p .count → t < p .count → InCycle (between p s t)
+  between-in s t h k = record { cycle = cycle-in cycles steps p l; start = omega arith; least = distance-least (p .count) (s + 1) t (omega arith) k }
+
+  none-in : InCycle (noSteps p)
+  none-in = record { cycle = cycle-in cycles steps p l; start = omega arith; least = omega arith }
+
+  pub up-to-asks : (s t : ℕ) → s < p .count → t < p .count → (p .count ≤ 2048) × ((s < p .count) × (t < p .count))
+  up-to-asks s t h k = let i = cycle-in cycles steps p l in (omega arith, (h, k))
+
+-- ---- a list of one cycle
+total-least : {A : Type 0} (f : A → ℕ) (l : List A) (i : ℕ) (z : A) → i < length l → f (getD l i z) ≤ total f l
+total-least f [] i z h = absurd (omega arith)
+total-least f (x ∷ l) zero z h = omega arith
+total-least f (x ∷ l) (suc i) z h = let e = total-least f l i z (omega arith) in omega arith
+
+-- a cycle put among few is few
+put-few : (l ks : List Cycle) (i : ℕ) (k : Cycle) → i < length l → Few (set l i k ++ ks) → stepCount k ≤ 2048
+put-few l ks i k h f =
+    let g = few-front (set l i k) ks f in
+    let e = ap stepCount (getD-set-same l i k noCycle h) in
+    let t = total-least stepCount (set l i k) i noCycle (omega (arith, length-set l i k)) in
+    omega (arith, g .steps)
+
+-- a list and what follows it
+few-after : {ks : List Cycle} {counts : List ℕ} {u : Used} {out : List ℕ} → Built ks counts u out → (xs : List Cycle) → Few (ks ++ xs) → Few (built counts u out ++ xs)
+few-after {ks} {counts} {u} {out} b xs f = subst (λ (l : List Cycle). Few (l ++ xs)) (sym (b .list)) f
+
+-- ---- two stretches in the place of a cycle
+module _ (cycles steps : List ℕ) (p : Place) (l : Lies cycles steps p) (a b : Stretch) (ia : InCycle a) (ib : InCycle b) (v : ℕ) (rest : List Cycle)
+    (f : Few (set (listAt cycles steps p) (p .cycle) (pathOr v (stretchOf steps a ++ stretchOf steps b)) ++ rest)) where
+  abbrev put : Cycle
+  put = pathOr v (stretchOf steps a ++ stretchOf steps b)
+
+  put-asks : {counts : List ℕ} {u : Used} {out : List ℕ} → Built [] counts u out → PathRoom steps a b v counts u out
+  put-asks {counts} {u} {out} n =
+      let h = l .cycle in
+      let m = list-length cycles steps p l in
+      let k = put-few (listAt cycles steps p) rest (p .cycle) put (omega arith) f in
+      record { building = n .building; stepsSize = l .within .stepsSize; first = ia; second = ib; room = few-after n (one put) (record { cycles = omega arith; steps = omega arith }) }
+
+  module _ {counts₀ : List ℕ} {u₀ : Used} {out₀ : List ℕ} (n : Built [] counts₀ u₀ out₀) {counts : List ℕ} {u : Used} {out : List ℕ} (r : Built (built counts₀ u₀ out₀ ++ one put) counts u out) where
+    alone : built counts u out ≡ one put
+    alone = built-then (one put) n r .list
+
+    held : getD (built counts u out) 0 noCycle ≡ put
+    held = ap (λ (l : List Cycle). getD l 0 noCycle) alone
+
+    put-instead : Instead cycles steps p counts u out
+    put-instead =
+        record {
+          lies = l;
+          building = r .building;
+          single = sym (built-cycles (r .building)) ∙ ap length alone;
+          room = subst (λ (k : Cycle). Few (set (listAt cycles steps p) (p .cycle) k)) (sym held) (few-front (set (listAt cycles steps p) (p .cycle) put) rest f);
+        }
+
+    put-built : {counts′ : List ℕ} {u′ : Used} {out′ : List ℕ} → Built (set (listAt cycles steps p) (p .cycle) (getD (built counts u out) 0 noCycle)) counts′ u′ out′
+        → Built (set (listAt cycles steps p) (p .cycle) put) counts′ u′ out′
+    put-built {counts′} {u′} {out′} = built-as (ap (λ (k : Cycle). set (listAt cycles steps p) (p .cycle) k) held)
+
+-- ---- two faces become one
+module _ (cycles steps : List ℕ) (p : Place) (s : ℕ) (q : Place) (t v : ℕ) (m : Merging cycles steps p s q t v) (a b : Stretch) (ea : a ≡ allBut p s) (eb : b ≡ allBut q t) where
+  abbrev others-of : List Cycle
+  others-of = without (one (q .cycle)) 0 (listAt cycles steps q)
+
+  merged-is : set (listAt cycles steps p) (p .cycle) (pathOr v (stretchOf steps a ++ stretchOf steps b)) ++ others-of ≡ mergedList cycles steps p s q t v
+  merged-is =
+      ap₂ (λ (x y : List Halfedge). set (listAt cycles steps p) (p .cycle) (pathOr v (x ++ y)) ++ others-of)
+      (ap (stretchOf steps) ea ∙ all-but-is cycles steps p (m .first) s (m .here)) (ap (stretchOf steps) eb ∙ all-but-is cycles steps q (m .second) t (m .there))
+
+  merged-room : Few (set (listAt cycles steps p) (p .cycle) (pathOr v (stretchOf steps a ++ stretchOf steps b)) ++ others-of)
+  merged-room = subst Few (sym merged-is) (m .room)
+
+  first-in : InCycle a
+  first-in = subst InCycle (sym ea) (all-but-in cycles steps p (m .first) s (m .here))
+
+  second-in : InCycle b
+  second-in = subst InCycle (sym eb) (all-but-in cycles steps q (m .second) t (m .there))
+
+  module _ {counts₀ : List ℕ} {u₀ : Used} {out₀ : List ℕ} (n : Built [] counts₀ u₀ out₀) where
+    pub merged-asks : PathRoom steps a b v counts₀ u₀ out₀
+    merged-asks = put-asks cycles steps p (m .first) a b first-in second-in v others-of merged-room n
+
+    module _ {counts₁ : List ℕ} {u₁ : Used} {out₁ : List ℕ} (r : Built (built counts₀ u₀ out₀ ++ one (pathOr v (stretchOf steps a ++ stretchOf steps b))) counts₁ u₁ out₁) where
+      pub merged-instead : Instead cycles steps p counts₁ u₁ out₁
+      merged-instead = put-instead cycles steps p (m .first) a b first-in second-in v others-of merged-room n r
+
+      module _ {counts₂ : List ℕ} {u₂ : Used} {out₂ : List ℕ} (x : Built (set (listAt cycles steps p) (p .cycle) (getD (built counts₁ u₁ out₁) 0 noCycle)) counts₂ u₂ out₂) where
+        placed : Built (set (listAt cycles steps p) (p .cycle) (pathOr v (stretchOf steps a ++ stretchOf steps b))) counts₂ u₂ out₂
+        placed = put-built cycles steps p (m .first) a b first-in second-in v others-of merged-room n r x
+
+        pub merged-besides : Besides cycles steps q counts₂ u₂ out₂
+        merged-besides = record { lies = m .second; building = x .building; room = few-after placed others-of merged-room }
+
+        pub merged-built : {counts₃ : List ℕ} {u₃ : Used} {out₃ : List ℕ} → Built (built counts₂ u₂ out₂ ++ others-of) counts₃ u₃ out₃ → Built (mergedList cycles steps p s q t v) counts₃ u₃ out₃
+        merged-built {counts₃} {u₃} {out₃} y = built-as merged-is (built-then others-of placed y)
+
+-- ---- a cycle becomes two
+module _ (cycles steps : List ℕ) (p : Place) (s t v w : ℕ) (m : Parting cycles steps p s t v w) (a b : Stretch) (ea : a ≡ between p s t) (eb : b ≡ between p t s) where
+  abbrev none : Stretch
+  none = noSteps p
+
+  stretch-is : (i j : ℕ) (c : Stretch) → c ≡ between p i j → stretchOf steps c ++ stretchOf steps none ≡ stretch (suc i) j (stepsAt steps p)
+  stretch-is i j c e = append-nil (stretchOf steps c) ∙ ap (stretchOf steps) e ∙ between-is cycles steps p (m .first) i j
+
+  abbrev last-of : List Cycle
+  last-of = one (pathOr w (stretchOf steps b ++ stretchOf steps none))
+
+  parted-is : set (listAt cycles steps p) (p .cycle) (pathOr v (stretchOf steps a ++ stretchOf steps none)) ++ last-of ≡ partedList cycles steps p s t v w
+  parted-is =
+      ap₂ (λ (x y : List Halfedge). set (listAt cycles steps p) (p .cycle) (pathOr v x) ++ one (pathOr w y)) (stretch-is s t a ea) (stretch-is t s b eb)
+
+  parted-room : Few (set (listAt cycles steps p) (p .cycle) (pathOr v (stretchOf steps a ++ stretchOf steps none)) ++ last-of)
+  parted-room = subst Few (sym parted-is) (m .room)
+
+  here-in : InCycle a
+  here-in = subst InCycle (sym ea) (between-in cycles steps p (m .first) s t (m .here) (m .there))
+
+  there-in : InCycle b
+  there-in = subst InCycle (sym eb) (between-in cycles steps p (m .first) t s (m .there) (m .here))
+
+  nothing-in : InCycle none
+  nothing-in = none-in cycles steps p (m .first)
+
+  module _ {counts₀ : List ℕ} {u₀ : Used} {out₀ : List ℕ} (n : Built [] counts₀ u₀ out₀) where
+    pub parted-asks : PathRoom steps a none v counts₀ u₀ out₀
+    parted-asks = put-asks cycles steps p (m .first) a none here-in nothing-in v last-of parted-room n
+
+    module _ {counts₁ : List ℕ} {u₁ : Used} {out₁ : List ℕ} (r : Built (built counts₀ u₀ out₀ ++ one (pathOr v (stretchOf steps a ++ stretchOf steps none))) counts₁ u₁ out₁) where
+      pub parted-instead : Instead cycles steps p counts₁ u₁ out₁
+      parted-instead = put-instead cycles steps p (m .first) a none here-in nothing-in v last-of parted-room n r
+
+      module _ {counts₂ : List ℕ} {u₂ : Used} {out₂ : List ℕ} (x : Built (set (listAt cycles steps p) (p .cycle) (getD (built counts₁ u₁ out₁) 0 noCycle)) counts₂ u₂ out₂) where
+        kept-one : Built (set (listAt cycles steps p) (p .cycle) (pathOr v (stretchOf steps a ++ stretchOf steps none))) counts₂ u₂ out₂
+        kept-one = put-built cycles steps p (m .first) a none here-in nothing-in v last-of parted-room n r x
+
+        pub parted-last : PathRoom steps b none w counts₂ u₂ out₂
+        parted-last = record { building = x .building; stepsSize = m .first .within .stepsSize; first = there-in; second = nothing-in; room = few-after kept-one last-of parted-room }
+
+        pub parted-built : {counts₃ : List ℕ} {u₃ : Used} {out₃ : List ℕ} → Built (built counts₂ u₂ out₂ ++ last-of) counts₃ u₃ out₃ → Built (partedList cycles steps p s t v w) counts₃ u₃ out₃
+        parted-built {counts₃} {u₃} {out₃} y = built-as parted-is (built-then last-of kept-one y)
+
+-- ---- two faces become one without a cycle of each
+module _ (cycles steps : List ℕ) (p q : Place) (m : Ringing cycles steps p q) {counts : List ℕ} {u : Used} {out : List ℕ} (n : Built [] counts u out) where
+  abbrev first-of : List Cycle
+  first-of = without (one (p .cycle)) 0 (listAt cycles steps p)
+
+  abbrev second-of : List Cycle
+  second-of = without (one (q .cycle)) 0 (listAt cycles steps q)
+
+  pub ringed-first : Besides cycles steps p counts u out
+  ringed-first = record { lies = m .first; building = n .building; room = few-after n first-of (few-front first-of second-of (m .room)) }
+
+  module _ {counts′ : List ℕ} {u′ : Used} {out′ : List ℕ} (r : Built (built counts u out ++ first-of) counts′ u′ out′) where
+    pub ringed-second : Besides cycles steps q counts′ u′ out′
+    ringed-second = record { lies = m .second; building = r .building; room = few-after (built-then first-of n r) second-of (m .room) }
+
+    pub ringed-built : {counts″ : List ℕ} {u″ : Used} {out″ : List ℕ} → Built (built counts′ u′ out′ ++ second-of) counts″ u″ out″ → Built (ringedList cycles steps p q) counts″ u″ out″
+    ringed-built {counts″} {u″} {out″} x = built-then second-of (built-then first-of n r) x

@@ -1,0 +1,4 @@
+pub mod Told
+pub mod Finding
+pub mod Results
+pub mod Answering

@@ -1,0 +1,75 @@
+-- 0E at an edge: its uses, what the results need of a drawing, and the cycles of the face that stays. Definitions only.
+use Prim.Native.Nat.{ℕ, _≤_, _<_}
+use mathlib.Core.Path.{_≡_}
+use mathlib.Core.Bool.{Bool, true, cond}
+use mathlib.Core.List.{List, [], _++_}
+use lib.Dec.{T}
+use lib.ListN.{length, getD, set, take}
+use Rattle.complex.specs.Lists.{one, without}
+use Rattle.complex.specs.Cells.{Cycle, face, Look, cellAt, cyclesOf, stepsOf, isLive, isFace, headOf}
+use Rattle.complex.specs.Edits.{both, replaced, rebuild}
+use Rattle.complex.specs.Uses.{Use as Used}
+use Rattle.complex.specs.Cut.{noCycle}
+use Rattle.complex.specs.Uncut.{Uncut, uncutCase, uncutResult, pathOr, following, followingTo}
+use Rattle.store.specs.declared.Drawing.{Drawing}
+use Rattle.store.specs.declared.Index.{Index}
+use Rattle.store.specs.Index.{Indexes, valueAt}
+use Rattle.store.specs.View.{sheetOf}
+use Rattle.sound.specs.Soundness.{soundDrawing}
+use Rattle.cycles.specs.declared.Used.{Used as Taken}
+use Rattle.cycles.specs.Building.{Building, built}
+use Rattle.outline.specs.Faces.{Named, Roomy}
+use Rattle.uncut_case.specs.declared.Use.{Use}
+use Rattle.uncut_cycles.specs.declared.Place.{Place}
+use Rattle.uncut_cycles.specs.Paths.{Lies, listAt}
+
+-- a use of the edge e, in the definitions' words
+abbrev pub useAt : ℕ → Use → Used
+useAt e u = record { face = u .face; cycle = u .cycle; step = u .step; halfedge = record { edge = e; backward = u .back } }
+
+-- where a step of e ends, by n rows of an index: at the start of e if it is backward
+abbrev pub headIn : Index → ℕ → ℕ → Bool → ℕ
+headIn ix n e back = cond back (valueAt 0 (take n (ix .ids)) (take n (ix .starts)) e) (valueAt 0 (take n (ix .ids)) (take n (ix .ends)) e)
+
+-- ---- the cycles of the face that stays
+abbrev pub joinedCycles : Look → Used → Used → List Cycle
+joinedCycles look u w =
+    set (cyclesOf (look (u .face))) (u .cycle) (pathOr (headOf look (u .halfedge)) (following look u ++ following look w)) ++ without (one (w .cycle)) 0 (cyclesOf (look (w .face)))
+
+abbrev pub partedCycles : Look → Used → Used → List Cycle
+partedCycles look u w =
+    set (cyclesOf (look (u .face))) (u .cycle) (pathOr (headOf look (u .halfedge)) (followingTo look u w)) ++ one (pathOr (headOf look (w .halfedge)) (followingTo look w u))
+
+abbrev pub ringlessCycles : Look → Used → Used → List Cycle
+ringlessCycles look u w = without (one (u .cycle)) 0 (cyclesOf (look (u .face))) ++ without (one (w .cycle)) 0 (cyclesOf (look (w .face)))
+
+-- ---- what is needed
+-- the case of e in a sound drawing is k, and there is room for its result
+pub record Case (d : Drawing) (ix : Index) (e : ℕ) (k : Uncut) : Type 0 where
+  pub sound : T (soundDrawing d)
+  pub index : Indexes d ix
+  pub holds : uncutCase (sheetOf d) e ≡ k
+  pub room : Roomy (uncutResult (sheetOf d) e k)
+
+-- the face f has a cycle c, with steps
+pub record Has (d : Drawing) (ix : Index) (f c : ℕ) : Type 0 where
+  pub named : Named d ix f
+  pub cycle : c < length (cyclesOf (cellAt (sheetOf d) f))
+  pub some : 1 ≤ length (stepsOf (getD (cyclesOf (cellAt (sheetOf d) f)) c noCycle))
+
+-- it stands at p
+pub record Found (d : Drawing) (f c : ℕ) (p : Place) : Type 0 where
+  pub lies : Lies (d .cycles) (d .steps) p
+  pub cycle : p .cycle ≡ c
+  pub list : listAt (d .cycles) (d .steps) p ≡ cyclesOf (cellAt (sheetOf d) f)
+
+-- the cells i and j go; the face f stays, and there is room for the cycles of a list
+pub record Going (d : Drawing) (ix : Index) (i j f : ℕ) (counts : List ℕ) (u : Taken) (steps : List ℕ) : Type 0 where
+  pub sound : T (soundDrawing d)
+  pub index : Indexes d ix
+  pub first : isLive (cellAt (sheetOf d) i) ≡ true
+  pub second : isLive (cellAt (sheetOf d) j) ≡ true
+  pub building : Building counts u steps
+  pub stays : both i j f ≡ true
+  pub room : Roomy (rebuild (both i j) (replaced f (face (built counts u steps))) [] (sheetOf d))
+  pub face : isFace (cellAt (sheetOf d) f) ≡ true

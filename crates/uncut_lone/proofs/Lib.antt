@@ -1,0 +1,4 @@
+pub mod Search
+pub mod Listing
+pub mod Sheets
+pub mod Going

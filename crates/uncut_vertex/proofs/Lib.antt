@@ -1,0 +1,4 @@
+pub mod Dropping
+pub mod Joining
+pub mod Told
+pub mod Answering
