@@ -6,14 +6,16 @@
 //! ```c
 //! // Reads a file: 0, or 10.
 //! uint32_t dz_open(const uint8_t *file, size_t file_len);
-//! // Reads a file and runs a script on the drawing. Of each command, in order, five numbers go to `lines`: number,
-//! // first, new, removed, and the length of the rest. The file of the drawing at the end goes to `out`, its length
-//! // to `out_count`. Returns the count of commands.
+//! // Reads a file (10) and runs a script on the drawing. Of each command, in order, five numbers go to `lines`: number,
+//! // first, new, removed, and the length of the rest; their count to `commands`. The file of the drawing at the end goes
+//! // to `out`, its length to `bytes`. 9: `lines` has fewer than five places a byte of the script, or `out` fewer than
+//! // 65,536. Returns 0, 9 or 10.
 //! uint32_t dz_run(const uint8_t *file, size_t file_len, const uint8_t *script, size_t script_len,
-//!                 uint32_t *lines, size_t lines_len, uint8_t *out, size_t out_len, uint32_t *out_count);
+//!                 uint32_t *lines, size_t lines_len, uint8_t *out, size_t out_len,
+//!                 uint32_t *commands, uint32_t *bytes);
 //! // Read a file, then make the call of document 01; return its number.
 //! uint32_t dz_star(const uint8_t *file, size_t file_len, uint32_t id, uint32_t *buffer, size_t len, uint32_t *count);
-//! uint32_t dz_euler(const uint8_t *file, size_t file_len, int64_t *euler);
+//! uint32_t dz_euler(const uint8_t *file, size_t file_len, int32_t *value);
 //! uint32_t dz_write(const uint8_t *file, size_t file_len, uint8_t *buffer, size_t len, uint32_t *count);
 //! // Reads a file once, then makes a call `rounds` times on the drawing read, without keeping what it gives.
 //! // `what`: 0 the command in `bytes`, 1 star of `id`, 2 Euler, 3 write, 4 read of `bytes`. Returns the last number.
@@ -40,10 +42,11 @@ extern "C" {
         lines_len: usize,
         out: *mut u8,
         out_len: usize,
-        out_count: *mut u32,
+        commands: *mut u32,
+        bytes: *mut u32,
     ) -> u32;
     fn dz_star(file: *const u8, file_len: usize, id: u32, buffer: *mut u32, len: usize, count: *mut u32) -> u32;
-    fn dz_euler(file: *const u8, file_len: usize, euler: *mut i64) -> u32;
+    fn dz_euler(file: *const u8, file_len: usize, value: *mut i32) -> u32;
     fn dz_write(file: *const u8, file_len: usize, buffer: *mut u8, len: usize, count: *mut u32) -> u32;
     fn dz_repeat(
         file: *const u8,
@@ -108,9 +111,9 @@ impl Core for Proved {
         // No command is shorter than a byte.
         let mut lines = vec![0; LINE * script.len()];
         let mut out = vec![0; LONGEST_FILE];
-        let mut out_count = 0;
+        let (mut commands, mut bytes) = (0, 0);
         // SAFETY: every pointer comes with the length of the slice that it is taken from.
-        let count = unsafe {
+        let number = unsafe {
             dz_run(
                 self.file.as_ptr(),
                 self.file.len(),
@@ -120,12 +123,14 @@ impl Core for Proved {
                 lines.len(),
                 out.as_mut_ptr(),
                 out.len(),
-                &mut out_count,
+                &mut commands,
+                &mut bytes,
             )
         };
-        out.truncate(out_count as usize);
+        assert_eq!(number, 0, "dz_run");
+        out.truncate(bytes as usize);
         self.file = out;
-        lines.chunks_exact(LINE).take(count as usize).map(line).collect()
+        lines.chunks_exact(LINE).take(commands as usize).map(line).collect()
     }
 
     fn star(&mut self, id: u32, buffer: &mut [u32]) -> (u32, usize) {
@@ -137,10 +142,10 @@ impl Core for Proved {
     }
 
     fn euler(&mut self) -> (u32, i64) {
-        let mut euler = 0;
+        let mut value = 0;
         // SAFETY: pointer and length of one slice.
-        let number = unsafe { dz_euler(self.file.as_ptr(), self.file.len(), &mut euler) };
-        (number, euler)
+        let number = unsafe { dz_euler(self.file.as_ptr(), self.file.len(), &mut value) };
+        (number, i64::from(value))
     }
 
     fn file(&mut self, buffer: &mut [u8]) -> (u32, usize) {
