@@ -20,13 +20,14 @@ use Rattle.complex.specs.Commands.{result}
 use Rattle.store.specs.declared.Drawing.{Drawing}
 use Rattle.store.specs.Sizes.{Sizes}
 use Rattle.store.specs.View.{sheetOf}
+use Rattle.store.proofs.Rows.{getD-any}
 use Rattle.append.specs.declared.Runs.{Runs}
 use Rattle.append.specs.Runs.{run, runsOf, InRange}
 use Rattle.append.specs.Appends.{remade, RoomIn}
 use Rattle.append.proofs.Appended.{appendedEach}
 use Rattle.append.proofs.RunLists.{run-length, run-take, run-drop}
 use Rattle.dropping.proofs.Dropped.{live-id}
-use Rattle.cut.specs.Cuts.{nextBend, closedPlace, closedRuns, Cuts}
+use Rattle.cut.specs.Cuts.{nextBend, closedBetween, closedPlace, closedRuns, Cuts}
 use Rattle.cut.proofs.Found.{sound-in}
 use Rattle.cut.proofs.Made.{made-room, made-is}
 
@@ -89,6 +90,24 @@ module _ (l bs : List Position) (base m : ℕ) (h : base + m ≤ length l) (eb :
     pub closed-runs-are : (p : Position) → runsOf l (closedRuns p base m q) ≡ bendsRound bs q
     closed-runs-are p =
         ap₂ _++_ (run-drop base m (q / 2 + 1) l ∙ ap (drop (q / 2 + 1)) eb) (run-take base m (q / 2 + (1 - q % 2)) l (omega arith) ∙ ap (take (q / 2 + (1 - q % 2))) eb)
+
+-- ---- the bends that are read
+pub next-most : (base m i : ℕ) → base + m ≤ 2048 → i < m → nextBend base m i < 2048
+next-most base m i h g = go (eqb (i + 1) m) refl
+  where
+    go : (b : Bool) → eqb (i + 1) m ≡ b → cond b base (base + i + 1) < 2048
+    go true e = omega (arith, eqb-true (i + 1) m e)
+    go false e = let k = eqb-false (i + 1) m e in cut k
+      where
+        cut : (i + 1 ≡ m → ⊥) → base + i + 1 < 2048
+        cut k = omega arith
+
+pub closed-read : (l : List Position) (base m q : ℕ) (y : Position) → length l ≡ 2048 → base + m ≤ 2048 → q / 2 < m → (j : ℕ) → j ≡ nextBend base m (q / 2) → closedBetween (getD l (base + q / 2) y) (getD l j y) q ≡ closedPlace l base m q
+closed-read l base m q y z h g j ej =
+    let u = next-most base m (q / 2) h g in
+    let a = getD-any l (base + q / 2) y origin (omega arith) in
+    let b = ap (λ (k : ℕ). getD l k y) ej ∙ getD-any l (nextBend base m (q / 2)) y origin (omega arith) in
+    λ i. closedBetween (a i) (b i) q
 
 pub closed-range : (p : Position) (base m q : ℕ) → base + m ≤ 2048 → q / 2 < m → InRange (closedRuns p base m q)
 closed-range p base m q h g = record { one = omega arith; two = omega arith }

@@ -8,7 +8,7 @@ use mathlib.Core.Option.{Option, none, some}
 use lib.ListN.{length, getD, take, drop, List·getD-append}
 use lib.Seq.{getD-append-add}
 use lib.Dec.{T, eqb, ltb, leb}
-use borrow.Author.Tests.{ltb-true, ltb-false, leb-true, eqb-true, eqb-false, ne-eqb}
+use borrow.Author.Tests.{ltb-true, ltb-false, leb-true, eqb-true, eqb-false, ne-eqb, le-ltb}
 use Rattle.coordinate.specs.declared.Position.{Position}
 use Rattle.coordinate.specs.Bounds.{within, middle}
 use Rattle.complex.specs.Lists.{one, all}
@@ -21,12 +21,14 @@ use Rattle.complex.specs.Commands.{result}
 use Rattle.complex.proofs.Bools.{both}
 use Rattle.complex.proofs.Faces.{without-one}
 use Rattle.complex.proofs.Euler.{over-rebuild}
+use Rattle.store.specs.declared.Cell.{Cell}
 use Rattle.store.specs.declared.Drawing.{Drawing}
 use Rattle.store.specs.Index.{Rising, rowOf}
 use Rattle.store.specs.Sheet.{idsOf}
 use Rattle.store.specs.Sizes.{Sizes}
 use Rattle.store.specs.View.{sheetOf}
 use Rattle.store.specs.Places.{shapeOf}
+use Rattle.store.proofs.Rows.{getD-any}
 use Rattle.store.proofs.Stands.{stands, count-is}
 use Rattle.sound.specs.Soundness.{soundDrawing}
 use Rattle.sound.proofs.Meaning.{sound-fits, sound-sheet, rising-is, sheet-rising}
@@ -38,7 +40,7 @@ use Rattle.append.proofs.Copied.{row-shape, row-lookup}
 use Rattle.append.proofs.RunLists.{run-take, run-drop, runs-single}
 use Rattle.append.proofs.Rooms.{below}
 use Rattle.dropping.proofs.Dropped.{live-id}
-use Rattle.cut.specs.Cuts.{placeOf, noCell, openPoint, openPlace, partRun, Cuts, Ends, Placed}
+use Rattle.cut.specs.Cuts.{placeOf, noCell, pointPlace, pointOf, openBetween, openPoint, openPlace, partRun, Cuts, Ends, Placed}
 use Rattle.cut.proofs.Made.{made-room, made-is}
 use Rattle.cut.proofs.Closed.{bends-count, bend-at}
 use Rattle.cut.proofs.Found.{sound-in}
@@ -103,6 +105,44 @@ module _ (l bs : List Position) (base m : ℕ) (h : base + m ≤ length l) (eb :
 
   after-are : (p : Position) (q : ℕ) → runsOf l (partRun p (base + (q / 2 + q % 2)) (m - (q / 2 + q % 2))) ≡ bendsAfter bs q
   after-are p q = runs-single l (partRun p (base + (q / 2 + q % 2)) (m - (q / 2 + q % 2))) refl refl ∙ run-drop base m (q / 2 + q % 2) l ∙ ap (drop (q / 2 + q % 2)) eb
+
+-- ---- the bends that are read
+bend-below : (base m k : ℕ) → base + m ≤ 2048 → (k ≡ 0 → ⊥) → k ≤ m → base + (k - 1) < 2048
+bend-below base m k h n g = omega arith
+
+pub point-below : (base m k : ℕ) → base + m ≤ 2048 → pointPlace base m k < 2048
+point-below base m k h = go (eqb k 0) (ltb m k) refl refl
+  where
+    go : (x y : Bool) → eqb k 0 ≡ x → ltb m k ≡ y → cond x 0 (cond y 0 (base + (k - 1))) < 2048
+    go true y ex ey = omega arith
+    go false true ex ey = omega arith
+    go false false ex ey = bend-below base m k h (eqb-false k 0 ex) (ltb-false m k ey)
+
+module _ (pa pb : Position) (l : List Position) (base m : ℕ) (y : Position) (z : length l ≡ 2048) (h : base + m ≤ 2048) where
+  point-read : (k : ℕ) → pointOf pa pb (getD l (pointPlace base m k) y) m k ≡ openPoint pa pb l base m k
+  point-read k = go (eqb k 0) (ltb m k) refl refl
+    where
+      go : (x w : Bool) → eqb k 0 ≡ x → ltb m k ≡ w → cond x pa (cond w pb (getD l (cond x 0 (cond w 0 (base + (k - 1)))) y)) ≡ cond x pa (cond w pb (getD l (base + (k - 1)) origin))
+      go true w ex ew = refl
+      go false true ex ew = refl
+      go false false ex ew = let u = bend-below base m k h (eqb-false k 0 ex) (ltb-false m k ew) in getD-any l (base + (k - 1)) y origin (omega arith)
+
+  at-bend : (q : ℕ) → q / 2 + 1 ≤ m → getD l (pointPlace base m (q / 2 + 1)) y ≡ getD l (base + q / 2) origin
+  at-bend q g =
+      let a = ne-eqb (q / 2 + 1) 0 (λ u. omega arith) in
+      let b = le-ltb m (q / 2 + 1) g in
+      let e : base + (q / 2 + 1 - 1) ≡ base + q / 2 = omega arith in
+      (λ i. getD l (cond (a i) 0 (cond (b i) 0 (base + (q / 2 + 1 - 1)))) y)
+      ∙ ap (λ (k : ℕ). getD l k y) e ∙ getD-any l (base + q / 2) y origin (omega arith)
+
+  place-read : (q : ℕ) → q / 2 + q % 2 ≤ m → openBetween pa pb (getD l (pointPlace base m (q / 2)) y) (getD l (pointPlace base m (q / 2 + 1)) y) m q ≡ openPlace pa pb l base m q
+  place-read q g = go (eqb (q % 2) 1) refl
+    where
+      go : (t : Bool) → eqb (q % 2) 1 ≡ t
+          → cond t (getD l (pointPlace base m (q / 2 + 1)) y) (middle (pointOf pa pb (getD l (pointPlace base m (q / 2)) y) m (q / 2)) (pointOf pa pb (getD l (pointPlace base m (q / 2 + 1)) y) m (q / 2 + 1)))
+          ≡ cond t (getD l (base + q / 2) origin) (middle (openPoint pa pb l base m (q / 2)) (openPoint pa pb l base m (q / 2 + 1)))
+      go true e = let k = eqb-true (q % 2) 1 e in at-bend q (omega arith)
+      go false e = ap₂ middle (point-read (q / 2)) (point-read (q / 2 + 1))
 
 pub part-range : (p : Position) (first count : ℕ) → first + count ≤ 2048 → InRange (partRun p first count)
 part-range p first count h = record { one = h; two = omega arith }
@@ -249,7 +289,7 @@ module _ (d : Drawing) (z : Sizes d) (e row base m q : ℕ) (c : Cuts d e row ba
     pub end-below : re < 256
     end-below = let h = vertex-below d z (c .sound) (endOf (cellAt (sheetOf d) e)) re end-row (lives .1) in let g = sound-fits d (c .sound) .cells in omega arith
 
-    pub placed-at : (p : Position) → p ≡ openPlace (placeOf (getD (d .cells) rs noCell .shape)) (placeOf (getD (d .cells) re noCell .shape)) (d .bends) base m q → Placed d e q p
+    placed-at : (p : Position) → p ≡ openPlace (placeOf (getD (d .cells) rs noCell .shape)) (placeOf (getD (d .cells) re noCell .shape)) (d .bends) base m q → Placed d e q p
     placed-at p ep =
         let o = cellAt (sheetOf d) e in
         record {
@@ -260,3 +300,16 @@ module _ (d : Drawing) (z : Sizes d) (e row base m q : ℕ) (c : Cuts d e row ba
               (vertex-place d z (c .sound) (startOf o) rs start-row (lives .0)) (vertex-place d z (c .sound) (endOf o) re end-row (lives .1)) (place-below d z e row base m q c s f n)
               ∙ ap (λ (x : Option Figure). cutPlace (cellAt (sheetOf d)) x q) (sym (open-figure o (n .isOne)));
         }
+
+    cell-read : (k : ℕ) (y : Cell) → k < 256 → placeOf (getD (d .cells) k y .shape) ≡ placeOf (getD (d .cells) k noCell .shape)
+    cell-read k y h = let u = z .cells in ap (λ (x : Cell). placeOf (x .shape)) (getD-any (d .cells) k y noCell (omega arith))
+
+    -- p by the positions that are read: a and b of the two ends, and the bends in the places k1 and k2
+    pub placed-read : (y : Cell) (o a b p : Position) (k1 k2 : ℕ) → a ≡ placeOf (getD (d .cells) rs y .shape) → b ≡ placeOf (getD (d .cells) re y .shape) → k1 ≡ pointPlace base m (q / 2) → k2 ≡ pointPlace base m (q / 2 + 1)
+        → p ≡ openBetween a b (getD (d .bends) k1 o) (getD (d .bends) k2 o) m q → Placed d e q p
+    placed-read y o a b p k1 k2 ea eb e1 e2 ep =
+        let u = ea ∙ cell-read rs y start-below in
+        let v = eb ∙ cell-read re y end-below in
+        placed-at p
+        (ep ∙ (λ i. openBetween (u i) (v i) (getD (d .bends) (e1 i) o) (getD (d .bends) (e2 i) o) m q)
+        ∙ place-read (placeOf (getD (d .cells) rs noCell .shape)) (placeOf (getD (d .cells) re noCell .shape)) (d .bends) base m o (z .bends) (c .range) q (place-below d z e row base m q c s f n))

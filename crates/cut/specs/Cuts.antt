@@ -28,10 +28,13 @@ use Rattle.append.specs.Runs.{run}
 abbrev pub nextBend : ℕ → ℕ → ℕ → ℕ
 nextBend base m i = cond (eqb (i + 1) m) base (base + i + 1)
 
+-- place q of a closed edge lies at the bend p or between p and the bend o after it
+abbrev pub closedBetween : Position → Position → ℕ → Position
+closedBetween p o q = cond (eqb (q % 2) 1) p (middle p o)
+
 -- where place q of a closed edge lies
 abbrev pub closedPlace : List Position → ℕ → ℕ → ℕ → Position
-closedPlace l base m q =
-    cond (eqb (q % 2) 1) (getD l (base + q / 2) origin) (middle (getD l (base + q / 2) origin) (getD l (nextBend base m (q / 2)) origin))
+closedPlace l base m q = closedBetween (getD l (base + q / 2) origin) (getD l (nextBend base m (q / 2)) origin) q
 
 -- the bends of the loop that it becomes
 abbrev pub closedRuns : Position → ℕ → ℕ → ℕ → Runs
@@ -60,9 +63,21 @@ placeOf (Face k) = origin
 abbrev pub noCell : Cell
 noCell = record { id = 0; shape = Vertex origin }
 
--- the k-th point of an open edge from pa to pb, whose m bends stand in l from base on
+-- the place of the bend that is the k-th point of an open edge, whose m bends stand from base on; 0 for an end
+abbrev pub pointPlace : ℕ → ℕ → ℕ → ℕ
+pointPlace base m k = cond (eqb k 0) 0 (cond (ltb m k) 0 (base + (k - 1)))
+
+-- the k-th point of an open edge from pa to pb with m bends: p, where it is a bend
+abbrev pub pointOf : Position → Position → Position → ℕ → ℕ → Position
+pointOf pa pb p m k = cond (eqb k 0) pa (cond (ltb m k) pb p)
+
+-- its place q lies at the bend p or between two points, o and p where these are bends
+abbrev pub openBetween : Position → Position → Position → Position → ℕ → ℕ → Position
+openBetween pa pb o p m q = cond (eqb (q % 2) 1) p (middle (pointOf pa pb o m (q / 2)) (pointOf pa pb p m (q / 2 + 1)))
+
+-- the k-th point, where the bends stand in l from base on
 abbrev pub openPoint : Position → Position → List Position → ℕ → ℕ → ℕ → Position
-openPoint pa pb l base m k = cond (eqb k 0) pa (cond (ltb m k) pb (getD l (base + (k - 1)) origin))
+openPoint pa pb l base m k = pointOf pa pb (getD l (base + (k - 1)) origin) m k
 
 -- where its place q lies
 abbrev pub openPlace : Position → Position → List Position → ℕ → ℕ → ℕ → Position

@@ -2,24 +2,26 @@ ghost use mathlib.Core.Path.{_≡_};
 ghost use mathlib.Core.Bool.{true};
 ghost use Prim.Native.Nat.{_+_, _<_, _≤_, _/_, _%_};
 ghost use lib.Dec.{T};
-ghost use lib.ListN.{length, take, getD};
+ghost use lib.ListN.{length, take};
 ghost use Rattle.complex.specs.Lists.{total};
 ghost use Rattle.complex.specs.Cells.{isOpen, isClosed, cellAt};
 ghost use Rattle.complex.specs.Uses.{stepUse};
 ghost use Rattle.complex.specs.Sizes.{sized, moreLess, changedBy};
 ghost use Rattle.complex.specs.Decode.{cutEdge};
 ghost use Rattle.complex.specs.Commands.{result};
+ghost use Rattle.store.specs.Index.{Indexes};
 ghost use Rattle.store.specs.Sheet.{idsOf};
 ghost use Rattle.store.specs.View.{sheetOf, Fits, cyclesOf};
 ghost use Rattle.sound.specs.Soundness.{soundDrawing};
 ghost use Rattle.answer.specs.Answers.{Answers};
 ghost use Rattle.answer.specs.Late.{sizesBy, lateNo};
-ghost use Rattle.cut.specs.Cuts.{nextBend, closedPlace, closedRuns, Cuts, placeOf, noCell, openPoint, openPlace, partRun, Ends, Placed, Counted};
+ghost use Rattle.cut.specs.Cuts.{nextBend, closedBetween, closedRuns, Cuts, placeOf, pointPlace, pointOf, openBetween, partRun, Ends, Counted};
 use answer::Answer;
 use answer::Totals;
 use append::Runs;
 use coordinate::Position;
 use store::Drawing;
+use store::Index;
 use store::Shape;
 
 // The place of the bend after bend i of a closed edge, round its end.
@@ -34,20 +36,13 @@ fn next_bend(base: usize, m: usize, i: usize) -> usize
     base + i + 1
 }
 
-// Where place q of a closed edge lies, whose m bends stand from base on.
-fn closed_place(d: Drawing, base: usize, m: usize, q: usize) -> Position
-    requires { ⌜ base + m ≤ 2048 ⌝ }
-    requires { ⌜ q / 2 < m ⌝ }
-    ensures { λ r. ⌜ r ≡ closedPlace (d .bends) base m q ⌝ }
+// Where place q of a closed edge lies: at the bend p, or between p and the bend o after it.
+fn closed_place(p: Position, o: Position, q: usize) -> Position
+    ensures { λ r. ⌜ r ≡ closedBetween p o q ⌝ }
 {
-    let i = q / 2;
-    let at = base + i;
-    let p = d.bends[at];
     if q % 2 == 1 {
         return p;
     }
-    let j = next_bend(base, m, i);
-    let o = d.bends[j];
     coordinate::midpoint(p, o)
 }
 
@@ -79,7 +74,12 @@ fn make_loop(d: Drawing, e: u32, row: usize, base: usize, m: usize, q: usize) ->
     ensures { λ r. ⌜ Fits r ⌝ }
 {
     let next = d.next;
-    let p = closed_place(d, base, m, q);
+    let i = q / 2;
+    let at = base + i;
+    let j = next_bend(base, m, i);
+    let b = d.bends[at];
+    let o = d.bends[j];
+    let p = closed_place(b, o, q);
     let r = closed_runs(p, base, m, q);
     let dead = dropping::dead_row(row);
     let one = keep::keep(rewire::swap_edge(d, e, next + 1, false), dead);
@@ -88,12 +88,12 @@ fn make_loop(d: Drawing, e: u32, row: usize, base: usize, m: usize, q: usize) ->
 }
 
 // 0A of a closed edge.
-fn cut_closed(d: Drawing, e: u32, q: usize) -> Answer
+fn cut_closed(d: Drawing, ix: Index, e: u32, q: usize) -> Answer
     requires { ⌜ T (soundDrawing d) ⌝ }
     requires { ⌜ isClosed (cellAt (sheetOf d) e) ≡ true ⌝ }
+    requires { ⌜ Indexes d ix ⌝ }
     ensures { λ r. ⌜ Answers d (cutEdge e q) r ⌝ }
 {
-    let ix = store::index_of(d);
     let n = d.count;
     let next = d.next;
     let t = answer::totals_of(&ix.bends, &ix.cycles, n, &d.cycles);
@@ -140,43 +140,44 @@ pub fn position_of(s: Shape) -> Position
     }
 }
 
-// The k-th point that an open edge passes: its start, its bends, its end, which stand in two rows and from base on.
-fn open_point(d: Drawing, rs: usize, re: usize, base: usize, m: usize, k: usize) -> Position
-    requires { ⌜ rs < 256 ⌝ }
-    requires { ⌜ re < 256 ⌝ }
+// The place of the bend that is the k-th point of an open edge, whose m bends stand from base on; 0 for an end.
+fn point_place(base: usize, m: usize, k: usize) -> usize
     requires { ⌜ base + m ≤ 2048 ⌝ }
-    ensures { λ r. ⌜ r ≡ openPoint (placeOf (getD (d .cells) rs noCell .shape)) (placeOf (getD (d .cells) re noCell .shape)) (d .bends) base m k ⌝ }
+    ensures { λ r. ⌜ r ≡ pointPlace base m k ⌝ }
 {
     if k == 0 {
-        let a = d.cells[rs];
-        let s = a.shape;
-        return position_of(s);
+        return 0;
     }
     if m < k {
-        let b = d.cells[re];
-        let t = b.shape;
-        return position_of(t);
+        return 0;
     }
-    let at = base + (k - 1);
-    d.bends[at]
+    base + (k - 1)
 }
 
-// Where place q of an open edge lies.
-fn open_place(d: Drawing, rs: usize, re: usize, base: usize, m: usize, q: usize) -> Position
-    requires { ⌜ rs < 256 ⌝ }
-    requires { ⌜ re < 256 ⌝ }
-    requires { ⌜ base + m ≤ 2048 ⌝ }
-    requires { ⌜ q / 2 + q % 2 ≤ m ⌝ }
-    ensures { λ r. ⌜ r ≡ openPlace (placeOf (getD (d .cells) rs noCell .shape)) (placeOf (getD (d .cells) re noCell .shape)) (d .bends) base m q ⌝ }
+// The k-th point that an open edge passes: its start a, a bend p, its end b.
+fn open_point(a: Position, b: Position, p: Position, m: usize, k: usize) -> Position
+    ensures { λ r. ⌜ r ≡ pointOf a b p m k ⌝ }
+{
+    if k == 0 {
+        return a;
+    }
+    if m < k {
+        return b;
+    }
+    p
+}
+
+// Where place q of an open edge from a to b lies: o and p are the bends before and after the place, where these are.
+fn open_place(a: Position, b: Position, o: Position, p: Position, m: usize, q: usize) -> Position
+    ensures { λ r. ⌜ r ≡ openBetween a b o p m q ⌝ }
 {
     let i = q / 2;
     if q % 2 == 1 {
-        let at = base + i;
-        return d.bends[at];
+        return p;
     }
-    let a = open_point(d, rs, re, base, m, i);
-    let b = open_point(d, rs, re, base, m, i + 1);
-    coordinate::midpoint(a, b)
+    let s = open_point(a, b, o, m, i);
+    let f = open_point(a, b, p, m, i + 1);
+    coordinate::midpoint(s, f)
 }
 
 // One run of bends.
@@ -195,36 +196,8 @@ fn part_run(p: Position, first: usize, count: usize) -> Runs
     }
 }
 
-// The drawing with the open edge e, in a row, cut at place q, where p is.
+// The drawing with the open edge e, in a row, from s to f, cut at place q; ids are those of the cells.
 fn make_parts(
-    d: Drawing,
-    e: u32,
-    row: usize,
-    base: usize,
-    m: usize,
-    q: usize,
-    s: u32,
-    f: u32,
-    p: Position,
-) -> Drawing
-    requires { ⌜ Cuts d e row base m q ⌝ }
-    requires { ⌜ Ends d e s f ⌝ }
-    requires { ⌜ Placed d e q p ⌝ }
-    ensures { λ r. ⌜ sheetOf r ≡ result (sheetOf d) (cutEdge e q) ⌝ }
-    ensures { λ r. ⌜ Fits r ⌝ }
-{
-    let next = d.next;
-    let i = q / 2;
-    let j = i + q % 2;
-    let dead = dropping::dead_row(row);
-    let one = keep::keep(rewire::cut_edge_steps(d, e, next + 1, next + 2), dead);
-    let two = append::append_vertex(one, p);
-    let three = append::append_open(two, d, s, next, part_run(p, base, i));
-    append::append_open(three, d, next, f, part_run(p, base + j, m - j))
-}
-
-// The same, where ids are those of the cells.
-fn cut_parts(
     d: Drawing,
     ids: &[u32; 256],
     e: u32,
@@ -242,11 +215,28 @@ fn cut_parts(
     ensures { λ r. ⌜ sheetOf r ≡ result (sheetOf d) (cutEdge e q) ⌝ }
     ensures { λ r. ⌜ Fits r ⌝ }
 {
+    let next = d.next;
     let n = d.count;
+    let i = q / 2;
+    let j = i + q % 2;
     let rs = store::find(ids, n, s);
     let re = store::find(ids, n, f);
-    let p = open_place(d, rs, re, base, m, q);
-    make_parts(d, e, row, base, m, q, s, f, p)
+    let v = d.cells[rs];
+    let w = d.cells[re];
+    let vs = v.shape;
+    let ws = w.shape;
+    let a = position_of(vs);
+    let b = position_of(ws);
+    let k1 = point_place(base, m, i);
+    let k2 = point_place(base, m, i + 1);
+    let o = d.bends[k1];
+    let x = d.bends[k2];
+    let p = open_place(a, b, o, x, m, q);
+    let dead = dropping::dead_row(row);
+    let one = keep::keep(rewire::cut_edge_steps(d, e, next + 1, next + 2), dead);
+    let two = append::append_vertex(one, p);
+    let three = append::append_open(two, d, s, next, part_run(p, base, i));
+    append::append_open(three, d, next, f, part_run(p, base + j, m - j))
 }
 
 // Questions 7 and 8 of 0A of an open edge: each use of e adds a step.
@@ -278,12 +268,12 @@ fn open_late<'a>(
 }
 
 // 0A of an open edge.
-fn cut_open(d: Drawing, e: u32, q: usize) -> Answer
+fn cut_open(d: Drawing, ix: Index, e: u32, q: usize) -> Answer
     requires { ⌜ T (soundDrawing d) ⌝ }
     requires { ⌜ isOpen (cellAt (sheetOf d) e) ≡ true ⌝ }
+    requires { ⌜ Indexes d ix ⌝ }
     ensures { λ r. ⌜ Answers d (cutEdge e q) r ⌝ }
 {
-    let ix = store::index_of(d);
     let n = d.count;
     let next = d.next;
     let t = answer::totals_of(&ix.bends, &ix.cycles, n, &d.cycles);
@@ -303,7 +293,7 @@ fn cut_open(d: Drawing, e: u32, q: usize) -> Answer
     let ends = ix.ends;
     let s = starts[row];
     let f = ends[row];
-    answer::done(next, n, cut_parts(d, &ids, e, row, base, m, q, s, f))
+    answer::done(next, n, make_parts(d, &ids, e, row, base, m, q, s, f))
 }
 
 // 0A
@@ -317,10 +307,10 @@ pub fn cut_edge(d: Drawing, e: u32, q: u32) -> Answer
     let kinds = ix.kinds;
     let k = store::value_at(4, &ids, &kinds, n, e);
     if k == 1 {
-        return cut_open(d, e, store::wide(q));
+        return cut_open(d, ix, e, store::wide(q));
     }
     if k == 2 {
-        return cut_closed(d, e, store::wide(q));
+        return cut_closed(d, ix, e, store::wide(q));
     }
     answer::refused(d, 4)
 }

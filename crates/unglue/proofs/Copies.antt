@@ -3,11 +3,11 @@ use Prim.Native.Nat.{ℕ, zero, suc, _+_, _-_, _*_, _<_, _≤_}
 use native.Mathlib.Omega.{arith}
 use mathlib.Core.Path.{_≡_, refl, sym, ap, ap₂, _∙_, subst}
 use mathlib.Core.Bool.{true, false}
-use mathlib.Core.List.{List, [], _∷_}
+use mathlib.Core.List.{List, [], _∷_, map}
 use mathlib.Core.Option.{Option, none, some}
 use borrow.Author.Tests.{ltb-true, le-leb, lt-leb}
 use lib.Dec.{T, leb, ltb, leb→le}
-use lib.ListN.{length, take, drop, replicate}
+use lib.ListN.{length, take, drop, replicate, length-map}
 use Rattle.complex.specs.Lists.{total, rising}
 use Rattle.complex.specs.Cells.{Figure, vertex, openEdge, closedEdge, face, LiveCell, Sheet, cellAt, ids, isFace, isLive, isVertexOrEdge, bendsOf, origin}
 use Rattle.complex.specs.Sound.{idsEnd, cyclesIn, stepsIn, bendsIn, over, ceilings}
@@ -17,7 +17,7 @@ use Rattle.complex.specs.Uses.{usesBy, onUses}
 use Rattle.complex.specs.Unglue.{copies, parts, ungluing}
 use Rattle.complex.specs.Commands.{question3, question4, question5, question6, result}
 use Rattle.complex.specs.Answer.{no, asked3}
-use Rattle.complex.specs.Sizes.{newCells, changeOf, unglueChange, sizesAfter, sizesFit}
+use Rattle.complex.specs.Sizes.{Sizes as Counted, sized, nothing, moreLess, changedBy, newCells, changeOf, unglueChange, sizesAfter, sizesFit}
 use Rattle.complex.proofs.Bools.{truth, true-of}
 use Rattle.complex.proofs.Lookup.{changed, lookup-reshape, ids-reshape}
 use Rattle.complex.proofs.Keep.{Sound, sound-parts}
@@ -26,13 +26,15 @@ use Rattle.complex.proofs.Asked.{Passed, no-6}
 use Rattle.complex.proofs.SizesAfter.{next-after, sizes-after}
 use Rattle.store.specs.declared.Drawing.{Drawing}
 use Rattle.store.specs.declared.Index.{Index}
-use Rattle.store.specs.Index.{Indexes, Rising, rowOf}
+use Rattle.store.specs.declared.Cell.{Cell}
+use Rattle.store.specs.Index.{kindOf, startOf, endOf, Indexes, Rising, rowOf}
 use Rattle.store.specs.Sizes.{Sizes}
-use Rattle.store.specs.View.{width, widthSum, cyclesOf, sheetOf, Fits}
-use Rattle.store.specs.Edits.{withEntries}
+use Rattle.store.specs.View.{width, widthSum, cyclesOf, sheetOf, Fits, bendCount, cycleCount, cycleTotal}
+use Rattle.store.specs.Edits.{withEntries, placesOf}
+use Rattle.store.proofs.Lists.{places-sum}
 use Rattle.store.proofs.Stands.{ids-same}
 use Rattle.sound.specs.Soundness.{soundDrawing}
-use Rattle.sound.proofs.Meaning.{sound-fits, sound-sheet, rising-is, live-row, found-row}
+use Rattle.sound.proofs.Meaning.{sound-fits, sound-sheet, live-row, found-row, looks}
 use Rattle.append.specs.Appends.{appendedAll, remade, RoomIn, figureAt}
 use Rattle.append.specs.Requirements.{CopiesRoom}
 use Rattle.append.proofs.Appended.{kept-all}
@@ -40,11 +42,13 @@ use Rattle.append.proofs.Rooms.{below, room-copies}
 use Rattle.answer.specs.declared.Answer.{Answer}
 use Rattle.answer.specs.declared.Totals.{Totals}
 use Rattle.answer.specs.Answers.{refusal, outcome, Counts, Answers}
-use Rattle.answer.proofs.Laws.{asked-six, answers-no, late-refuses, late-passes, counts, answers-done}
+use Rattle.answer.specs.Late.{sizesBy, lateNo, Small}
+use Rattle.answer.proofs.Laws.{asked-six, answers-no, late-refuses, late-passes, counts, answers-done, totalsIn, totals-are, totals-small}
 use Rattle.copies.specs.declared.Use.{Use}
 use Rattle.copies.specs.declared.Use.the-variants.{Step, Ring, Lone}
 use Rattle.copies.specs.Copying.{usesIn, copied}
 use Rattle.copies.proofs.Runs.{uses-few}
+use Rattle.copies.proofs.Dealing.{uses-held}
 use Rattle.unglue.specs.Unglues.{hasUses, lateCopies, Copying}
 
 -- ---- numbers are small
@@ -69,6 +73,37 @@ bends-few s S i = go (cellAt s i) refl
 pub times-few : (n b : ℕ) → b ≤ 2048 → n * b ≤ n * 2048
 times-few zero b h = omega arith
 times-few (suc n) b h = let r = times-few n b h in omega arith
+
+-- ---- a list of all that stands in the rows is an index
+take-map : {A B : Type 0} (f : A → B) (n : ℕ) (l : List A) → take n (map f l) ≡ map f (take n l)
+take-map f zero l = refl
+take-map f (suc n) [] = refl
+take-map {A} {B} f (suc n) (x ∷ l) = ap (λ (r : List B). f x ∷ r) (take-map f n l)
+
+abbrev allRows : Drawing → Index
+allRows d =
+    record {
+      ids = map (λ (c : Cell). c .id) (d .cells);
+      kinds = map (λ (c : Cell). kindOf (c .shape)) (d .cells);
+      starts = map (λ (c : Cell). startOf (c .shape)) (d .cells);
+      ends = map (λ (c : Cell). endOf (c .shape)) (d .cells);
+      bends = map (λ (c : Cell). bendCount (c .shape)) (d .cells);
+      cycles = map (λ (c : Cell). cycleCount (c .shape)) (d .cells);
+    }
+
+all-rows : (d : Drawing) → Sizes d → Indexes d (allRows d)
+all-rows d z =
+    let size : (f : Cell → ℕ) → length (map f (d .cells)) ≡ 256 = λ f. length-map (d .cells) f ∙ z .cells in
+    record {
+      sizes =
+          (size (λ (c : Cell). c .id), size (λ (c : Cell). kindOf (c .shape)), size (λ (c : Cell). startOf (c .shape)), size (λ (c : Cell). endOf (c .shape)), size (λ (c : Cell). bendCount (c .shape)), size (λ (c : Cell). cycleCount (c .shape)));
+      ids = take-map (λ (c : Cell). c .id) (d .count) (d .cells);
+      kinds = take-map (λ (c : Cell). kindOf (c .shape)) (d .count) (d .cells);
+      starts = take-map (λ (c : Cell). startOf (c .shape)) (d .count) (d .cells);
+      ends = take-map (λ (c : Cell). endOf (c .shape)) (d .count) (d .cells);
+      bends = take-map (λ (c : Cell). bendCount (c .shape)) (d .count) (d .cells);
+      cycles = take-map (λ (c : Cell). cycleCount (c .shape)) (d .count) (d .cells);
+    }
 
 -- ---- the edges
 -- their uses are those that ungluing counts and copies
@@ -102,9 +137,6 @@ plain-figure (closedEdge bs) k = refl
 plain-figure (face ks) k = absurd k
 
 module _ (d : Drawing) (z : Sizes d) (i n : ℕ) (c : Copying d i n) (ix : Index) (x : Indexes d ix) where
-  pub ids-rise : Rising (take (d .count) (ix .ids))
-  ids-rise = rising-is (take (d .count) (ix .ids)) (sheetOf d .next) (rw (x .ids ∙ ids-same d z (c .fits)) (c .rises))
-
   module _ (row : ℕ) (er : row ≡ rowOf i (take (d .count) (ix .ids))) where
     row-in : row < d .count
     row-in = ltb-true row (d .count) (ap (λ (r : ℕ). ltb r (d .count)) er ∙ live-row d z (c .fits) ix x i ∙ plain-live (cellAt (sheetOf d) i) (c .plain))
@@ -137,6 +169,35 @@ module _ (d : Drawing) (w : T (soundDrawing d)) where
   pub next-in : d .next ≤ 65536
   unfolding sheetOf
   next-in = leb→le (d .next) idsEnd (sound-in .inIds)
+
+-- ---- what is counted in the arrays of a drawing, by its index
+module _ (d : Drawing) (z : Sizes d) (w : T (soundDrawing d)) (ix : Index) (x : Indexes d ix) where
+  pub ids-rising : Rising (take (d .count) (ix .ids))
+  ids-rising = looks d z ix x w .rising
+
+  module _ (t : Totals) (et : t ≡ totalsIn d z (sound-fits d w) ix x) where
+    pub cycles-are : t .cycles ≡ cycleTotal d
+    cycles-are = ap (λ (k : Totals). k .cycles) et ∙ ap (total (placesOf 0)) (x .cycles) ∙ places-sum (λ (c : Cell). cycleCount (c .shape)) (take (d .count) (d .cells))
+
+    pub count-asks : (t .cycles ≤ length (d .cycles)) × (widthSum (take (t .cycles) (d .cycles)) ≤ length (d .steps))
+    count-asks =
+        let f = sound-fits d w in
+        let e = cycles-are in
+        let v = ap (λ (n : ℕ). widthSum (take n (d .cycles))) e in
+        (omega (arith, f .cycles, z .cycles), omega (arith, f .steps, z .steps))
+
+    pub uses-counted : (u : Use) (i n : ℕ) → n ≡ total (usesIn u i) (cyclesOf (take (t .cycles) (d .cycles)) (d .steps)) → (n ≡ usesBy (usesIn u i) (sheetOf d .cells)) × (n ≤ 2048)
+    uses-counted u i n en =
+        let f = sound-fits d w in
+        let e = en ∙ ap (λ (m : ℕ). total (usesIn u i) (cyclesOf (take m (d .cycles)) (d .steps))) cycles-are in
+        (e ∙ sym (uses-held d z f (usesIn u i)), omega (arith, e, f .steps, uses-total u i (take (cycleTotal d) (d .cycles)) (d .steps)))
+
+    pub sizes-small : Small t
+    sizes-small = rw et (totals-small d z (sound-fits d w) ix x)
+
+    pub late-are : (i b : ℕ) → b ≡ length (bendsOf (cellAt (sheetOf d) i)) → (n r : ℕ) → r ≡ lateNo (d .next) n (changedBy (sizesBy t) (moreLess (sized n 0 0 (n * b)) nothing)) → r ≡ lateCopies (sheetOf d) i n
+    unfolding sheetOf
+    late-are i b eb n r er = er ∙ ap₂ (λ (s : Counted) (m : ℕ). lateNo (d .next) n (changedBy s (moreLess (sized n 0 0 (n * m)) nothing))) (ap sizesBy et ∙ totals-are d z (sound-fits d w) ix x) eb
 
 module _ (d : Drawing) (z : Sizes d) (w : T (soundDrawing d)) (i : ℕ) (k : T (isVertexOrEdge (cellAt (sheetOf d) i))) (n : ℕ) (en : n ≡ parts (sheetOf d .cells) i (cellAt (sheetOf d) i)) where
   abbrev here : Option Figure
@@ -223,6 +284,25 @@ module _ (d : Drawing) (z : Sizes d) (w : T (soundDrawing d)) (i : ℕ) (k : T (
                     sizes = subst (λ (s : Sheet). T (ceilings (s .cells))) (sym result-is) (truth (sizes-after (sheetOf d) (sound-in d w) (unglue i) (asked-six d (unglue i) (sound-in d w) passed) ∙ asked .1));
                   };
             }
+
+        -- the cell stands in the row where it stood
+        module _ (ix : Index) (x : Indexes d ix) (row : ℕ) (ew : row ≡ rowOf i (take (d .count) (ix .ids))) where
+          same-row : row ≡ rowOf i (take (mid .count) (allRows mid .ids))
+          same-row =
+              ew
+              ∙ ap (rowOf i)
+              (x .ids
+              ∙ ids-same d z (sound-fits d w)
+              ∙ sym (ids-reshape change (sheetOf d .cells))
+              ∙ ap (λ (s : Sheet). ids (s .cells)) (sym em)
+              ∙ sym (ids-same mid zm gm)
+              ∙ sym (all-rows mid zm .ids))
+
+          pub mid-room : CopiesRoom mid row (n - 1)
+          mid-room = row-room mid zm i n mid-copying (allRows mid) (all-rows mid zm) row same-row
+
+          pub mid-copies : appendedAll (replicate (n - 1) (figureAt (sheetOf mid) row)) (sheetOf mid) ≡ appendedAll (copies n (cellAt (sheetOf mid) i)) (sheetOf mid)
+          mid-copies = row-copies mid zm i n mid-copying (allRows mid) (all-rows mid zm) row same-row
 
         module _ (out : Drawing) (zo : Sizes out) (go : Fits out) (eo : sheetOf out ≡ appendedAll (copies n (cellAt (sheetOf mid) i)) (sheetOf mid)) where
           pub out-counts : Counts (d .next) (d .count) out

@@ -10,7 +10,7 @@ use lib.ListN.{length, take, getD, replicate, length-replicate, length-map}
 use Rattle.coordinate.specs.declared.Position.{Position}
 use Rattle.number.specs.Readers.{spread}
 use Rattle.complex.specs.Lists.{filter}
-use Rattle.complex.specs.Cells.{Cycle, Figure, vertex, openEdge, closedEdge, face, LiveCell, cellAt, isVertex, isVertexOrEdge}
+use Rattle.complex.specs.Cells.{Cycle, Figure, vertex, openEdge, closedEdge, face, LiveCell, cellAt, bendsOf, isVertex, isVertexOrEdge}
 use Rattle.complex.specs.Cells as cells
 use Rattle.complex.specs.Uses.{groups, usesBy, loneUse, Passage, passagesAt, allCycles}
 use Rattle.complex.specs.Unglue.{parts}
@@ -69,6 +69,13 @@ vertex-plain (some (vertex p)) t = tt
 vertex-plain (some (openEdge a b bs)) t = absurd t
 vertex-plain (some (closedEdge bs)) t = absurd t
 vertex-plain (some (face ks)) t = absurd t
+
+pub vertex-bends : (o : Option Figure) → T (isVertex o) → 0 ≡ length (bendsOf o)
+vertex-bends none t = absurd t
+vertex-bends (some (vertex p)) t = refl
+vertex-bends (some (openEdge a b bs)) t = absurd t
+vertex-bends (some (closedEdge bs)) t = absurd t
+vertex-bends (some (face ks)) t = absurd t
 
 take-full : (m : ℕ) (xs : List ℕ) → length (take m xs) ≡ m → m ≤ length xs
 take-full zero xs e = omega arith

@@ -4,20 +4,21 @@ ghost use mathlib.Core.Bool.{false, _&&_};
 ghost use mathlib.Core.List.{map};
 ghost use lib.Dec.{T};
 ghost use lib.ListN.{length, take, getD};
-ghost use Rattle.complex.specs.Lists.{one};
+ghost use Rattle.complex.specs.Lists.{one, total};
 ghost use Rattle.complex.specs.Cells.{cellAt, stepsOf, isVertex};
 ghost use Rattle.complex.specs.Decode.{unglue as ungluing};
-ghost use Rattle.complex.specs.Uses.{usesBy, passage, passages};
-ghost use Rattle.complex.specs.Unglue.{copies as copiesOf, ungluing as ungluingOf};
-ghost use Rattle.store.specs.View.{sheetOf, Fits, halfedgeOf, width, widthSum, cycleOf, cyclesOf};
+ghost use Rattle.complex.specs.Uses.{passage, passages};
+ghost use Rattle.complex.specs.Unglue.{ungluing as ungluingOf};
+ghost use Rattle.complex.specs.Sizes.{sized, nothing, moreLess, changedBy};
+ghost use Rattle.store.specs.View.{sheetOf, Fits, halfedgeOf, width, widthSum, cycleOf, cyclesOf, cycleTotal};
 ghost use Rattle.complex.specs.Edits.{reshape};
 ghost use Rattle.store.specs.Index.{rowOf, Indexes};
 ghost use Rattle.store.specs.Edits.{withEntries};
 ghost use Rattle.sound.specs.Soundness.{soundDrawing};
-ghost use Rattle.append.specs.Appends.{appendedAll};
 ghost use Rattle.answer.specs.Answers.{Answers};
+ghost use Rattle.answer.specs.Late.{sizesBy, lateNo, Small};
 ghost use Rattle.copies.specs.Copying.{usesIn};
-ghost use Rattle.unglue.specs.Unglues.{hasUses, lateCopies, Copying};
+ghost use Rattle.unglue.specs.Unglues.{hasUses};
 ghost use Rattle.unglue.specs.Search.{differs as differ, Links, FirstSplit, Reached, Ready, Sorting};
 ghost use Rattle.unglue.specs.Places.{Rows, turnsOf, Paired, Put, nextStep, endMark, EndMarks, endOf, EndRows, NewEnds, GroupedEnds, Fresh};
 use answer::Answer;
@@ -26,31 +27,23 @@ use copies::Use;
 use store::Drawing;
 use store::Index;
 
-// How often the cycles of a drawing use the cell i.
-fn count_all(u: Use, d: Drawing, i: u32) -> usize
-    requires { ⌜ Fits d ⌝ }
-    ensures { λ r. ⌜ r ≡ usesBy (usesIn u i) (sheetOf d .cells) ⌝ }
-    ensures { λ r. ⌜ r ≤ 2048 ⌝ }
+// How often m cycles use the cell i.
+fn count_all<'a>(u: Use, cycles: &'a [u32; 512], m: usize, steps: &'a [u32; 2048], i: u32) -> usize
+    requires { ⌜ m ≤ length (now cycles) ⌝ }
+    requires { ⌜ widthSum (take m (now cycles)) ≤ length (now steps) ⌝ }
+    ensures { λ r. ⌜ r ≡ total (usesIn u i) (cyclesOf (take m (now (cycles .entry))) (now (steps .entry))) ⌝ }
 {
-    let n = store::cycle_total(d);
-    let cy = d.cycles;
-    let st = d.steps;
-    copies::count_uses(u, &cy, n, &st, i)
+    copies::count_uses(u, cycles, m, steps, i)
 }
 
-// Questions 7 and 8, of n new copies of the cell i.
-fn late_copies(d: Drawing, i: u32, n: usize) -> u32
-    requires { ⌜ T (soundDrawing d) ⌝ }
+// Questions 7 and 8, of n new copies of a cell with b bends.
+fn late_copies(next: u32, t: Totals, b: usize, n: usize) -> u32
+    requires { ⌜ next ≤ 65536 ⌝ }
+    requires { ⌜ Small t ⌝ }
+    requires { ⌜ b ≤ 2048 ⌝ }
     requires { ⌜ n ≤ 4096 ⌝ }
-    ensures { λ r. ⌜ r ≡ lateCopies (sheetOf d) i n ⌝ }
+    ensures { λ r. ⌜ r ≡ lateNo next n (changedBy (sizesBy t) (moreLess (sized n 0 0 (n * b)) nothing)) ⌝ }
 {
-    let ix = store::index_of(d);
-    let m = d.count;
-    let next = d.next;
-    let t = answer::totals_of(&ix.bends, &ix.cycles, m, &d.cycles);
-    let ids = ix.ids;
-    let bends = ix.bends;
-    let b = store::wide(store::value_at(0, &ids, &bends, m, i));
     let more = Totals {
         cells: n,
         cycles: 0,
@@ -66,36 +59,30 @@ fn late_copies(d: Drawing, i: u32, n: usize) -> u32
     answer::late_no(next, n, t, more, less)
 }
 
-// New copies of the vertex or edge i, so that there are n of it.
-fn add_copies(d: Drawing, i: u32, n: usize) -> Drawing
-    requires { ⌜ Copying d i n ⌝ }
-    ensures { λ r. ⌜ sheetOf r ≡ appendedAll (copiesOf n (cellAt (sheetOf d) i)) (sheetOf d) ⌝ }
-    ensures { λ r. ⌜ Fits r ⌝ }
-{
-    let ix = store::index_of(d);
-    let ids = ix.ids;
-    let row = store::find(&ids, d.count, i);
-    append::append_copies(d, row, n - 1)
-}
-
 // 09, of an open edge by its steps or of a closed edge by its cycles
-pub fn unglue_edge(u: Use, d: Drawing, e: u32) -> Answer
+pub fn unglue_edge(u: Use, d: Drawing, ix: Index, e: u32) -> Answer
     requires { ⌜ T (soundDrawing d) ⌝ }
+    requires { ⌜ Indexes d ix ⌝ }
     requires { ⌜ T (hasUses u (cellAt (sheetOf d) e)) ⌝ }
     ensures { λ r. ⌜ Answers d (ungluing e) r ⌝ }
 {
-    let parts = count_all(u, d, e);
+    let n = d.count;
+    let next = d.next;
+    let t = answer::totals_of(&ix.bends, &ix.cycles, n, &d.cycles);
+    let parts = count_all(u, &d.cycles, t.cycles, &d.steps, e);
     if parts < 2 {
         return answer::refused(d, 6);
     }
-    let no = late_copies(d, e, parts - 1);
+    let ids = ix.ids;
+    let bends = ix.bends;
+    let b = store::wide(store::value_at(0, &ids, &bends, n, e));
+    let no = late_copies(next, t, b, parts - 1);
     if no != 0 {
         return answer::refused(d, no);
     }
-    let next = d.next;
-    let n = d.count;
+    let row = store::find(&ids, n, e);
     let mid = copies::copy_uses(u, d, e, next, 0);
-    answer::done(next, n, add_copies(mid, e, parts))
+    answer::done(next, n, append::append_copies(mid, row, parts - 1))
 }
 
 // Whether one of two numbers is g and the other not.
@@ -392,16 +379,16 @@ fn new_ends(side: usize, at: &[bool], groups: &[u32], n: usize, v: u32, next: u3
 }
 
 // The groups of the ends at vertex v, and how many there are.
-fn group_ends(d: Drawing, ix: Index, v: u32, at: &mut [bool], groups: &mut [u32]) -> u32
+fn group_ends(d: Drawing, ix: Index, m: usize, v: u32, at: &mut [bool], groups: &mut [u32]) -> u32
     requires { ⌜ T (soundDrawing d) ⌝ }
     requires { ⌜ T (isVertex (cellAt (sheetOf d) v)) ⌝ }
     requires { ⌜ Indexes d ix ⌝ }
+    requires { ⌜ m ≡ cycleTotal d ⌝ }
     requires { ⌜ Fresh (now at) (now groups) ⌝ }
     ensures { λ r. ⌜ GroupedEnds d ix v r (now (at .exit)) (now (groups .exit)) ⌝ }
     ensures { λ r. ⌜ r ≤ 512 ⌝ }
 {
     let n = d.count;
-    let m = store::cycle_total(d);
     let kinds = ix.kinds;
     let starts = ix.starts;
     let ends = ix.ends;
@@ -436,27 +423,31 @@ fn part_ends(d: Drawing, ix: Index, v: u32, g: u32, at: &[bool], groups: &[u32])
 }
 
 // 09, of a vertex by the groups of its ends and its lone cycles
-fn unglue_vertex(d: Drawing, v: u32) -> Answer
+fn unglue_vertex(d: Drawing, ix: Index, v: u32) -> Answer
     requires { ⌜ T (soundDrawing d) ⌝ }
+    requires { ⌜ Indexes d ix ⌝ }
     requires { ⌜ T (isVertex (cellAt (sheetOf d) v)) ⌝ }
     ensures { λ r. ⌜ Answers d (ungluing v) r ⌝ }
 {
-    let ix = store::index_of(d);
+    let n = d.count;
+    let next = d.next;
+    let t = answer::totals_of(&ix.bends, &ix.cycles, n, &d.cycles);
     let mut at = [false; 512];
     let mut groups = [0u32; 512];
-    let g = group_ends(d, ix, v, &mut at, &mut groups);
-    let parts = store::wide(g) + count_all(Use::Lone, d, v);
+    let g = group_ends(d, ix, t.cycles, v, &mut at, &mut groups);
+    let lone = count_all(Use::Lone, &d.cycles, t.cycles, &d.steps, v);
+    let parts = store::wide(g) + lone;
     if parts < 2 {
         return answer::refused(d, 6);
     }
-    let no = late_copies(d, v, parts - 1);
+    let no = late_copies(next, t, 0, parts - 1);
     if no != 0 {
         return answer::refused(d, no);
     }
-    let next = d.next;
-    let n = d.count;
+    let ids = ix.ids;
+    let row = store::find(&ids, n, v);
     let mid = part_ends(d, ix, v, g, &at, &groups);
-    answer::done(next, n, add_copies(mid, v, parts))
+    answer::done(next, n, append::append_copies(mid, row, parts - 1))
 }
 
 // 09
@@ -470,13 +461,13 @@ pub fn unglue(d: Drawing, i: u32) -> Answer
     let kinds = ix.kinds;
     let k = store::value_at(4, &ids, &kinds, n, i);
     if k == 0 {
-        return unglue_vertex(d, i);
+        return unglue_vertex(d, ix, i);
     }
     if k == 1 {
-        return unglue_edge(Use::Step, d, i);
+        return unglue_edge(Use::Step, d, ix, i);
     }
     if k == 2 {
-        return unglue_edge(Use::Ring, d, i);
+        return unglue_edge(Use::Ring, d, ix, i);
     }
     answer::refused(d, 4)
 }

@@ -11,53 +11,46 @@ use Rattle.cut.proofs.ClosedAnswer.{closed-live, no-place, passed, refu
 use Rattle.cut.proofs.cut_closed.Statement.{statement}
 use Rattle.cut.proofs.cut_closed.Tie as tie
 
-index-of-requires : tie.Need-index-of-requires
-index-of-requires c κs = sound-fits (c .args .t1) (c .pre .0) .cells
-
 totals-of-requires : tie.Need-totals-of-requires
 totals-of-requires c κs =
-    let i = c .before .before .before .before .before in
-    let st = i .before in
+    let st = c .before .before .before .before .before in
     let d = st .args .t1 in
-    summed d (sizes d _ (st .good .0)) (sound-fits d (st .pre .0)) (i .index-of .result) (i .index-of .ensures)
+    summed d (sizes d _ (st .good .0)) (sound-fits d (st .pre .0)) (st .args .t2) (st .pre .1 .1)
 
 find-requires : tie.Need-find-requires
 find-requires c κs =
     let to = c .before .before .before in
-    let i = to .before .before .before .before .before .before in
-    let st = i .before in
+    let st = to .before .before .before .before .before .before in
     let d = st .args .t1 in
-    find-asks d (sizes d _ (st .good .0)) (st .pre .0) (i .index-of .result) (i .index-of .ensures)
+    find-asks d (sizes d _ (st .good .0)) (st .pre .0) (st .args .t2) (st .pre .1 .1)
 
 mul-wide : tie.Need-mul-wide
 mul-wide c =
     let fd = c in
     let to = fd .before .before .before .before in
-    let i = to .before .before .before .before .before .before in
-    let st = i .before in
+    let st = to .before .before .before .before .before .before in
     let d = st .args .t1 in
     let e = st .args .e in
     let q = st .args .q in
     let z = sizes d _ (st .good .0) in
     let w = st .pre .0 in
-    let ix = i .index-of .result in
-    let x = i .index-of .ensures in
-    omega (arith, row-below d z w ix x e (fd .find .result) (fd .find .ensures) (closed-live d z w e q (st .pre .1)))
+    let ix = st .args .t2 in
+    let x = st .pre .1 .1 in
+    omega (arith, row-below d z w ix x e (fd .find .result) (fd .find .ensures) (closed-live d z w e q (st .pre .1 .0)))
 
 array-read-wide : tie.Need-array-read-wide
 array-read-wide c =
     let fd = c in
     let to = fd .before .before .before .before in
-    let i = to .before .before .before .before .before .before in
-    let st = i .before in
+    let st = to .before .before .before .before .before .before in
     let d = st .args .t1 in
     let e = st .args .e in
     let q = st .args .q in
     let z = sizes d _ (st .good .0) in
     let w = st .pre .0 in
-    let ix = i .index-of .result in
-    let x = i .index-of .ensures in
-    row-below d z w ix x e (fd .find .result) (fd .find .ensures) (closed-live d z w e q (st .pre .1))
+    let ix = st .args .t2 in
+    let x = st .pre .1 .1 in
+    row-below d z w ix x e (fd .find .result) (fd .find .ensures) (closed-live d z w e q (st .pre .1 .0))
 
 wide-requires : tie.Need-wide-requires
 wide-requires c κs = search needs
@@ -70,31 +63,29 @@ returns c =
     let wd = c .before .before in
     let fd = wd .before in
     let to = fd .before .before .before .before in
-    let i = to .before .before .before .before .before .before in
-    let st = i .before in
+    let st = to .before .before .before .before .before .before in
     let d = st .args .t1 in
     let e = st .args .e in
     let q = st .args .q in
     let z = sizes d _ (st .good .0) in
     let w = st .pre .0 in
-    let ix = i .index-of .result in
-    let x = i .index-of .ensures in
-    answers-no d (sound-fits d w) (cutEdge e q) 5 _ (c .refused .ensures) (no-place d z w e q (st .pre .1) ix x (fd .find .result) (fd .find .ensures) (wd .wide .result) (wd .wide .ensures) (c .before .if1 .taken))
+    let ix = st .args .t2 in
+    let x = st .pre .1 .1 in
+    answers-no d (sound-fits d w) (cutEdge e q) 5 _ (c .refused .ensures) (no-place d z w e q (st .pre .1 .0) ix x (fd .find .result) (fd .find .ensures) (wd .wide .result) (wd .wide .ensures) (c .before .if1 .taken))
 
 late-no-requires : tie.Need-late-no-requires
 late-no-requires c κs =
     let wd = c .before in
     let fd = wd .before in
     let to = fd .before .before .before .before in
-    let i = to .before .before .before .before .before .before in
-    let st = i .before in
+    let st = to .before .before .before .before .before .before in
     let d = st .args .t1 in
     let e = st .args .e in
     let q = st .args .q in
     let z = sizes d _ (st .good .0) in
     let w = st .pre .0 in
-    let ix = i .index-of .result in
-    let x = i .index-of .ensures in
+    let ix = st .args .t2 in
+    let x = st .pre .1 .1 in
     (next-in d w, (lit≤ tt, (rw (to .totals-of .ensures) (totals-small d z (sound-fits d w) ix x), record { cells = lit≤ tt; cycles = lit≤ tt; steps = lit≤ tt; bends = lit≤ tt }, record { cells = lit≤ tt; cycles = lit≤ tt; steps = lit≤ tt; bends = omega arith })))
 
 refused-requires-2 : tie.Need-refused-requires-2
@@ -107,16 +98,15 @@ returns-2 c =
     let wd = l .before in
     let fd = wd .before in
     let to = fd .before .before .before .before in
-    let i = to .before .before .before .before .before .before in
-    let st = i .before in
+    let st = to .before .before .before .before .before .before in
     let d = st .args .t1 in
     let e = st .args .e in
     let q = st .args .q in
     let z = sizes d _ (st .good .0) in
     let w = st .pre .0 in
-    let ix = i .index-of .result in
-    let x = i .index-of .ensures in
-    answers-no d (sound-fits d w) (cutEdge e q) (ln .late-no .result) _ (c .refused2 .ensures) (refuses d z w e q (st .pre .1) ix x (fd .find .result) (fd .find .ensures) (wd .wide .result) (wd .wide .ensures) (l .if1 .left) (to .totals-of .result) (to .totals-of .ensures) (ln .late-no .result) (ln .late-no .ensures) (c .before .if2 .taken))
+    let ix = st .args .t2 in
+    let x = st .pre .1 .1 in
+    answers-no d (sound-fits d w) (cutEdge e q) (ln .late-no .result) _ (c .refused2 .ensures) (refuses d z w e q (st .pre .1 .0) ix x (fd .find .result) (fd .find .ensures) (wd .wide .result) (wd .wide .ensures) (l .if1 .left) (to .totals-of .result) (to .totals-of .ensures) (ln .late-no .result) (ln .late-no .ensures) (c .before .if2 .taken))
 
 slice-aggregate-bend-start : tie.Need-slice-aggregate-bend-start
 slice-aggregate-bend-start c = search needs
@@ -127,16 +117,15 @@ bend-start-requires c κs =
     let wd = ln .before .before in
     let fd = wd .before in
     let to = fd .before .before .before .before in
-    let i = to .before .before .before .before .before .before in
-    let st = i .before in
+    let st = to .before .before .before .before .before .before in
     let d = st .args .t1 in
     let e = st .args .e in
     let q = st .args .q in
     let z = sizes d _ (st .good .0) in
     let w = st .pre .0 in
-    let ix = i .index-of .result in
-    let x = i .index-of .ensures in
-    base-asks d z w ix x e (fd .find .result) (fd .find .ensures) (closed-live d z w e q (st .pre .1))
+    let ix = st .args .t2 in
+    let x = st .pre .1 .1 in
+    base-asks d z w ix x e (fd .find .result) (fd .find .ensures) (closed-live d z w e q (st .pre .1 .0))
 
 make-loop-requires : tie.Need-make-loop-requires
 make-loop-requires c κs =
@@ -146,16 +135,15 @@ make-loop-requires c κs =
     let wd = l .before in
     let fd = wd .before in
     let to = fd .before .before .before .before in
-    let i = to .before .before .before .before .before .before in
-    let st = i .before in
+    let st = to .before .before .before .before .before .before in
     let d = st .args .t1 in
     let e = st .args .e in
     let q = st .args .q in
     let z = sizes d _ (st .good .0) in
     let w = st .pre .0 in
-    let ix = i .index-of .result in
-    let x = i .index-of .ensures in
-    (closed-cuts d z w e q (st .pre .1) ix x (fd .find .result) (fd .find .ensures) (wd .wide .result) (wd .wide .ensures) (l .if1 .left) (to .totals-of .result) (to .totals-of .ensures) (ln .late-no .result) (ln .late-no .ensures) (l2 .if2 .left) (c .bend-start .result) (c .bend-start .ensures), st .pre .1)
+    let ix = st .args .t2 in
+    let x = st .pre .1 .1 in
+    (closed-cuts d z w e q (st .pre .1 .0) ix x (fd .find .result) (fd .find .ensures) (wd .wide .result) (wd .wide .ensures) (l .if1 .left) (to .totals-of .result) (to .totals-of .ensures) (ln .late-no .result) (ln .late-no .ensures) (l2 .if2 .left) (c .bend-start .result) (c .bend-start .ensures), st .pre .1 .0)
 
 done-requires : tie.Need-done-requires
 done-requires c κs =
@@ -165,17 +153,16 @@ done-requires c κs =
     let wd = l .before in
     let fd = wd .before in
     let to = fd .before .before .before .before in
-    let i = to .before .before .before .before .before .before in
-    let st = i .before in
+    let st = to .before .before .before .before .before .before in
     let d = st .args .t1 in
     let e = st .args .e in
     let q = st .args .q in
     let z = sizes d _ (st .good .0) in
     let w = st .pre .0 in
-    let ix = i .index-of .result in
-    let x = i .index-of .ensures in
-    let y = passes d z w e q (st .pre .1) ix x (fd .find .result) (fd .find .ensures) (wd .wide .result) (wd .wide .ensures) (l .if1 .left) (to .totals-of .result) (to .totals-of .ensures) (ln .late-no .result) (ln .late-no .ensures) (l2 .if2 .left) in
-    counts d (cutEdge e q) (sound-in d w) (passed d z w e q (st .pre .1) ix x (fd .find .result) (fd .find .ensures) (wd .wide .result) (wd .wide .ensures) (l .if1 .left)) (y .0) (y .1) z (sound-fits d w) (c .make-loop .result) (sizes (c .make-loop .result) _ (c .make-loop .ok)) (c .make-loop .ensures .1) (c .make-loop .ensures .0)
+    let ix = st .args .t2 in
+    let x = st .pre .1 .1 in
+    let y = passes d z w e q (st .pre .1 .0) ix x (fd .find .result) (fd .find .ensures) (wd .wide .result) (wd .wide .ensures) (l .if1 .left) (to .totals-of .result) (to .totals-of .ensures) (ln .late-no .result) (ln .late-no .ensures) (l2 .if2 .left) in
+    counts d (cutEdge e q) (sound-in d w) (passed d z w e q (st .pre .1 .0) ix x (fd .find .result) (fd .find .ensures) (wd .wide .result) (wd .wide .ensures) (l .if1 .left)) (y .0) (y .1) z (sound-fits d w) (c .make-loop .result) (sizes (c .make-loop .result) _ (c .make-loop .ok)) (c .make-loop .ensures .1) (c .make-loop .ensures .0)
 
 returns-3 : tie.Need-returns-3
 returns-3 c =
@@ -186,23 +173,21 @@ returns-3 c =
     let wd = l .before in
     let fd = wd .before in
     let to = fd .before .before .before .before in
-    let i = to .before .before .before .before .before .before in
-    let st = i .before in
+    let st = to .before .before .before .before .before .before in
     let d = st .args .t1 in
     let e = st .args .e in
     let q = st .args .q in
     let z = sizes d _ (st .good .0) in
     let w = st .pre .0 in
-    let ix = i .index-of .result in
-    let x = i .index-of .ensures in
-    let y = passes d z w e q (st .pre .1) ix x (fd .find .result) (fd .find .ensures) (wd .wide .result) (wd .wide .ensures) (l .if1 .left) (to .totals-of .result) (to .totals-of .ensures) (ln .late-no .result) (ln .late-no .ensures) (l2 .if2 .left) in
-    answers-done d (cutEdge e q) (sound-in d w) (passed d z w e q (st .pre .1) ix x (fd .find .result) (fd .find .ensures) (wd .wide .result) (wd .wide .ensures) (l .if1 .left)) (y .0) (y .1) z (sound-fits d w) (ml .make-loop .result) (sizes (ml .make-loop .result) _ (ml .make-loop .ok)) (ml .make-loop .ensures .1) (ml .make-loop .ensures .0) _ (c .done .ensures)
+    let ix = st .args .t2 in
+    let x = st .pre .1 .1 in
+    let y = passes d z w e q (st .pre .1 .0) ix x (fd .find .result) (fd .find .ensures) (wd .wide .result) (wd .wide .ensures) (l .if1 .left) (to .totals-of .result) (to .totals-of .ensures) (ln .late-no .result) (ln .late-no .ensures) (l2 .if2 .left) in
+    answers-done d (cutEdge e q) (sound-in d w) (passed d z w e q (st .pre .1 .0) ix x (fd .find .result) (fd .find .ensures) (wd .wide .result) (wd .wide .ensures) (l .if1 .left)) (y .0) (y .1) z (sound-fits d w) (ml .make-loop .result) (sizes (ml .make-loop .result) _ (ml .make-loop .ok)) (ml .make-loop .ensures .1) (ml .make-loop .ensures .0) _ (c .done .ensures)
 
 pub cut-closed-spec : {M : Type 1} → statement M
 cut-closed-spec =
     tie.close
     (tie.spec
-    index-of-requires
     totals-of-requires
     find-requires
     mul-wide

@@ -45,7 +45,7 @@ cut-open-requires c κs =
     let e = st .args .e in
     let k = looks d (sizes d _ (st .good .0)) (i .index-of .result) (i .index-of .ensures) (st .pre) in
     let u = v .value-at .ensures in
-    (st .pre, sym (open-at k e) ∙ eq-eqb _ 1 (sym u ∙ c .before .if1 .taken))
+    (st .pre, (sym (open-at k e) ∙ eq-eqb _ 1 (sym u ∙ c .before .if1 .taken), i .index-of .ensures))
 
 returns : tie.Need-returns
 returns c =
@@ -65,7 +65,7 @@ cut-closed-requires c κs =
     let e = st .args .e in
     let k = looks d (sizes d _ (st .good .0)) (i .index-of .result) (i .index-of .ensures) (st .pre) in
     let u = v .value-at .ensures in
-    (st .pre, sym (closed-at k e) ∙ eq-eqb _ 2 (sym u ∙ c .before .if2 .taken))
+    (st .pre, (sym (closed-at k e) ∙ eq-eqb _ 2 (sym u ∙ c .before .if2 .taken), i .index-of .ensures))
 
 returns-2 : tie.Need-returns-2
 returns-2 c =

@@ -12,58 +12,51 @@ use Rattle.cut.proofs.OpenAnswer.{open-live, counted-in, ends-found, no
 use Rattle.cut.proofs.cut_open.Statement.{statement}
 use Rattle.cut.proofs.cut_open.Tie as tie
 
-index-of-requires : tie.Need-index-of-requires
-index-of-requires c κs = sound-fits (c .args .t1) (c .pre .0) .cells
-
 totals-of-requires : tie.Need-totals-of-requires
 totals-of-requires c κs =
-    let i = c .before .before .before .before .before in
-    let st = i .before in
+    let st = c .before .before .before .before .before in
     let d = st .args .t1 in
-    summed d (sizes d _ (st .good .0)) (sound-fits d (st .pre .0)) (i .index-of .result) (i .index-of .ensures)
+    summed d (sizes d _ (st .good .0)) (sound-fits d (st .pre .0)) (st .args .t2) (st .pre .1 .1)
 
 find-requires : tie.Need-find-requires
 find-requires c κs =
     let to = c .before .before .before in
-    let i = to .before .before .before .before .before .before in
-    let st = i .before in
+    let st = to .before .before .before .before .before .before in
     let d = st .args .t1 in
-    find-asks d (sizes d _ (st .good .0)) (st .pre .0) (i .index-of .result) (i .index-of .ensures)
+    find-asks d (sizes d _ (st .good .0)) (st .pre .0) (st .args .t2) (st .pre .1 .1)
 
 mul-wide : tie.Need-mul-wide
 mul-wide c =
     let fd = c in
     let to = fd .before .before .before .before in
-    let i = to .before .before .before .before .before .before in
-    let st = i .before in
+    let st = to .before .before .before .before .before .before in
     let d = st .args .t1 in
     let e = st .args .e in
     let q = st .args .q in
     let z = sizes d _ (st .good .0) in
     let w = st .pre .0 in
-    let ix = i .index-of .result in
-    let x = i .index-of .ensures in
+    let ix = st .args .t2 in
+    let x = st .pre .1 .1 in
     let t = to .totals-of .result in
     let et = to .totals-of .ensures in
-    let live = open-live d z w ix x t et e q (st .pre .1) in
+    let live = open-live d z w ix x t et e q (st .pre .1 .0) in
     omega (arith, row-below d z w ix x e (fd .find .result) (fd .find .ensures) live)
 
 array-read-wide : tie.Need-array-read-wide
 array-read-wide c =
     let fd = c in
     let to = fd .before .before .before .before in
-    let i = to .before .before .before .before .before .before in
-    let st = i .before in
+    let st = to .before .before .before .before .before .before in
     let d = st .args .t1 in
     let e = st .args .e in
     let q = st .args .q in
     let z = sizes d _ (st .good .0) in
     let w = st .pre .0 in
-    let ix = i .index-of .result in
-    let x = i .index-of .ensures in
+    let ix = st .args .t2 in
+    let x = st .pre .1 .1 in
     let t = to .totals-of .result in
     let et = to .totals-of .ensures in
-    let live = open-live d z w ix x t et e q (st .pre .1) in
+    let live = open-live d z w ix x t et e q (st .pre .1 .0) in
     row-below d z w ix x e (fd .find .result) (fd .find .ensures) live
 
 wide-requires : tie.Need-wide-requires
@@ -80,19 +73,18 @@ returns c =
     let wd = c .before .before in
     let fd = wd .before in
     let to = fd .before .before .before .before in
-    let i = to .before .before .before .before .before .before in
-    let st = i .before in
+    let st = to .before .before .before .before .before .before in
     let d = st .args .t1 in
     let e = st .args .e in
     let q = st .args .q in
     let z = sizes d _ (st .good .0) in
     let w = st .pre .0 in
-    let ix = i .index-of .result in
-    let x = i .index-of .ensures in
+    let ix = st .args .t2 in
+    let x = st .pre .1 .1 in
     let t = to .totals-of .result in
     let et = to .totals-of .ensures in
-    let live = open-live d z w ix x t et e q (st .pre .1) in
-    answers-no d (sound-fits d w) (cutEdge e q) 5 _ (c .refused .ensures) (no-place d z w ix x t et e q (st .pre .1) (fd .find .result) (fd .find .ensures) (wd .wide .result) (wd .wide .ensures) (c .before .if1 .taken))
+    let live = open-live d z w ix x t et e q (st .pre .1 .0) in
+    answers-no d (sound-fits d w) (cutEdge e q) 5 _ (c .refused .ensures) (no-place d z w ix x t et e q (st .pre .1 .0) (fd .find .result) (fd .find .ensures) (wd .wide .result) (wd .wide .ensures) (c .before .if1 .taken))
 
 open-late-requires : tie.Need-open-late-requires
 open-late-requires c κs =
@@ -100,18 +92,17 @@ open-late-requires c κs =
     let wd = l .before in
     let fd = wd .before in
     let to = fd .before .before .before .before in
-    let i = to .before .before .before .before .before .before in
-    let st = i .before in
+    let st = to .before .before .before .before .before .before in
     let d = st .args .t1 in
     let e = st .args .e in
     let q = st .args .q in
     let z = sizes d _ (st .good .0) in
     let w = st .pre .0 in
-    let ix = i .index-of .result in
-    let x = i .index-of .ensures in
+    let ix = st .args .t2 in
+    let x = st .pre .1 .1 in
     let t = to .totals-of .result in
     let et = to .totals-of .ensures in
-    let live = open-live d z w ix x t et e q (st .pre .1) in
+    let live = open-live d z w ix x t et e q (st .pre .1 .0) in
     counted-in d z w ix x t et
 
 refused-requires-2 : tie.Need-refused-requires-2
@@ -124,19 +115,18 @@ returns-2 c =
     let wd = l .before in
     let fd = wd .before in
     let to = fd .before .before .before .before in
-    let i = to .before .before .before .before .before .before in
-    let st = i .before in
+    let st = to .before .before .before .before .before .before in
     let d = st .args .t1 in
     let e = st .args .e in
     let q = st .args .q in
     let z = sizes d _ (st .good .0) in
     let w = st .pre .0 in
-    let ix = i .index-of .result in
-    let x = i .index-of .ensures in
+    let ix = st .args .t2 in
+    let x = st .pre .1 .1 in
     let t = to .totals-of .result in
     let et = to .totals-of .ensures in
-    let live = open-live d z w ix x t et e q (st .pre .1) in
-    answers-no d (sound-fits d w) (cutEdge e q) (ln .open-late .result) _ (c .refused2 .ensures) (refuses d z w ix x t et e q (st .pre .1) (fd .find .result) (fd .find .ensures) (wd .wide .result) (wd .wide .ensures) (l .if1 .left) (ln .open-late .result) (ln .open-late .ensures) (c .before .if2 .taken))
+    let live = open-live d z w ix x t et e q (st .pre .1 .0) in
+    answers-no d (sound-fits d w) (cutEdge e q) (ln .open-late .result) _ (c .refused2 .ensures) (refuses d z w ix x t et e q (st .pre .1 .0) (fd .find .result) (fd .find .ensures) (wd .wide .result) (wd .wide .ensures) (l .if1 .left) (ln .open-late .result) (ln .open-late .ensures) (c .before .if2 .taken))
 
 slice-aggregate-bend-start : tie.Need-slice-aggregate-bend-start
 slice-aggregate-bend-start c = search needs
@@ -148,18 +138,17 @@ bend-start-requires c κs =
     let wd = l .before in
     let fd = wd .before in
     let to = fd .before .before .before .before in
-    let i = to .before .before .before .before .before .before in
-    let st = i .before in
+    let st = to .before .before .before .before .before .before in
     let d = st .args .t1 in
     let e = st .args .e in
     let q = st .args .q in
     let z = sizes d _ (st .good .0) in
     let w = st .pre .0 in
-    let ix = i .index-of .result in
-    let x = i .index-of .ensures in
+    let ix = st .args .t2 in
+    let x = st .pre .1 .1 in
     let t = to .totals-of .result in
     let et = to .totals-of .ensures in
-    let live = open-live d z w ix x t et e q (st .pre .1) in
+    let live = open-live d z w ix x t et e q (st .pre .1 .0) in
     base-asks d z w ix x e (fd .find .result) (fd .find .ensures) live
 
 mul-s : tie.Need-mul-s
@@ -169,18 +158,17 @@ mul-s c =
     let wd = l .before in
     let fd = wd .before in
     let to = fd .before .before .before .before in
-    let i = to .before .before .before .before .before .before in
-    let st = i .before in
+    let st = to .before .before .before .before .before .before in
     let d = st .args .t1 in
     let e = st .args .e in
     let q = st .args .q in
     let z = sizes d _ (st .good .0) in
     let w = st .pre .0 in
-    let ix = i .index-of .result in
-    let x = i .index-of .ensures in
+    let ix = st .args .t2 in
+    let x = st .pre .1 .1 in
     let t = to .totals-of .result in
     let et = to .totals-of .ensures in
-    let live = open-live d z w ix x t et e q (st .pre .1) in
+    let live = open-live d z w ix x t et e q (st .pre .1 .0) in
     omega (arith, row-below d z w ix x e (fd .find .result) (fd .find .ensures) live)
 
 array-read-s : tie.Need-array-read-s
@@ -190,18 +178,17 @@ array-read-s c =
     let wd = l .before in
     let fd = wd .before in
     let to = fd .before .before .before .before in
-    let i = to .before .before .before .before .before .before in
-    let st = i .before in
+    let st = to .before .before .before .before .before .before in
     let d = st .args .t1 in
     let e = st .args .e in
     let q = st .args .q in
     let z = sizes d _ (st .good .0) in
     let w = st .pre .0 in
-    let ix = i .index-of .result in
-    let x = i .index-of .ensures in
+    let ix = st .args .t2 in
+    let x = st .pre .1 .1 in
     let t = to .totals-of .result in
     let et = to .totals-of .ensures in
-    let live = open-live d z w ix x t et e q (st .pre .1) in
+    let live = open-live d z w ix x t et e q (st .pre .1 .0) in
     row-below d z w ix x e (fd .find .result) (fd .find .ensures) live
 
 mul-f : tie.Need-mul-f
@@ -211,18 +198,17 @@ mul-f c =
     let wd = l .before in
     let fd = wd .before in
     let to = fd .before .before .before .before in
-    let i = to .before .before .before .before .before .before in
-    let st = i .before in
+    let st = to .before .before .before .before .before .before in
     let d = st .args .t1 in
     let e = st .args .e in
     let q = st .args .q in
     let z = sizes d _ (st .good .0) in
     let w = st .pre .0 in
-    let ix = i .index-of .result in
-    let x = i .index-of .ensures in
+    let ix = st .args .t2 in
+    let x = st .pre .1 .1 in
     let t = to .totals-of .result in
     let et = to .totals-of .ensures in
-    let live = open-live d z w ix x t et e q (st .pre .1) in
+    let live = open-live d z w ix x t et e q (st .pre .1 .0) in
     omega (arith, row-below d z w ix x e (fd .find .result) (fd .find .ensures) live)
 
 array-read-f : tie.Need-array-read-f
@@ -232,22 +218,21 @@ array-read-f c =
     let wd = l .before in
     let fd = wd .before in
     let to = fd .before .before .before .before in
-    let i = to .before .before .before .before .before .before in
-    let st = i .before in
+    let st = to .before .before .before .before .before .before in
     let d = st .args .t1 in
     let e = st .args .e in
     let q = st .args .q in
     let z = sizes d _ (st .good .0) in
     let w = st .pre .0 in
-    let ix = i .index-of .result in
-    let x = i .index-of .ensures in
+    let ix = st .args .t2 in
+    let x = st .pre .1 .1 in
     let t = to .totals-of .result in
     let et = to .totals-of .ensures in
-    let live = open-live d z w ix x t et e q (st .pre .1) in
+    let live = open-live d z w ix x t et e q (st .pre .1 .0) in
     row-below d z w ix x e (fd .find .result) (fd .find .ensures) live
 
-cut-parts-requires : tie.Need-cut-parts-requires
-cut-parts-requires c κs =
+make-parts-requires : tie.Need-make-parts-requires
+make-parts-requires c κs =
     let bs = c .before .before .before in
     let l2 = bs .before .before in
     let ln = l2 .before in
@@ -255,19 +240,18 @@ cut-parts-requires c κs =
     let wd = l .before in
     let fd = wd .before in
     let to = fd .before .before .before .before in
-    let i = to .before .before .before .before .before .before in
-    let st = i .before in
+    let st = to .before .before .before .before .before .before in
     let d = st .args .t1 in
     let e = st .args .e in
     let q = st .args .q in
     let z = sizes d _ (st .good .0) in
     let w = st .pre .0 in
-    let ix = i .index-of .result in
-    let x = i .index-of .ensures in
+    let ix = st .args .t2 in
+    let x = st .pre .1 .1 in
     let t = to .totals-of .result in
     let et = to .totals-of .ensures in
-    let live = open-live d z w ix x t et e q (st .pre .1) in
-    (open-cuts d z w ix x t et e q (st .pre .1) (fd .find .result) (fd .find .ensures) (wd .wide .result) (wd .wide .ensures) (l .if1 .left) (ln .open-late .result) (ln .open-late .ensures) (l2 .if2 .left) (bs .bend-start .result) (bs .bend-start .ensures), (ends-found d z w ix x t et e q (st .pre .1) (fd .find .result) (fd .find .ensures) (wd .wide .result) (wd .wide .ensures) _ _ refl refl, (x .sizes .0, x .ids ∙ ids-same d z (sound-fits d w))))
+    let live = open-live d z w ix x t et e q (st .pre .1 .0) in
+    (open-cuts d z w ix x t et e q (st .pre .1 .0) (fd .find .result) (fd .find .ensures) (wd .wide .result) (wd .wide .ensures) (l .if1 .left) (ln .open-late .result) (ln .open-late .ensures) (l2 .if2 .left) (bs .bend-start .result) (bs .bend-start .ensures), (ends-found d z w ix x t et e q (st .pre .1 .0) (fd .find .result) (fd .find .ensures) (wd .wide .result) (wd .wide .ensures) _ _ refl refl, (x .sizes .0, x .ids ∙ ids-same d z (sound-fits d w))))
 
 done-requires : tie.Need-done-requires
 done-requires c κs =
@@ -278,20 +262,19 @@ done-requires c κs =
     let wd = l .before in
     let fd = wd .before in
     let to = fd .before .before .before .before in
-    let i = to .before .before .before .before .before .before in
-    let st = i .before in
+    let st = to .before .before .before .before .before .before in
     let d = st .args .t1 in
     let e = st .args .e in
     let q = st .args .q in
     let z = sizes d _ (st .good .0) in
     let w = st .pre .0 in
-    let ix = i .index-of .result in
-    let x = i .index-of .ensures in
+    let ix = st .args .t2 in
+    let x = st .pre .1 .1 in
     let t = to .totals-of .result in
     let et = to .totals-of .ensures in
-    let live = open-live d z w ix x t et e q (st .pre .1) in
-    let y = passes d z w ix x t et e q (st .pre .1) (fd .find .result) (fd .find .ensures) (wd .wide .result) (wd .wide .ensures) (l .if1 .left) (ln .open-late .result) (ln .open-late .ensures) (l2 .if2 .left) in
-    counts d (cutEdge e q) (sound-in d w) (passed d z w ix x t et e q (st .pre .1) (fd .find .result) (fd .find .ensures) (wd .wide .result) (wd .wide .ensures) (l .if1 .left)) (y .0) (y .1) z (sound-fits d w) (cp .cut-parts .result) (sizes (cp .cut-parts .result) _ (cp .cut-parts .ok)) (cp .cut-parts .ensures .1) (cp .cut-parts .ensures .0)
+    let live = open-live d z w ix x t et e q (st .pre .1 .0) in
+    let y = passes d z w ix x t et e q (st .pre .1 .0) (fd .find .result) (fd .find .ensures) (wd .wide .result) (wd .wide .ensures) (l .if1 .left) (ln .open-late .result) (ln .open-late .ensures) (l2 .if2 .left) in
+    counts d (cutEdge e q) (sound-in d w) (passed d z w ix x t et e q (st .pre .1 .0) (fd .find .result) (fd .find .ensures) (wd .wide .result) (wd .wide .ensures) (l .if1 .left)) (y .0) (y .1) z (sound-fits d w) (cp .make-parts .result) (sizes (cp .make-parts .result) _ (cp .make-parts .ok)) (cp .make-parts .ensures .1) (cp .make-parts .ensures .0)
 
 returns-3 : tie.Need-returns-3
 returns-3 c =
@@ -302,26 +285,24 @@ returns-3 c =
     let wd = l .before in
     let fd = wd .before in
     let to = fd .before .before .before .before in
-    let i = to .before .before .before .before .before .before in
-    let st = i .before in
+    let st = to .before .before .before .before .before .before in
     let d = st .args .t1 in
     let e = st .args .e in
     let q = st .args .q in
     let z = sizes d _ (st .good .0) in
     let w = st .pre .0 in
-    let ix = i .index-of .result in
-    let x = i .index-of .ensures in
+    let ix = st .args .t2 in
+    let x = st .pre .1 .1 in
     let t = to .totals-of .result in
     let et = to .totals-of .ensures in
-    let live = open-live d z w ix x t et e q (st .pre .1) in
-    let y = passes d z w ix x t et e q (st .pre .1) (fd .find .result) (fd .find .ensures) (wd .wide .result) (wd .wide .ensures) (l .if1 .left) (ln .open-late .result) (ln .open-late .ensures) (l2 .if2 .left) in
-    answers-done d (cutEdge e q) (sound-in d w) (passed d z w ix x t et e q (st .pre .1) (fd .find .result) (fd .find .ensures) (wd .wide .result) (wd .wide .ensures) (l .if1 .left)) (y .0) (y .1) z (sound-fits d w) (cp .cut-parts .result) (sizes (cp .cut-parts .result) _ (cp .cut-parts .ok)) (cp .cut-parts .ensures .1) (cp .cut-parts .ensures .0) _ (c .done .ensures)
+    let live = open-live d z w ix x t et e q (st .pre .1 .0) in
+    let y = passes d z w ix x t et e q (st .pre .1 .0) (fd .find .result) (fd .find .ensures) (wd .wide .result) (wd .wide .ensures) (l .if1 .left) (ln .open-late .result) (ln .open-late .ensures) (l2 .if2 .left) in
+    answers-done d (cutEdge e q) (sound-in d w) (passed d z w ix x t et e q (st .pre .1 .0) (fd .find .result) (fd .find .ensures) (wd .wide .result) (wd .wide .ensures) (l .if1 .left)) (y .0) (y .1) z (sound-fits d w) (cp .make-parts .result) (sizes (cp .make-parts .result) _ (cp .make-parts .ok)) (cp .make-parts .ensures .1) (cp .make-parts .ensures .0) _ (c .done .ensures)
 
 pub cut-open-spec : {M : Type 1} → statement M
 cut-open-spec =
     tie.close
     (tie.spec
-    index-of-requires
     totals-of-requires
     find-requires
     mul-wide
@@ -339,6 +320,6 @@ cut-open-spec =
     array-read-s
     mul-f
     array-read-f
-    cut-parts-requires
+    make-parts-requires
     done-requires
     returns-3)

@@ -11,18 +11,6 @@ use Rattle.unglue.proofs.Found.{fresh-marks, links-ready, groups-found}
 use Rattle.unglue.proofs.group_ends.Statement.{statement}
 use Rattle.unglue.proofs.group_ends.Tie as tie
 
-cycle-total-requires : tie.Need-cycle-total-requires
-cycle-total-requires c κs =
-    let st = c .before .before in
-    let a = st .args in
-    let d = a .d in
-    let w = st .pre .0 in
-    let z = sizes d _ (st .good .0) in
-    let f = sound-fits d w in
-    let x = st .pre .1 .1 .0 in
-    let n = st .pre .1 .1 .1 in
-    f
-
 slice-aggregate-mark-ends : tie.Need-slice-aggregate-mark-ends
 slice-aggregate-mark-ends c = search needs
 
@@ -34,14 +22,14 @@ slice-aggregate-mark-ends-3 c = search needs
 
 mark-ends-requires : tie.Need-mark-ends-requires
 mark-ends-requires c κs =
-    let st = c .before .before .before .before .before .before .before .before .before .before in
+    let st = c .before .before .before .before .before .before .before .before .before in
     let a = st .args in
     let d = a .d in
     let w = st .pre .0 in
     let z = sizes d _ (st .good .0) in
     let f = sound-fits d w in
     let x = st .pre .1 .1 .0 in
-    let n = st .pre .1 .1 .1 in
+    let n = st .pre .1 .1 .1 .1 in
     let s = x .sizes in
     let h = f .cells in
     let u = n .marks in
@@ -49,6 +37,18 @@ mark-ends-requires c κs =
 
 slice-aggregate-find-links : tie.Need-slice-aggregate-find-links
 slice-aggregate-find-links c =
+    let st = c .before .before .before .before .before .before .before .before .before .before .before .before .before .before .before .before .before .before in
+    let a = st .args in
+    let d = a .d in
+    let w = st .pre .0 in
+    let z = sizes d _ (st .good .0) in
+    let f = sound-fits d w in
+    let x = st .pre .1 .1 .0 in
+    let n = st .pre .1 .1 .1 .1 in
+    sym (z .cycles)
+
+slice-aggregate-find-links-2 : tie.Need-slice-aggregate-find-links-2
+slice-aggregate-find-links-2 c =
     let st = c .before .before .before .before .before .before .before .before .before .before .before .before .before .before .before .before .before .before .before in
     let a = st .args in
     let d = a .d in
@@ -56,19 +56,7 @@ slice-aggregate-find-links c =
     let z = sizes d _ (st .good .0) in
     let f = sound-fits d w in
     let x = st .pre .1 .1 .0 in
-    let n = st .pre .1 .1 .1 in
-    sym (z .cycles)
-
-slice-aggregate-find-links-2 : tie.Need-slice-aggregate-find-links-2
-slice-aggregate-find-links-2 c =
-    let st = c .before .before .before .before .before .before .before .before .before .before .before .before .before .before .before .before .before .before .before .before in
-    let a = st .args in
-    let d = a .d in
-    let w = st .pre .0 in
-    let z = sizes d _ (st .good .0) in
-    let f = sound-fits d w in
-    let x = st .pre .1 .1 .0 in
-    let n = st .pre .1 .1 .1 in
+    let n = st .pre .1 .1 .1 .1 in
     sym (z .steps)
 
 slice-aggregate-find-links-3 : tie.Need-slice-aggregate-find-links-3
@@ -79,15 +67,15 @@ slice-aggregate-find-links-4 c = search needs
 
 find-links-requires : tie.Need-find-links-requires
 find-links-requires c κs =
-    let st = c .before .before .before .before .before .before .before .before .before .before .before .before .before .before .before .before .before .before .before .before .before .before in
+    let st = c .before .before .before .before .before .before .before .before .before .before .before .before .before .before .before .before .before .before .before .before .before in
     let a = st .args in
     let d = a .d in
     let w = st .pre .0 in
     let z = sizes d _ (st .good .0) in
     let f = sound-fits d w in
     let x = st .pre .1 .1 .0 in
-    let n = st .pre .1 .1 .1 in
-    let e = c .before .before .before .before .before .before .before .before .before .before .before .before .before .before .before .before .before .before .before .cycle-total .ensures in
+    let n = st .pre .1 .1 .1 .1 in
+    let e = st .pre .1 .1 .1 .0 in
     let k = ap (λ (m : ℕ). widthSum (take m (d .cycles))) e in
     let h = f .steps in
     (record { few = f .cells; size = x .sizes .0; rising = looks d z (a .ix) x w .rising }, (omega (arith, f .cycles, z .cycles), (omega (arith, z .steps), (omega arith, omega arith))))
@@ -100,17 +88,17 @@ slice-aggregate-find-groups-2 c = search needs
 
 find-groups-requires : tie.Need-find-groups-requires
 find-groups-requires c κs =
-    let st = c .before .before .before .before .before .before .before .before .before .before .before .before .before .before .before .before .before .before .before .before .before .before .before .before .before .before .before .before .before in
+    let st = c .before .before .before .before .before .before .before .before .before .before .before .before .before .before .before .before .before .before .before .before .before .before .before .before .before .before .before .before in
     let a = st .args in
     let d = a .d in
     let w = st .pre .0 in
     let z = sizes d _ (st .good .0) in
     let f = sound-fits d w in
     let x = st .pre .1 .1 .0 in
-    let n = st .pre .1 .1 .1 in
+    let n = st .pre .1 .1 .1 .1 in
     let me = c .before .before .before .before .before .before .before .before .before .before .before .before .before .before .before .before .before .before in
     let fl = c .before .before .before .before .before .before in
-    let e = c .before .before .before .before .before .before .before .before .before .before .before .before .before .before .before .before .before .before .before .before .before .before .before .before .before .before .cycle-total .ensures in
+    let e = st .pre .1 .1 .1 .0 in
     links-ready d z w (a .ix) x (a .v) _ (me .mark-ends .ensures) (st .pre .1 .0) (me .mark-ends .kept .1 .1 .1 .1 .1 .0 ∙ n .marks) _ e _ _ (fl .find-links .result) _ _ (fl .find-links .ensures) (a .groups .now) (n .numbers) (n .unnumbered)
 
 same-length : tie.Need-same-length
@@ -121,24 +109,23 @@ same-length-2 c = c .before .before .find-groups .kept .0
 
 returns : tie.Need-returns
 returns c =
-    let st = c .before .before .before .before .before .before .before .before .before .before .before .before .before .before .before .before .before .before .before .before .before .before .before .before .before .before .before .before .before .before .before .before in
+    let st = c .before .before .before .before .before .before .before .before .before .before .before .before .before .before .before .before .before .before .before .before .before .before .before .before .before .before .before .before .before .before .before in
     let a = st .args in
     let d = a .d in
     let w = st .pre .0 in
     let z = sizes d _ (st .good .0) in
     let f = sound-fits d w in
     let x = st .pre .1 .1 .0 in
-    let n = st .pre .1 .1 .1 in
+    let n = st .pre .1 .1 .1 .1 in
     let me = c .before .before .before .before .before .before .before .before .before .before .before .before .before .before .before .before .before .before .before .before .before in
     let fl = c .before .before .before .before .before .before .before .before .before in
-    let e = c .before .before .before .before .before .before .before .before .before .before .before .before .before .before .before .before .before .before .before .before .before .before .before .before .before .before .before .before .before .cycle-total .ensures in
+    let e = st .pre .1 .1 .1 .0 in
     groups-found d z w (a .ix) x (a .v) _ (me .mark-ends .ensures) (st .pre .1 .0) (me .mark-ends .kept .1 .1 .1 .1 .1 .0 ∙ n .marks) _ e _ _ (fl .find-links .result) _ _ (fl .find-links .ensures) (c .before .before .find-groups .result) _ (c .before .before .find-groups .ensures)
 
 pub group-ends-spec : {M : Type 1} → statement M
 group-ends-spec =
     tie.close
     (tie.spec
-    cycle-total-requires
     slice-aggregate-mark-ends
     slice-aggregate-mark-ends-2
     slice-aggregate-mark-ends-3

@@ -55,7 +55,7 @@ unglue-vertex-requires c κs =
     let i = st .args .i in
     let L = looks d (sizes d _ (st .good .0)) (x .index-of .result) (x .index-of .ensures) (st .pre) in
     let e = k .value-at .ensures in
-    (st .pre, truth (sym (vertex-at L i) ∙ eq-eqb _ 0 (sym e ∙ c .if1 .taken)))
+    (st .pre, (x .index-of .ensures, truth (sym (vertex-at L i) ∙ eq-eqb _ 0 (sym e ∙ c .if1 .taken))))
 
 returns : tie.Need-returns
 returns c = c .unglue-vertex .ensures
@@ -69,7 +69,7 @@ unglue-edge-requires c κs =
     let i = st .args .i in
     let L = looks d (sizes d _ (st .good .0)) (x .index-of .result) (x .index-of .ensures) (st .pre) in
     let e = k .value-at .ensures in
-    (st .pre, truth (sym (open-at L i) ∙ eq-eqb _ 1 (sym e ∙ c .if2 .taken)))
+    (st .pre, (x .index-of .ensures, truth (sym (open-at L i) ∙ eq-eqb _ 1 (sym e ∙ c .if2 .taken))))
 
 returns-2 : tie.Need-returns-2
 returns-2 c = c .unglue-edge .ensures
@@ -83,7 +83,7 @@ unglue-edge-requires-2 c κs =
     let i = st .args .i in
     let L = looks d (sizes d _ (st .good .0)) (x .index-of .result) (x .index-of .ensures) (st .pre) in
     let e = k .value-at .ensures in
-    (st .pre, truth (sym (closed-at L i) ∙ eq-eqb _ 2 (sym e ∙ c .if3 .taken)))
+    (st .pre, (x .index-of .ensures, truth (sym (closed-at L i) ∙ eq-eqb _ 2 (sym e ∙ c .if3 .taken))))
 
 returns-3 : tie.Need-returns-3
 returns-3 c = c .unglue-edge2 .ensures

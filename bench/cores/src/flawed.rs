@@ -1,0 +1,114 @@
+//! Cores with the flaws that document 01 hands in to try a check ("How the archive will try it").
+
+use std::time::Duration;
+
+use crate::{Call, Core, Line, Ordinary};
+
+#[derive(Clone, Copy, PartialEq, Eq, Debug)]
+pub enum Flaw {
+    /// Every command gets 6.
+    AlwaysSix,
+    /// Every command gets 0 and changes nothing.
+    KeepsAndSaysDone,
+    /// The first command is run rightly, the others are only answered.
+    OnlyTheFirst,
+    /// One answer for all.
+    FixedAnswer,
+    /// One more new id than there are.
+    InventedNew,
+    /// One more removed id than there are.
+    InventedRemoved,
+    /// Ceiling reached with places free.
+    FullTooEarly,
+}
+
+pub const FLAWS: [Flaw; 7] = [
+    Flaw::AlwaysSix,
+    Flaw::KeepsAndSaysDone,
+    Flaw::OnlyTheFirst,
+    Flaw::FixedAnswer,
+    Flaw::InventedNew,
+    Flaw::InventedRemoved,
+    Flaw::FullTooEarly,
+];
+
+pub struct Flawed {
+    core: Ordinary,
+    flaw: Flaw,
+    runs: u32,
+}
+
+impl Flawed {
+    pub fn new(flaw: Flaw) -> Flawed {
+        Flawed { core: Ordinary::new(), flaw, runs: 0 }
+    }
+
+    fn falsified(&mut self, right: Line, before: plain::Drawing) -> Line {
+        let cells = before.cells.len();
+        let mut line = right;
+        match self.flaw {
+            Flaw::AlwaysSix if right.number != 2 => {
+                line = Line { number: 6, first: 0, new: 0, removed: 0, rest: right.rest };
+                self.core.drawing = before;
+            }
+            Flaw::KeepsAndSaysDone if right.number != 2 => {
+                line.number = 0;
+                self.core.drawing = before;
+            }
+            Flaw::OnlyTheFirst if self.runs > 0 => self.core.drawing = before,
+            Flaw::FixedAnswer if right.number != 2 => {
+                line = Line { number: 0, first: 1, new: 1, removed: 0, rest: right.rest };
+            }
+            Flaw::InventedNew if right.number == 0 => line.new += 1,
+            Flaw::InventedRemoved if right.number == 0 => line.removed += 1,
+            Flaw::FullTooEarly if right.number == 0 && right.new > 0 && cells >= 250 => {
+                line = Line { number: 8, first: 0, new: 0, removed: 0, rest: right.rest };
+                self.core.drawing = before;
+            }
+            _ => {}
+        }
+        self.runs += 1;
+        line
+    }
+}
+
+impl Core for Flawed {
+    fn name(&self) -> &'static str {
+        "flawed"
+    }
+
+    fn open(&mut self, file: &[u8]) -> u32 {
+        self.core.open(file)
+    }
+
+    fn run(&mut self, script: &[u8]) -> Vec<Line> {
+        let (mut lines, mut left) = (Vec::new(), script);
+        while !left.is_empty() {
+            let before = self.core.drawing.clone();
+            let right = self.core.step(left);
+            let line = self.falsified(right, before);
+            lines.push(line);
+            if line.number == 2 {
+                break;
+            }
+            left = &left[left.len() - line.rest..];
+        }
+        lines
+    }
+
+    fn star(&mut self, id: u32, buffer: &mut [u32]) -> (u32, usize) {
+        self.core.star(id, buffer)
+    }
+
+    fn euler(&mut self) -> (u32, i64) {
+        self.core.euler()
+    }
+
+    fn file(&mut self, buffer: &mut [u8]) -> (u32, usize) {
+        self.core.file(buffer)
+    }
+
+    fn time(&mut self, call: Call, rounds: u32) -> Duration {
+        self.core.time(call, rounds)
+    }
+}

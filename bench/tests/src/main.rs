@@ -1,0 +1,87 @@
+//! `differ COMMANDS SEED VECTORS PROGRAMS`: the stored vectors, then random scripts of so many commands. VECTORS is the
+//! folder of the vectors, PROGRAMS the one of `plain-edit` and `plain-save`. Ends with `N passed, M failed`.
+
+use std::io;
+use std::path::Path;
+use std::process::ExitCode;
+
+use cores::Ordinary;
+use differ::campaign::Campaign;
+use differ::vectors;
+
+#[derive(Default)]
+struct Tally {
+    passed: usize,
+    failed: usize,
+}
+
+impl Tally {
+    fn count(&mut self, what: &str, name: &Path, result: Option<bool>) {
+        match result {
+            Some(true) => self.passed += 1,
+            Some(false) => {
+                self.failed += 1;
+                println!("{what} differs on {}", name.display());
+            }
+            None => {}
+        }
+    }
+}
+
+fn main() -> io::Result<ExitCode> {
+    let arguments: Vec<String> = std::env::args().collect();
+    let [_, commands, seed, folder, programs] = &arguments[..] else {
+        eprintln!("usage: differ COMMANDS SEED VECTORS PROGRAMS");
+        return Ok(ExitCode::from(2));
+    };
+    let (commands, seed) = (whole(commands)?, whole(seed)?);
+    let mut tally = try_vectors(Path::new(folder), Path::new(programs))?;
+    println!("vectors: {} passed, {} failed", tally.passed, tally.failed);
+    try_scripts(commands, seed, &mut tally);
+    println!("{} passed, {} failed", tally.passed, tally.failed);
+    Ok(if tally.failed == 0 { ExitCode::SUCCESS } else { ExitCode::FAILURE })
+}
+
+fn whole(text: &str) -> io::Result<u64> {
+    text.parse().map_err(|_| io::Error::new(io::ErrorKind::InvalidInput, format!("{text} is no number")))
+}
+
+fn try_vectors(folder: &Path, programs: &Path) -> io::Result<Tally> {
+    let mut tally = Tally::default();
+    for name in vectors::names(folder)? {
+        tally.count("plain-edit", &name, vectors::try_program(&programs.join("plain-edit"), &name, "expected")?);
+        tally.count("plain-save", &name, vectors::try_program(&programs.join("plain-save"), &name, "file")?);
+        tally.count("plain", &name, vectors::try_core(&mut Ordinary::new(), &name)?);
+        if let Some(mut other) = cores::other() {
+            tally.count(other.name(), &name, vectors::try_core(other.as_mut(), &name)?);
+        }
+    }
+    Ok(tally)
+}
+
+fn try_scripts(commands: u64, seed: u64, tally: &mut Tally) {
+    let mut other = cores::other();
+    let pair = other.as_ref().map(|other| other.name());
+    let mut campaign = match other.as_mut() {
+        Some(other) => Campaign::new(seed, Some(other.as_mut())),
+        None => Campaign::new(seed, None),
+    };
+    campaign.run(commands);
+    for failure in &campaign.failures {
+        println!("{failure}");
+    }
+    println!("\n{}", campaign.histogram);
+    let total = campaign.histogram.total();
+    match pair {
+        Some(name) => println!("{total} commands compared: plain and {name}, and plain under the laws (seed {seed})"),
+        None => {
+            println!("{total} commands run by plain under the laws (seed {seed}); no second core is linked, 0 compared")
+        }
+    }
+    tally.passed += campaign.passed;
+    tally.failed += campaign.failures.len();
+    if commands >= 100_000 && !campaign.histogram.complete() {
+        println!("some kind was never accepted, or some question never met");
+        tally.failed += 1;
+    }
+}

@@ -1,0 +1,263 @@
+//! A sheet of the boundary register, edited by the proved core.
+//!
+//! The core is proved to do what document 01 says, whatever the bytes. This crate lends it slices and turns its numbers
+//! into Rust's types; it has no dependencies.
+//!
+//! ```
+//! use dazolbei::{Done, Question, Sheet};
+//!
+//! // Vertex 1 at zero, open edge 2 from 1 to 1, face 3 whose cycle is edge 2.
+//! let mut script = vec![0x01];
+//! script.extend([0; 16]);
+//! script.extend([0x02, 0x01, 0x01, 0x00, 0x04, 0x01, 0x01, 0x04]);
+//!
+//! let mut sheet = Sheet::new();
+//! for line in sheet.run(&script)? {
+//!     let done = line.answer?;
+//!     println!("{} new, from id {}, {} removed", done.new, done.first, done.removed);
+//! }
+//! assert_eq!(sheet.euler(), 1);
+//! assert_eq!(sheet.star(1)?, [2, 3]);
+//!
+//! // Cut edge 2 halfway, uncut vertex 4; there is no cell 9 to delete, and 0F is no kind.
+//! let lines = sheet.run(&[0x0A, 0x02, 0x00, 0x0E, 0x04, 0x06, 0x09, 0x0F])?;
+//! assert_eq!(lines[0].answer, Ok(Done { first: 4, new: 3, removed: 1 }));
+//! assert_eq!(lines[1].answer, Ok(Done { first: 7, new: 1, removed: 3 }));
+//! assert_eq!(lines[2].answer, Err(Question::Live));
+//! assert_eq!(lines[3].answer, Err(Question::Whole));
+//! assert_eq!(lines[3].rest, 1);
+//!
+//! // A drawing has one file.
+//! let again = Sheet::open(sheet.save())?;
+//! assert_eq!(again, sheet);
+//! assert_eq!(Sheet::open(&[0x01]), Err(Question::File));
+//! # Ok::<(), Question>(())
+//! ```
+//!
+//! A call uses up to 2 MB of stack; the main thread has 8 MB, and a thread of Rust's 2 MB unless it asks for more.
+
+use std::error::Error;
+use std::fmt;
+
+/// The most bytes of a file.
+pub const FILE_MOST: usize = 65_536;
+
+/// The most ids of a star.
+pub const STAR_MOST: usize = 256;
+
+/// How many numbers the core tells of a command.
+const LINE_WIDTH: usize = 5;
+
+// Each pointer comes with the length of its slice. What is written overlaps nothing else that is lent.
+extern "C" {
+    fn dz_open(file: *const u8, file_length: usize) -> u32;
+    fn dz_star(
+        file: *const u8,
+        file_length: usize,
+        id: u32,
+        buffer: *mut u32,
+        buffer_length: usize,
+        count: *mut u32,
+    ) -> u32;
+    fn dz_euler(file: *const u8, file_length: usize, value: *mut i32) -> u32;
+    fn dz_run(
+        file: *const u8,
+        file_length: usize,
+        script: *const u8,
+        script_length: usize,
+        lines: *mut u32,
+        lines_length: usize,
+        out: *mut u8,
+        out_length: usize,
+        commands: *mut u32,
+        bytes: *mut u32,
+    ) -> u32;
+}
+
+/// The question of document 01 that got a no.
+#[derive(Clone, Copy, Debug, PartialEq, Eq, Hash)]
+#[repr(u32)]
+pub enum Question {
+    /// 1: is the drawing sound?
+    Sound = 1,
+    /// 2: do the bytes begin with a whole command, kind and every number well spelled?
+    Whole = 2,
+    /// 3: is every coordinate in bounds?
+    Bounds = 3,
+    /// 4: is every cell named live and of a kind the command takes?
+    Live = 4,
+    /// 5: is every count, place, flag, cycle and corner one that exists?
+    Exists = 5,
+    /// 6: do cycles join, and does the rule of the command hold?
+    Rule = 6,
+    /// 7: do the ids suffice?
+    Ids = 7,
+    /// 8: does the result keep the ceilings?
+    Ceilings = 8,
+    /// 9: is the lent buffer long enough?
+    Buffer = 9,
+    /// 10: are the bytes, all of them, a sound drawing's file?
+    File = 10,
+}
+
+impl Question {
+    const ALL: [Question; 10] = [
+        Question::Sound,
+        Question::Whole,
+        Question::Bounds,
+        Question::Live,
+        Question::Exists,
+        Question::Rule,
+        Question::Ids,
+        Question::Ceilings,
+        Question::Buffer,
+        Question::File,
+    ];
+
+    /// The question of a number; none of 0 and of those above 10.
+    pub fn from_number(number: u32) -> Option<Question> {
+        Question::ALL.into_iter().find(|question| question.number() == number)
+    }
+
+    /// The number in document 01.
+    pub fn number(self) -> u32 {
+        self as u32
+    }
+}
+
+impl fmt::Display for Question {
+    fn fmt(&self, f: &mut fmt::Formatter) -> fmt::Result {
+        let no = match self {
+            Question::Sound => "the drawing is not sound",
+            Question::Whole => "the bytes do not begin with a whole command",
+            Question::Bounds => "a coordinate is out of bounds",
+            Question::Live => "a cell is not live, or of a kind that the command does not take",
+            Question::Exists => "a count, place, flag, cycle or corner does not exist",
+            Question::Rule => "a cycle does not join, or the command's rule does not hold",
+            Question::Ids => "the ids do not suffice",
+            Question::Ceilings => "the result would pass a ceiling",
+            Question::Buffer => "the lent buffer is too short",
+            Question::File => "the bytes are no sound drawing's file",
+        };
+        write!(f, "{} ({no})", self.number())
+    }
+}
+
+impl Error for Question {}
+
+/// A number of the core as a result.
+fn asked(number: u32) -> Result<(), Question> {
+    match Question::from_number(number) {
+        None => Ok(()),
+        Some(question) => Err(question),
+    }
+}
+
+/// What a command did.
+#[derive(Clone, Copy, Debug, PartialEq, Eq, Hash)]
+pub struct Done {
+    /// The first new id, 0 if there is none.
+    pub first: u32,
+    /// How many ids are new.
+    pub new: u32,
+    /// How many ids are gone.
+    pub removed: u32,
+}
+
+/// A command of a script.
+#[derive(Clone, Copy, Debug, PartialEq, Eq, Hash)]
+pub struct Line {
+    /// What it did, or the question that it got a no to.
+    pub answer: Result<Done, Question>,
+    /// How many bytes of the script are left after it; all that it was handed at 2.
+    pub rest: usize,
+}
+
+impl Line {
+    fn new(numbers: &[u32]) -> Line {
+        let done = Done { first: numbers[1], new: numbers[2], removed: numbers[3] };
+        Line { answer: asked(numbers[0]).map(|()| done), rest: numbers[4] as usize }
+    }
+}
+
+/// A sound drawing.
+#[derive(Clone, Debug, PartialEq, Eq, Hash)]
+pub struct Sheet {
+    /// The drawing's file: one that was opened, or that a run gave.
+    file: Vec<u8>,
+}
+
+impl Sheet {
+    /// The empty drawing.
+    pub fn new() -> Sheet {
+        Sheet { file: vec![0x01, 0x00] }
+    }
+
+    /// The drawing of a file.
+    pub fn open(file: &[u8]) -> Result<Sheet, Question> {
+        // SAFETY: pointer and length of one slice.
+        asked(unsafe { dz_open(file.as_ptr(), file.len()) })?;
+        Ok(Sheet { file: file.to_vec() })
+    }
+
+    /// Runs the commands of a script, each on the drawing that the one before it gave, until no byte is left or one is not
+    /// read (2). A command that is refused leaves the drawing as it was, and the run goes on behind it.
+    ///
+    /// Refused as a whole, with the drawing as it was, is only a script of 4 GiB or more (9).
+    pub fn run(&mut self, script: &[u8]) -> Result<Vec<Line>, Question> {
+        // No command is shorter than a byte.
+        let mut lines = vec![0; LINE_WIDTH * script.len()];
+        let mut out = vec![0; FILE_MOST];
+        let (mut commands, mut bytes) = (0, 0);
+        // SAFETY: every pointer comes with the length of the slice that it is taken from, or points to one local.
+        let number = unsafe {
+            dz_run(
+                self.file.as_ptr(),
+                self.file.len(),
+                script.as_ptr(),
+                script.len(),
+                lines.as_mut_ptr(),
+                lines.len(),
+                out.as_mut_ptr(),
+                out.len(),
+                &mut commands,
+                &mut bytes,
+            )
+        };
+        asked(number)?;
+        self.file = out[..bytes as usize].to_vec();
+        Ok(lines.chunks_exact(LINE_WIDTH).take(commands as usize).map(Line::new).collect())
+    }
+
+    /// The ids, rising, of the cells whose boundary holds the cell.
+    pub fn star(&self, id: u32) -> Result<Vec<u32>, Question> {
+        let mut buffer = [0; STAR_MOST];
+        let mut count = 0;
+        // SAFETY: every pointer comes with the length of the slice that it is taken from, or points to one local.
+        let number =
+            unsafe { dz_star(self.file.as_ptr(), self.file.len(), id, buffer.as_mut_ptr(), buffer.len(), &mut count) };
+        asked(number)?;
+        Ok(buffer[..count as usize].to_vec())
+    }
+
+    /// The Euler number: vertices minus open edges plus 2 - k for each face of k cycles.
+    pub fn euler(&self) -> i32 {
+        let mut value = 0;
+        // SAFETY: pointer and length of one slice, and a local.
+        let number = unsafe { dz_euler(self.file.as_ptr(), self.file.len(), &mut value) };
+        // The only no is that the bytes are no file, and these are one.
+        assert_eq!(number, 0);
+        value
+    }
+
+    /// The drawing's file. A drawing has one file, so it is the one that was opened or that the last run gave.
+    pub fn save(&self) -> &[u8] {
+        &self.file
+    }
+}
+
+impl Default for Sheet {
+    fn default() -> Sheet {
+        Sheet::new()
+    }
+}

@@ -1,0 +1,90 @@
+//! The wrapper on document 01's sheets.
+
+use dazolbei::{Done, Line, Question, Sheet, FILE_MOST};
+
+/// A vertex at (x, y).
+fn vertex(x: f64, y: f64) -> Vec<u8> {
+    let mut command = vec![0x01];
+    command.extend(x.to_le_bytes());
+    command.extend(y.to_le_bytes());
+    command
+}
+
+fn done(first: u32, new: u32, removed: u32) -> Result<Done, Question> {
+    Ok(Done { first, new, removed })
+}
+
+#[test]
+fn worked_example() {
+    let mut script = vertex(0.0, 0.0);
+    script.extend([0x02, 0x01, 0x01, 0x00, 0x04, 0x01, 0x01, 0x04, 0x0A, 0x02, 0x00, 0x0E, 0x04]);
+    let mut sheet = Sheet::new();
+    let lines = sheet.run(&script).unwrap();
+    let answers: Vec<_> = lines.iter().map(|line| line.answer).collect();
+    assert_eq!(answers, [done(1, 1, 0), done(2, 1, 0), done(3, 1, 0), done(4, 3, 1), done(7, 1, 3)]);
+    let rests: Vec<_> = lines.iter().map(|line| line.rest).collect();
+    assert_eq!(rests, [13, 9, 5, 2, 0]);
+    assert_eq!(sheet.euler(), 1);
+    // next id 8, 3 cells
+    assert_eq!(sheet.save()[..2], [8, 3]);
+}
+
+#[test]
+fn files() {
+    assert_eq!(Sheet::new().save(), [0x01, 0x00]);
+    let mut sheet = Sheet::default();
+    sheet.run(&vertex(0.0, 0.0)).unwrap();
+    let mut file = vec![0x02, 0x01, 0x01, 0x00];
+    file.extend([0; 16]);
+    assert_eq!(sheet.save(), file);
+    assert_eq!(Sheet::open(&file), Ok(sheet));
+    for bad in [&[][..], &[0x01], &[0x01, 0x00, 0x00], &[0x00, 0x00], &[0x81, 0x00, 0x00], &file[..19]] {
+        assert_eq!(Sheet::open(bad), Err(Question::File), "{bad:?}");
+    }
+}
+
+#[test]
+fn refusals() {
+    let mut sheet = Sheet::new();
+    assert_eq!(sheet.run(&[]), Ok(vec![]));
+    let bounds = sheet.run(&vertex(1_048_577.0, 0.0)).unwrap();
+    assert_eq!(bounds, [Line { answer: Err(Question::Bounds), rest: 0 }]);
+    assert_eq!(sheet, Sheet::new());
+    assert_eq!(sheet.star(1), Err(Question::Live));
+    sheet.run(&vertex(1_048_576.0, -0.0)).unwrap();
+    assert_eq!(sheet.star(1), Ok(vec![]));
+    let answers = |sheet: &mut Sheet, script: &[u8]| -> Vec<Result<Done, Question>> {
+        sheet.run(script).unwrap().iter().map(|line| line.answer).collect()
+    };
+    assert_eq!(answers(&mut sheet, &[0x03, 0x00]), [Err(Question::Exists)]);
+    assert_eq!(answers(&mut sheet, &[0x07, 0x01, 0x01]), [Err(Question::Rule)]);
+    // a whole command, then one that is not read, and nothing behind it
+    assert_eq!(answers(&mut sheet, &[0x06, 0x07, 0x80, 0x06, 0x01]), [Err(Question::Live), Err(Question::Whole)]);
+    assert_eq!(answers(&mut sheet, &[0x06, 0x01]), [done(0, 0, 1)]);
+    // next id 65,536: no id is left
+    let mut last = Sheet::open(&[0x80, 0x80, 0x04, 0x00]).unwrap();
+    assert_eq!(answers(&mut last, &vertex(0.0, 0.0)), [Err(Question::Ids)]);
+}
+
+#[test]
+fn ceilings() {
+    let mut sheet = Sheet::new();
+    let lines = sheet.run(&vertex(1.0, 2.0).repeat(257)).unwrap();
+    assert_eq!(lines.len(), 257);
+    assert_eq!(lines[255].answer, done(256, 1, 0));
+    assert_eq!(lines[256].answer, Err(Question::Ceilings));
+    assert_eq!(sheet.euler(), 256);
+    assert!(sheet.save().len() <= FILE_MOST);
+    let again = sheet.run(&[&[0x06, 0x01][..], &vertex(0.0, 0.0)].concat()).unwrap();
+    assert_eq!(again[1].answer, done(257, 1, 0));
+}
+
+#[test]
+fn numbers() {
+    assert_eq!(Question::from_number(0), None);
+    assert_eq!(Question::from_number(11), None);
+    for number in 1..=10 {
+        assert_eq!(Question::from_number(number).unwrap().number(), number);
+    }
+    assert_eq!(Question::Ids.to_string(), "7 (the ids do not suffice)");
+}
