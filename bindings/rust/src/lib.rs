@@ -39,6 +39,8 @@
 use std::error::Error;
 use std::fmt;
 
+pub mod raw;
+
 /// The most bytes of a file.
 pub const FILE_MOST: usize = 65_536;
 
@@ -46,33 +48,7 @@ pub const FILE_MOST: usize = 65_536;
 pub const STAR_MOST: usize = 256;
 
 /// How many numbers the core tells of a command.
-const LINE_WIDTH: usize = 5;
-
-// Each pointer comes with the length of its slice. What is written overlaps nothing else that is lent.
-extern "C" {
-    fn dz_open(file: *const u8, file_length: usize) -> u32;
-    fn dz_star(
-        file: *const u8,
-        file_length: usize,
-        id: u32,
-        buffer: *mut u32,
-        buffer_length: usize,
-        count: *mut u32,
-    ) -> u32;
-    fn dz_euler(file: *const u8, file_length: usize, value: *mut i32) -> u32;
-    fn dz_run(
-        file: *const u8,
-        file_length: usize,
-        script: *const u8,
-        script_length: usize,
-        lines: *mut u32,
-        lines_length: usize,
-        out: *mut u8,
-        out_length: usize,
-        commands: *mut u32,
-        bytes: *mut u32,
-    ) -> u32;
-}
+pub const LINE_WIDTH: usize = 5;
 
 /// The question of document 01 that got a no.
 #[derive(Clone, Copy, Debug, PartialEq, Eq, Hash)]
@@ -195,8 +171,7 @@ impl Sheet {
 
     /// The drawing of a file.
     pub fn open(file: &[u8]) -> Result<Sheet, Question> {
-        // SAFETY: pointer and length of one slice.
-        asked(unsafe { dz_open(file.as_ptr(), file.len()) })?;
+        asked(raw::open(file))?;
         Ok(Sheet { file: file.to_vec() })
     }
 
@@ -208,43 +183,23 @@ impl Sheet {
         // No command is shorter than a byte.
         let mut lines = vec![0; LINE_WIDTH * script.len()];
         let mut out = vec![0; FILE_MOST];
-        let (mut commands, mut bytes) = (0, 0);
-        // SAFETY: every pointer comes with the length of the slice that it is taken from, or points to one local.
-        let number = unsafe {
-            dz_run(
-                self.file.as_ptr(),
-                self.file.len(),
-                script.as_ptr(),
-                script.len(),
-                lines.as_mut_ptr(),
-                lines.len(),
-                out.as_mut_ptr(),
-                out.len(),
-                &mut commands,
-                &mut bytes,
-            )
-        };
-        asked(number)?;
-        self.file = out[..bytes as usize].to_vec();
-        Ok(lines.chunks_exact(LINE_WIDTH).take(commands as usize).map(Line::new).collect())
+        let ran = raw::run(&self.file, script, &mut lines, &mut out);
+        asked(ran.number)?;
+        self.file = out[..ran.bytes].to_vec();
+        Ok(lines.chunks_exact(LINE_WIDTH).take(ran.commands).map(Line::new).collect())
     }
 
     /// The ids, rising, of the cells whose boundary holds the cell.
     pub fn star(&self, id: u32) -> Result<Vec<u32>, Question> {
         let mut buffer = [0; STAR_MOST];
-        let mut count = 0;
-        // SAFETY: every pointer comes with the length of the slice that it is taken from, or points to one local.
-        let number =
-            unsafe { dz_star(self.file.as_ptr(), self.file.len(), id, buffer.as_mut_ptr(), buffer.len(), &mut count) };
+        let (number, count) = raw::star(&self.file, id, &mut buffer);
         asked(number)?;
-        Ok(buffer[..count as usize].to_vec())
+        Ok(buffer[..count].to_vec())
     }
 
     /// The Euler number: vertices minus open edges plus 2 - k for each face of k cycles.
     pub fn euler(&self) -> i32 {
-        let mut value = 0;
-        // SAFETY: pointer and length of one slice, and a local.
-        let number = unsafe { dz_euler(self.file.as_ptr(), self.file.len(), &mut value) };
+        let (number, value) = raw::euler(&self.file);
         // The only no is that the bytes are no file, and these are one.
         assert_eq!(number, 0);
         value
