@@ -3,8 +3,15 @@ ghost use Prim.Native.Nat.{_+_, _<_, _≤_};
 ghost use lib.ListN.{take, length};
 ghost use Rattle.store.specs.View.{sheetOf, Fits};
 ghost use Rattle.complex.specs.Lists.{total};
-ghost use Rattle.store.specs.Edits.{Compacted, PlacesKept, CyclesKept, kept, placesOf, withEntries, withBends, withCells};
+ghost use Rattle.store.specs.Edits.{Compacted, PlacesKept, CyclesKept, kept, placesOf, withEntries, withBends};
+use store::Cell;
 use store::Drawing;
+
+// The cells that stay, and how many they are.
+struct Front {
+    cells: [Cell; 256],
+    count: usize,
+}
 
 // The numbers that are not flagged, moved to the front.
 fn compact(l: &mut [u32], flags: &[bool], n: usize)
@@ -44,28 +51,24 @@ fn keep_bends(d: Drawing, flags: &[bool], n: usize) -> Drawing
     out
 }
 
-// The cells that are not flagged, moved to the front.
-fn keep_cells(d: Drawing, dead: &[bool]) -> Drawing
-    requires { ⌜ d .count ≤ 256 ⌝ }
-    requires { ⌜ d .count ≤ length (now dead) ⌝ }
-    ensures { λ r. ⌜ r ≡ withCells d (d .next) (r .count) (r .cells) ⌝ }
-    ensures { λ r. ⌜ r .count ≤ d .count ⌝ }
-    ensures { λ r. ⌜ take (r .count) (r .cells) ≡ kept (take (d .count) (now (dead .entry))) (take (d .count) (d .cells)) ⌝ }
+// The first n cells that are not flagged, moved to the front, and how many they are.
+fn keep_cells(mut cells: [Cell; 256], n: usize, dead: &[bool]) -> Front
+    requires { ⌜ n ≤ 256 ⌝ }
+    requires { ⌜ n ≤ length (now dead) ⌝ }
+    ensures { λ r. ⌜ r .count ≤ n ⌝ }
+    ensures { λ r. ⌜ take (r .count) (r .cells) ≡ kept (take n (now (dead .entry))) (take n cells) ⌝ }
 {
-    let mut out = d;
-    let n = d.count;
     let mut i: usize = 0;
     let mut k: usize = 0;
     while i < n {
         if !dead[i] {
-            let c = out.cells[i];
-            out.cells[k] = c;
+            let c = cells[i];
+            cells[k] = c;
             k = k + 1;
         }
         i = i + 1;
     }
-    out.count = k;
-    out
+    Front { cells, count: k }
 }
 
 // The steps of the first n cycles that are not flagged, moved to the front.
@@ -81,39 +84,25 @@ fn keep_steps(flags: &[bool], cycles: &[u32], n: usize, steps: &mut [u32])
     compact(steps, &on, t);
 }
 
-// The bends of the cells that are not dead, moved to the front.
-fn drop_bends(d: Drawing, dead: &[bool], counts: &[u32]) -> Drawing
-    requires { ⌜ d .count ≤ length (now dead) ⌝ }
-    requires { ⌜ d .count ≤ length (now counts) ⌝ }
-    requires { ⌜ total (placesOf 0) (take (d .count) (now counts)) ≤ 2048 ⌝ }
-    ensures { λ r. ⌜ r ≡ withBends d (r .bends) ⌝ }
-    ensures { λ r. ⌜ PlacesKept 0 (take (d .count) (now (dead .entry))) (take (d .count) (now (counts .entry))) (d .bends) (r .bends) ⌝ }
+// The cycles of the first n cells that are not dead, and their steps, moved to the front.
+fn drop_cycles(
+    dead: &[bool; 256],
+    counts: &[u32; 256],
+    n: usize,
+    cycles: &mut [u32; 512],
+    steps: &mut [u32; 2048],
+)
+    requires { ⌜ n ≤ 256 ⌝ }
+    requires { ⌜ total (placesOf 0) (take n (now counts)) ≤ 512 ⌝ }
+    requires { ⌜ total (placesOf 1) (take (total (placesOf 0) (take n (now counts))) (now cycles)) ≤ 2048 ⌝ }
+    ensures { λ r. ⌜ CyclesKept (take n (now (dead .entry))) (take n (now (counts .entry))) (now (cycles .entry)) (now (steps .entry)) (now (cycles .exit)) (now (steps .exit)) ⌝ }
+    ensures { λ r. ⌜ length (now (cycles .exit)) ≡ 512 ⌝ }
+    ensures { λ r. ⌜ length (now (steps .exit)) ≡ 2048 ⌝ }
 {
-    let n = d.count;
-    let mut on = [false; 2048];
-    let t = store::spread_flags(dead, counts, n, 0, &mut on);
-    keep_bends(d, &on, t)
-}
-
-// The cycles of the cells that are not dead, and their steps, moved to the front.
-fn drop_cycles(d: Drawing, dead: &[bool], counts: &[u32]) -> Drawing
-    requires { ⌜ d .count ≤ length (now dead) ⌝ }
-    requires { ⌜ d .count ≤ length (now counts) ⌝ }
-    requires { ⌜ total (placesOf 0) (take (d .count) (now counts)) ≤ 512 ⌝ }
-    requires { ⌜ total (placesOf 1) (take (total (placesOf 0) (take (d .count) (now counts))) (d .cycles)) ≤ 2048 ⌝ }
-    ensures { λ r. ⌜ CyclesKept (take (d .count) (now (dead .entry))) (take (d .count) (now (counts .entry))) d r ⌝ }
-{
-    let n = d.count;
     let mut on = [false; 512];
     let t = store::spread_flags(dead, counts, n, 0, &mut on);
-    let mut cy = d.cycles;
-    let mut st = d.steps;
-    keep_steps(&on, &cy, t, &mut st);
-    compact(&mut cy, &on, t);
-    let mut out = d;
-    out.cycles = cy;
-    out.steps = st;
-    out
+    keep_steps(&on, cycles, t, steps);
+    compact(cycles, &on, t);
 }
 
 // The drawing without the cells that are marked dead, and without their places.
@@ -123,9 +112,19 @@ pub fn keep(d: Drawing, dead: [bool; 256]) -> Drawing
     ensures { λ r. ⌜ Fits r ⌝ }
 {
     let ix = store::index_of(d);
-    let bends = ix.bends;
-    let cycles = ix.cycles;
-    let one = drop_bends(d, &dead, &bends);
-    let two = drop_cycles(one, &dead, &cycles);
-    keep_cells(two, &dead)
+    let n = d.count;
+    let mut cycles = d.cycles;
+    let mut steps = d.steps;
+    drop_cycles(&dead, &ix.cycles, n, &mut cycles, &mut steps);
+    let mut on = [false; 2048];
+    let t = store::spread_flags(&dead, &ix.bends, n, 0, &mut on);
+    let cells = d.cells;
+    let front = keep_cells(cells, n, &dead);
+    let mut out = keep_bends(d, &on, t);
+    out.cycles = cycles;
+    out.steps = steps;
+    let moved = front.cells;
+    out.cells = moved;
+    out.count = front.count;
+    out
 }

@@ -57,11 +57,10 @@ pub record Compacted {A : Type 0} (flags : List Bool) (xs l : List A) : Type 0 w
 pub record PlacesKept {A : Type 0} (z : ℕ) (flags : List Bool) (counts : List ℕ) (l₀ l : List A) : Type 0 where
   pub packed : Compacted (spreadFlags z flags counts) (take (total (placesOf z) counts) l₀) l
 
--- r is d with the cycles and the steps of the cells that are not flagged
-pub record CyclesKept (flags : List Bool) (counts : List ℕ) (d r : Drawing) : Type 0 where
-  pub rest : r ≡ withSteps (withCycles d (r .cycles)) (r .steps)
-  pub cycles : PlacesKept 0 flags counts (d .cycles) (r .cycles)
-  pub steps : PlacesKept 1 (spreadFlags 0 flags counts) (take (total (placesOf 0) counts) (d .cycles)) (d .steps) (r .steps)
+-- of cycles and their steps, ks and st begin with those of the cells that are not flagged
+pub record CyclesKept (flags : List Bool) (counts ks₀ st₀ ks st : List ℕ) : Type 0 where
+  pub cycles : PlacesKept 0 flags counts ks₀ ks
+  pub steps : PlacesKept 1 (spreadFlags 0 flags counts) (take (total (placesOf 0) counts) ks₀) st₀ st
 
 -- f of each flag and its number
 abbrev pub zipped : (Bool → ℕ → ℕ) → List Bool → List ℕ → List ℕ

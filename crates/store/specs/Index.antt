@@ -31,15 +31,19 @@ endOf (Open s e n) = e
 endOf (Closed n) = 0
 endOf (Face k) = 0
 
--- the index r has the numbers of d's cells
-pub record Indexes (d : Drawing) (r : Index) : Type 0 where
+-- the index r has the numbers of the first n cells
+pub record CellRows (cells : List Cell) (n : ℕ) (r : Index) : Type 0 where
   pub sizes : (length (r .ids) ≡ 256) × (length (r .kinds) ≡ 256) × (length (r .starts) ≡ 256) × (length (r .ends) ≡ 256) × (length (r .bends) ≡ 256) × (length (r .cycles) ≡ 256)
-  pub ids : take (d .count) (r .ids) ≡ map (λ (c : Cell). c .id) (take (d .count) (d .cells))
-  pub kinds : take (d .count) (r .kinds) ≡ map (λ (c : Cell). kindOf (c .shape)) (take (d .count) (d .cells))
-  pub starts : take (d .count) (r .starts) ≡ map (λ (c : Cell). startOf (c .shape)) (take (d .count) (d .cells))
-  pub ends : take (d .count) (r .ends) ≡ map (λ (c : Cell). endOf (c .shape)) (take (d .count) (d .cells))
-  pub bends : take (d .count) (r .bends) ≡ map (λ (c : Cell). bendCount (c .shape)) (take (d .count) (d .cells))
-  pub cycles : take (d .count) (r .cycles) ≡ map (λ (c : Cell). cycleCount (c .shape)) (take (d .count) (d .cells))
+  pub ids : take n (r .ids) ≡ map (λ (c : Cell). c .id) (take n cells)
+  pub kinds : take n (r .kinds) ≡ map (λ (c : Cell). kindOf (c .shape)) (take n cells)
+  pub starts : take n (r .starts) ≡ map (λ (c : Cell). startOf (c .shape)) (take n cells)
+  pub ends : take n (r .ends) ≡ map (λ (c : Cell). endOf (c .shape)) (take n cells)
+  pub bends : take n (r .bends) ≡ map (λ (c : Cell). bendCount (c .shape)) (take n cells)
+  pub cycles : take n (r .cycles) ≡ map (λ (c : Cell). cycleCount (c .shape)) (take n cells)
+
+-- the index r has the numbers of d's cells
+abbrev pub Indexes : Drawing → Index → Type 0
+Indexes d r = CellRows (d .cells) (d .count) r
 
 -- ---- the row of an id
 -- the place of the first x in a list, or the list's length

@@ -3,8 +3,8 @@ ghost use Prim.Native.Nat.{_+_, _<_, _≤_};
 ghost use lib.ListN.{take, length, replicate};
 ghost use lib.Seq.{paste};
 ghost use Rattle.complex.specs.Lists.{total};
-ghost use Rattle.store.specs.View.{Fits, bendCount, cycleCount, bendTotal, cycleTotal};
-ghost use Rattle.store.specs.Index.{kindOf, startOf, endOf, Indexes, Rising, rowOf, valueAt};
+ghost use Rattle.store.specs.View.{Fits, bendCount, cycleCount, bendSum, cycleSum, bendTotal, cycleTotal};
+ghost use Rattle.store.specs.Index.{kindOf, startOf, endOf, CellRows, Indexes, Rising, rowOf, valueAt};
 ghost use Rattle.store.specs.Edits.{placesOf, spreadFlags};
 use coordinate::Position;
 
@@ -55,22 +55,31 @@ pub fn wide(x: u32) -> usize
     x as usize
 }
 
-// The places of `bends` that are in use.
-pub fn bend_total(d: Drawing) -> usize
-    requires { ⌜ Fits d ⌝ }
-    ensures { λ r. ⌜ r ≡ bendTotal d ⌝ }
+// The bends of the first n cells.
+fn bend_sum(cells: [Cell; 256], n: usize) -> usize
+    requires { ⌜ n ≤ 256 ⌝ }
+    requires { ⌜ bendSum (take n cells) ≤ 2048 ⌝ }
+    ensures { λ r. ⌜ r ≡ bendSum (take n cells) ⌝ }
 {
-    let n = d.count;
     let mut sum: usize = 0;
     let mut i: usize = 0;
     while i < n {
-        let c = d.cells[i];
+        let c = cells[i];
         let s = c.shape;
         let k = wide(bend_count(s));
         sum = sum + k;
         i = i + 1;
     }
     sum
+}
+
+// The places of `bends` that are in use.
+pub fn bend_total(d: Drawing) -> usize
+    requires { ⌜ Fits d ⌝ }
+    ensures { λ r. ⌜ r ≡ bendTotal d ⌝ }
+{
+    let cells = d.cells;
+    bend_sum(cells, d.count)
 }
 
 // How many cycles a cell has.
@@ -99,9 +108,10 @@ pub struct Index {
     pub cycles: [u32; 256],
 }
 
-pub fn index_of(d: Drawing) -> Index
-    requires { ⌜ d .count ≤ 256 ⌝ }
-    ensures { λ r. ⌜ Indexes d r ⌝ }
+// The numbers of the first n cells.
+fn index_cells(cells: [Cell; 256], n: usize) -> Index
+    requires { ⌜ n ≤ 256 ⌝ }
+    ensures { λ r. ⌜ CellRows cells n r ⌝ }
 {
     let mut out = Index {
         ids: [0; 256],
@@ -111,10 +121,9 @@ pub fn index_of(d: Drawing) -> Index
         bends: [0; 256],
         cycles: [0; 256],
     };
-    let n = d.count;
     let mut i: usize = 0;
     while i < n {
-        let c = d.cells[i];
+        let c = cells[i];
         let s = c.shape;
         let k = kind_of(s);
         let a = start_of(s);
@@ -130,6 +139,14 @@ pub fn index_of(d: Drawing) -> Index
         i = i + 1;
     }
     out
+}
+
+pub fn index_of(d: Drawing) -> Index
+    requires { ⌜ d .count ≤ 256 ⌝ }
+    ensures { λ r. ⌜ Indexes d r ⌝ }
+{
+    let cells = d.cells;
+    index_cells(cells, d.count)
 }
 
 // n places from `at` on get the flag v.
@@ -175,22 +192,31 @@ pub fn spread_flags(flags: &[bool], counts: &[u32], n: usize, z: usize, out: &mu
     at
 }
 
-// The cycles that are in use.
-pub fn cycle_total(d: Drawing) -> usize
-    requires { ⌜ Fits d ⌝ }
-    ensures { λ r. ⌜ r ≡ cycleTotal d ⌝ }
+// The cycles of the first n cells.
+fn cycle_sum(cells: [Cell; 256], n: usize) -> usize
+    requires { ⌜ n ≤ 256 ⌝ }
+    requires { ⌜ cycleSum (take n cells) ≤ 512 ⌝ }
+    ensures { λ r. ⌜ r ≡ cycleSum (take n cells) ⌝ }
 {
-    let n = d.count;
     let mut sum: usize = 0;
     let mut i: usize = 0;
     while i < n {
-        let c = d.cells[i];
+        let c = cells[i];
         let s = c.shape;
         let k = wide(cycle_count(s));
         sum = sum + k;
         i = i + 1;
     }
     sum
+}
+
+// The cycles that are in use.
+pub fn cycle_total(d: Drawing) -> usize
+    requires { ⌜ Fits d ⌝ }
+    ensures { λ r. ⌜ r ≡ cycleTotal d ⌝ }
+{
+    let cells = d.cells;
+    cycle_sum(cells, d.count)
 }
 
 // The row of an id among the first n, which rise; n if it is not there.

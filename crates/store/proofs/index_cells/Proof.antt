@@ -1,4 +1,4 @@
--- `index_of` meets its contract: after i cells the first i places of each array hold the numbers of those cells. Assumes nothing.
+-- `index_cells` meets its contract: after i cells the first i places of each array hold the numbers of those cells. Assumes nothing.
 use borrow.Author.Needs.{needs}
 use Prim.Native.Nat.{ℕ, _≤_, _<_, _-_}
 use mathlib.Core.Path.{_≡_, refl, _∙_}
@@ -7,10 +7,9 @@ use lib.ListN.{length, length-set}
 use Rattle.store.specs.declared.Cell.{Cell}
 use Rattle.store.specs.View.{bendCount, cycleCount}
 use Rattle.store.specs.Index.{kindOf, startOf, endOf}
-use Rattle.store.proofs.Sizes.{sizes}
 use Rattle.store.proofs.Lists.{Mapping, mapping-turn}
-use Rattle.store.proofs.index_of.Statement.{statement}
-use Rattle.store.proofs.index_of.Tie as tie
+use Rattle.store.proofs.index_cells.Statement.{statement}
+use Rattle.store.proofs.index_cells.Tie as tie
 
 abbrev idOf : Cell → ℕ
 idOf c = c .id
@@ -31,12 +30,12 @@ abbrev cycleAt : Cell → ℕ
 cycleAt c = cycleCount (c .shape)
 
 abbrev Inv-loop : tie.InvT-loop
-Inv-loop d out₀ n i₀ out i =
-    (i ≤ n) × Mapping idOf (d .cells) i (out .ids) × Mapping kindAt (d .cells) i (out .kinds) × Mapping startAt (d .cells) i (out .starts) × Mapping endAt (d .cells) i (out .ends) × Mapping bendAt (d .cells) i (out .bends) × Mapping cycleAt (d .cells) i (out .cycles)
+Inv-loop n cells out₀ i₀ out i =
+    (i ≤ n) × Mapping idOf cells i (out .ids) × Mapping kindAt cells i (out .kinds) × Mapping startAt cells i (out .starts) × Mapping endAt cells i (out .ends) × Mapping bendAt cells i (out .bends) × Mapping cycleAt cells i (out .cycles)
     × (length (out .ids) ≡ 256) × (length (out .kinds) ≡ 256) × (length (out .starts) ≡ 256) × (length (out .ends) ≡ 256) × (length (out .bends) ≡ 256) × (length (out .cycles) ≡ 256)
 
 abbrev μ-loop : tie.MeasureT-loop
-μ-loop d out₀ n i₀ out i = n - i
+μ-loop n cells out₀ i₀ out i = n - i
 
 loop-holds : tie.Need-loop-holds Inv-loop μ-loop
 loop-holds c = search needs
@@ -44,8 +43,8 @@ loop-holds c = search needs
 mul-c : tie.Need-mul-c Inv-loop μ-loop
 mul-c c = search needs
 
-element-copy-out-c : tie.Need-element-copy-out-c Inv-loop μ-loop
-element-copy-out-c c = search needs
+array-copy-out-c : tie.Need-array-copy-out-c Inv-loop μ-loop
+array-copy-out-c c = search needs
 
 kind-of-requires : tie.Need-kind-of-requires Inv-loop μ-loop
 kind-of-requires c κs = search needs
@@ -107,16 +106,16 @@ loop-less c = search needs
 loop-again : tie.Need-loop-again Inv-loop μ-loop
 loop-again c =
     let at = c .before .before .before .before .before .before .before in
-    let d = at .before .args .t1 in
-    let z = sizes d _ (at .before .good .0) in
-    let h : at .loop .i < length (d .cells) = omega arith in (
+    let cells = at .before .args .t1 in
+    let z : length cells ≡ 256 = at .before .good .0 .1 .0 .1 in
+    let h : at .loop .i < length cells = omega arith in (
       omega arith,
-      mapping-turn idOf (d .cells) (at .loop .i) (at .loop .out .ids) _ _ h (omega (arith, at .loop .inv .7)) refl (at .loop .inv .1),
-      mapping-turn kindAt (d .cells) (at .loop .i) (at .loop .out .kinds) _ _ h (omega (arith, at .loop .inv .8)) (c .before .before .before .before .kind-of .ensures) (at .loop .inv .2),
-      mapping-turn startAt (d .cells) (at .loop .i) (at .loop .out .starts) _ _ h (omega (arith, at .loop .inv .9)) (c .before .before .before .start-of .ensures) (at .loop .inv .3),
-      mapping-turn endAt (d .cells) (at .loop .i) (at .loop .out .ends) _ _ h (omega (arith, at .loop .inv .10)) (c .before .before .end-of .ensures) (at .loop .inv .4),
-      mapping-turn bendAt (d .cells) (at .loop .i) (at .loop .out .bends) _ _ h (omega (arith, at .loop .inv .11)) (c .before .bend-count .ensures) (at .loop .inv .5),
-      mapping-turn cycleAt (d .cells) (at .loop .i) (at .loop .out .cycles) _ _ h (omega (arith, at .loop .inv .12)) (c .cycle-count .ensures) (at .loop .inv .6),
+      mapping-turn idOf cells (at .loop .i) (at .loop .out .ids) _ _ h (omega (arith, at .loop .inv .7)) refl (at .loop .inv .1),
+      mapping-turn kindAt cells (at .loop .i) (at .loop .out .kinds) _ _ h (omega (arith, at .loop .inv .8)) (c .before .before .before .before .kind-of .ensures) (at .loop .inv .2),
+      mapping-turn startAt cells (at .loop .i) (at .loop .out .starts) _ _ h (omega (arith, at .loop .inv .9)) (c .before .before .before .start-of .ensures) (at .loop .inv .3),
+      mapping-turn endAt cells (at .loop .i) (at .loop .out .ends) _ _ h (omega (arith, at .loop .inv .10)) (c .before .before .end-of .ensures) (at .loop .inv .4),
+      mapping-turn bendAt cells (at .loop .i) (at .loop .out .bends) _ _ h (omega (arith, at .loop .inv .11)) (c .before .bend-count .ensures) (at .loop .inv .5),
+      mapping-turn cycleAt cells (at .loop .i) (at .loop .out .cycles) _ _ h (omega (arith, at .loop .inv .12)) (c .cycle-count .ensures) (at .loop .inv .6),
       length-set (at .loop .out .ids) _ _ ∙ at .loop .inv .7,
       length-set (at .loop .out .kinds) _ _ ∙ at .loop .inv .8,
       length-set (at .loop .out .starts) _ _ ∙ at .loop .inv .9,
@@ -128,7 +127,7 @@ loop-again c =
 returns : tie.Need-returns Inv-loop μ-loop
 returns c =
     let at = c .before in
-    let e : at .loop .i ≡ at .before .args .t1 .count = omega arith in
+    let e : at .loop .i ≡ at .before .args .n = omega arith in
     record {
       sizes = (at .loop .inv .7, at .loop .inv .8, at .loop .inv .9, at .loop .inv .10, at .loop .inv .11, at .loop .inv .12);
       ids = rw e at (at .loop .inv .1 .front);
@@ -139,15 +138,15 @@ returns c =
       cycles = rw e at (at .loop .inv .6 .front);
     }
 
-pub index-of-spec : {M : Type 1} → statement M
-index-of-spec =
+pub index-cells-spec : {M : Type 1} → statement M
+index-cells-spec =
     tie.close
     (tie.spec
     Inv-loop
     μ-loop
     loop-holds
     mul-c
-    element-copy-out-c
+    array-copy-out-c
     kind-of-requires
     start-of-requires
     end-of-requires
