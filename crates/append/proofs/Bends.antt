@@ -13,10 +13,9 @@ use Rattle.store.specs.declared.Shape.{Shape}
 use Rattle.store.specs.declared.Drawing.{Drawing}
 use Rattle.store.specs.Sizes.{Sizes}
 use Rattle.complex.specs.Cells.{Figure}
-use Rattle.complex.specs.Sound.{idsEnd}
 use Rattle.store.specs.View.{sheetOf, Fits, bendTotal}
 use Rattle.store.specs.Places.{shapeOf, cyclesIn, bendsIn}
-use Rattle.store.specs.Edits.{appended, withBends}
+use Rattle.store.specs.Edits.{appended, withBends, withCells}
 use Rattle.store.proofs.Grow.{append-edge}
 use Rattle.append.specs.Appends.{Room, withCell, withMoreBends}
 
@@ -37,22 +36,23 @@ bends-done d res at i n s e p q f = e ∙ ap₂ (λ (a m : ℕ). withBends d (pa
 abbrev pub Grew : Drawing → Figure → Drawing → Type 0
 Grew d x r = (sheetOf r ≡ appended (sheetOf d) x) × Fits r
 
--- an edge's bends, and then its cell
-pub edge-grown : (d : Drawing) → Sizes d → (x : Figure) → Room d x → cyclesIn x ≡ [] → (q r : Drawing) (s : Shape) → q ≡ withMoreBends d (bendsIn x) → s ≡ shapeOf x → r ≡ withCell q s
+-- the bends are in place, and then the cell
+pub cell-done : (d res : Drawing) (bs : List Position) (s : Shape) → res ≡ withMoreBends d bs
+    → withCells res (d .next + 1) (d .count + 1) (set (res .cells) (d .count) (record { id = d .next; shape = s })) ≡ withCell (withMoreBends d bs) s
+cell-done d res bs s e = ap (λ (q : Drawing). withCells q (d .next + 1) (d .count + 1) (set (q .cells) (d .count) (record { id = d .next; shape = s }))) e
+
+-- an edge's bends and its cell
+pub edge-grown : (d : Drawing) → Sizes d → (x : Figure) → Room d x → cyclesIn x ≡ [] → (r : Drawing) (s : Shape) → s ≡ shapeOf x → r ≡ withCell (withMoreBends d (bendsIn x)) s
     → Grew d x r
-edge-grown d z x h e q r s p t f =
+edge-grown d z x h e r s t f =
     let bs = bendsIn x in
     let b = h .bends in
     let l = z .bends in
-    subst (Grew d x) (sym (f ∙ ap₂ withCell p t))
+    subst (Grew d x) (sym (f ∙ ap (withCell (withMoreBends d bs)) t))
     (append-edge d z (h .fits) (h .cells) x (paste (d .bends) (bendTotal d) bs (length bs)) e
     (length-paste (d .bends) (bendTotal d) bs (length bs) (omega arith) (omega arith) ∙ z .bends)
     b
     (take-paste (d .bends) (bendTotal d) bs (length bs) (omega arith) (omega arith) ∙ ap (λ (k : List Position). take (bendTotal d) (d .bends) ++ k) (take-length bs)))
-
--- the room for the cell is as it was
-pub cell-room : (d q : Drawing) (bs : List Position) → q ≡ withMoreBends d bs → d .count < 256 → d .next < idsEnd → (q .count < 256) × (q .next < idsEnd)
-cell-room d q bs e h g = subst (λ (r : Drawing). (r .count < 256) × (r .next < idsEnd)) (sym e) (h, g)
 
 -- the k-th of the positions in bytes
 pub positions-get : (s : List ℕ) (at n k : ℕ) (z : Position) → k < n → getD (positionsAt s at n) k z ≡ positionAt s (at + 16 * k)

@@ -124,12 +124,14 @@ fn run_bend(r: Runs, k: usize, p: Position) -> Position
     p
 }
 
-// The runs of src's bends, put after the bends of d.
-fn fill_runs(d: Drawing, src: Drawing, r: Runs) -> Drawing
+// A cell of this shape at the next id, the runs of src put after the bends of d.
+fn put_runs(d: Drawing, src: [Position; 2048], r: Runs, s: Shape) -> Drawing
     requires { ⌜ Fits d ⌝ }
+    requires { ⌜ d .count < 256 ⌝ }
+    requires { ⌜ d .next < idsEnd ⌝ }
     requires { ⌜ InRange r ⌝ }
-    requires { ⌜ bendTotal d + length (runsOf (src .bends) r) ≤ 2048 ⌝ }
-    ensures { λ q. ⌜ q ≡ withMoreBends d (runsOf (src .bends) r) ⌝ }
+    requires { ⌜ bendTotal d + length (runsOf src r) ≤ 2048 ⌝ }
+    ensures { λ q. ⌜ q ≡ withCell (withMoreBends d (runsOf src r)) s ⌝ }
 {
     let base = store::bend_total(d);
     let n = runs_length(r);
@@ -137,47 +139,53 @@ fn fill_runs(d: Drawing, src: Drawing, r: Runs) -> Drawing
     let mut k: usize = 0;
     while k < n {
         let i = run_place(r, k);
-        let p = src.bends[i];
+        let p = src[i];
         let q = run_bend(r, k, p);
         out.bends[base + k] = q;
         k = k + 1;
     }
+    let m = d.count;
+    let id = d.next;
+    let c = Cell { id: id, shape: s };
+    out.cells[m] = c;
+    out.count = m + 1;
+    out.next = id + 1;
     out
 }
 
 // A new open edge, its bends taken from src.
-pub fn append_open(d: Drawing, src: Drawing, start: u32, end: u32, r: Runs) -> Drawing
-    requires { ⌜ RunsRoom d r (openEdge start end (runsOf (src .bends) r)) ⌝ }
-    ensures { λ q. ⌜ sheetOf q ≡ appended (sheetOf d) (openEdge start end (runsOf (src .bends) r)) ⌝ }
+pub fn append_open(d: Drawing, src: [Position; 2048], start: u32, end: u32, r: Runs) -> Drawing
+    requires { ⌜ RunsRoom d r (openEdge start end (runsOf src r)) ⌝ }
+    ensures { λ q. ⌜ sheetOf q ≡ appended (sheetOf d) (openEdge start end (runsOf src r)) ⌝ }
     ensures { λ q. ⌜ Fits q ⌝ }
 {
     let n = runs_length(r);
-    let out = fill_runs(d, src, r);
     let s = Shape::Open {
         start: start,
         end: end,
         bends: n as u32,
     };
-    put_cell(out, s)
+    put_runs(d, src, r, s)
 }
 
-pub fn append_closed(d: Drawing, src: Drawing, r: Runs) -> Drawing
-    requires { ⌜ RunsRoom d r (closedEdge (runsOf (src .bends) r)) ⌝ }
-    ensures { λ q. ⌜ sheetOf q ≡ appended (sheetOf d) (closedEdge (runsOf (src .bends) r)) ⌝ }
+pub fn append_closed(d: Drawing, src: [Position; 2048], r: Runs) -> Drawing
+    requires { ⌜ RunsRoom d r (closedEdge (runsOf src r)) ⌝ }
+    ensures { λ q. ⌜ sheetOf q ≡ appended (sheetOf d) (closedEdge (runsOf src r)) ⌝ }
     ensures { λ q. ⌜ Fits q ⌝ }
 {
     let n = runs_length(r);
-    let out = fill_runs(d, src, r);
     let s = Shape::Closed { bends: n as u32 };
-    put_cell(out, s)
+    put_runs(d, src, r, s)
 }
 
-// The bends in a script, put after the bends of d.
-fn fill_read(d: Drawing, script: &[u8], first: usize, count: u32) -> Drawing
+// A cell of this shape at the next id, the bends in a script put after the bends of d.
+fn put_read(d: Drawing, script: &[u8], first: usize, count: u32, s: Shape) -> Drawing
     requires { ⌜ Fits d ⌝ }
+    requires { ⌜ d .count < 256 ⌝ }
+    requires { ⌜ d .next < idsEnd ⌝ }
     requires { ⌜ first + 16 * count ≤ length (now script) ⌝ }
     requires { ⌜ bendTotal d + count ≤ 2048 ⌝ }
-    ensures { λ r. ⌜ r ≡ withMoreBends d (positionsAt (now (script .entry)) first count) ⌝ }
+    ensures { λ r. ⌜ r ≡ withCell (withMoreBends d (positionsAt (now (script .entry)) first count)) s ⌝ }
 {
     let base = store::bend_total(d);
     let n = store::wide(count);
@@ -188,6 +196,12 @@ fn fill_read(d: Drawing, script: &[u8], first: usize, count: u32) -> Drawing
         out.bends[base + k] = p;
         k = k + 1;
     }
+    let m = d.count;
+    let id = d.next;
+    let c = Cell { id: id, shape: s };
+    out.cells[m] = c;
+    out.count = m + 1;
+    out.next = id + 1;
     out
 }
 
@@ -204,13 +218,12 @@ pub fn append_open_read(
     ensures { λ r. ⌜ sheetOf r ≡ appended (sheetOf d) (openEdge start end (positionsAt (now (script .entry)) first count)) ⌝ }
     ensures { λ r. ⌜ Fits r ⌝ }
 {
-    let out = fill_read(d, script, first, count);
     let s = Shape::Open {
         start: start,
         end: end,
         bends: count,
     };
-    put_cell(out, s)
+    put_read(d, script, first, count, s)
 }
 
 pub fn append_closed_read(d: Drawing, script: &[u8], first: usize, count: u32) -> Drawing
@@ -218,9 +231,8 @@ pub fn append_closed_read(d: Drawing, script: &[u8], first: usize, count: u32) -
     ensures { λ r. ⌜ sheetOf r ≡ appended (sheetOf d) (closedEdge (positionsAt (now (script .entry)) first count)) ⌝ }
     ensures { λ r. ⌜ Fits r ⌝ }
 {
-    let out = fill_read(d, script, first, count);
     let s = Shape::Closed { bends: count };
-    put_cell(out, s)
+    put_read(d, script, first, count, s)
 }
 
 // The first n numbers of `from`, put into `out` at a place.
@@ -297,10 +309,11 @@ pub fn bends_before(d: Drawing, row: usize) -> usize
     requires { ⌜ row ≤ d .count ⌝ }
     ensures { λ r. ⌜ r ≡ bendSum (take row (d .cells)) ⌝ }
 {
+    let cells = d.cells;
     let mut sum: usize = 0;
     let mut i: usize = 0;
     while i < row {
-        let c = d.cells[i];
+        let c = cells[i];
         let s = c.shape;
         let k = store::wide(store::bend_count(s));
         sum = sum + k;
@@ -355,7 +368,8 @@ pub fn append_copies(d: Drawing, row: usize, n: usize) -> Drawing
     ensures { λ r. ⌜ sheetOf r ≡ appendedAll (replicate n (figureAt (sheetOf d) row)) (sheetOf d) ⌝ }
     ensures { λ r. ⌜ Fits r ⌝ }
 {
-    let c = d.cells[row];
+    let cells = d.cells;
+    let c = cells[row];
     let s = c.shape;
     let k = store::wide(store::bend_count(s));
     let first = bends_before(d, row);

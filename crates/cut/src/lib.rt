@@ -74,17 +74,18 @@ fn make_loop(d: Drawing, e: u32, row: usize, base: usize, m: usize, q: usize) ->
     ensures { λ r. ⌜ Fits r ⌝ }
 {
     let next = d.next;
+    let bends = d.bends;
     let i = q / 2;
     let at = base + i;
     let j = next_bend(base, m, i);
-    let b = d.bends[at];
-    let o = d.bends[j];
+    let b = bends[at];
+    let o = bends[j];
     let p = closed_place(b, o, q);
     let r = closed_runs(p, base, m, q);
     let dead = dropping::dead_row(row);
     let one = keep::keep(rewire::swap_edge(d, e, next + 1, false), dead);
     let two = append::append_vertex(one, p);
-    append::append_open(two, d, next, next, r)
+    append::append_open(two, bends, next, next, r)
 }
 
 // 0A of a closed edge.
@@ -94,9 +95,10 @@ fn cut_closed(d: Drawing, ix: Index, e: u32, q: usize) -> Answer
     requires { ⌜ Indexes d ix ⌝ }
     ensures { λ r. ⌜ Answers d (cutEdge e q) r ⌝ }
 {
+    let cy = d.cycles;
     let n = d.count;
     let next = d.next;
-    let t = answer::totals_of(&ix.bends, &ix.cycles, n, &d.cycles);
+    let t = answer::totals_of(&ix.bends, &ix.cycles, n, &cy);
     let ids = ix.ids;
     let counts = ix.bends;
     let row = store::find(&ids, n, e);
@@ -215,28 +217,30 @@ fn make_parts(
     ensures { λ r. ⌜ sheetOf r ≡ result (sheetOf d) (cutEdge e q) ⌝ }
     ensures { λ r. ⌜ Fits r ⌝ }
 {
+    let cells = d.cells;
     let next = d.next;
+    let bends = d.bends;
     let n = d.count;
     let i = q / 2;
     let j = i + q % 2;
     let rs = store::find(ids, n, s);
     let re = store::find(ids, n, f);
-    let v = d.cells[rs];
-    let w = d.cells[re];
+    let v = cells[rs];
+    let w = cells[re];
     let vs = v.shape;
     let ws = w.shape;
     let a = position_of(vs);
     let b = position_of(ws);
     let k1 = point_place(base, m, i);
     let k2 = point_place(base, m, i + 1);
-    let o = d.bends[k1];
-    let x = d.bends[k2];
+    let o = bends[k1];
+    let x = bends[k2];
     let p = open_place(a, b, o, x, m, q);
     let dead = dropping::dead_row(row);
     let one = keep::keep(rewire::cut_edge_steps(d, e, next + 1, next + 2), dead);
     let two = append::append_vertex(one, p);
-    let three = append::append_open(two, d, s, next, part_run(p, base, i));
-    append::append_open(three, d, next, f, part_run(p, base + j, m - j))
+    let three = append::append_open(two, bends, s, next, part_run(p, base, i));
+    append::append_open(three, bends, next, f, part_run(p, base + j, m - j))
 }
 
 // Questions 7 and 8 of 0A of an open edge: each use of e adds a step.
@@ -274,9 +278,11 @@ fn cut_open(d: Drawing, ix: Index, e: u32, q: usize) -> Answer
     requires { ⌜ Indexes d ix ⌝ }
     ensures { λ r. ⌜ Answers d (cutEdge e q) r ⌝ }
 {
+    let cy = d.cycles;
+    let st = d.steps;
     let n = d.count;
     let next = d.next;
-    let t = answer::totals_of(&ix.bends, &ix.cycles, n, &d.cycles);
+    let t = answer::totals_of(&ix.bends, &ix.cycles, n, &cy);
     let ids = ix.ids;
     let counts = ix.bends;
     let row = store::find(&ids, n, e);
@@ -284,7 +290,7 @@ fn cut_open(d: Drawing, ix: Index, e: u32, q: usize) -> Answer
     if m < q / 2 + q % 2 {
         return answer::refused(d, 5);
     }
-    let no = open_late(&d.cycles, &d.steps, next, e, q, t);
+    let no = open_late(&cy, &st, next, e, q, t);
     if no != 0 {
         return answer::refused(d, no);
     }

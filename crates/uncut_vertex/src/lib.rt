@@ -49,8 +49,10 @@ pub fn join_loop(d: Drawing, v: u32, a: usize, e: u32, b: usize, p: Position) ->
     ensures { λ r. ⌜ sheetOf r ≡ uncutResult (sheetOf d) v (loop e) ⌝ }
     ensures { λ r. ⌜ Fits r ⌝ }
 {
+    let cells = d.cells;
+    let bends = d.bends;
     let first = append::bends_before(d, b);
-    let c = d.cells[b];
+    let c = cells[b];
     let s = c.shape;
     let m = store::wide(store::bend_count(s));
     let mid = swap_out(d, v, a, e, b);
@@ -64,7 +66,7 @@ pub fn join_loop(d: Drawing, v: u32, a: usize, e: u32, b: usize, p: Position) ->
         count2: m,
         turned2: false,
     };
-    append::append_closed(mid, d, r)
+    append::append_closed(mid, bends, r)
 }
 
 // The flags of three dead rows.
@@ -113,8 +115,9 @@ pub fn join_edges(
     ensures { λ q. ⌜ sheetOf q ≡ rebuild (allBut v x y) (rewired sameVertex (inOne x y (sheetOf d .next))) (openEdge start end (runsOf (d .bends) r) ∷ []) (sheetOf d) ⌝ }
     ensures { λ q. ⌜ Fits q ⌝ }
 {
+    let bends = d.bends;
     let mid = merge_out(d, v, a, x, b, y, c);
-    append::append_open(mid, d, start, end, r)
+    append::append_open(mid, bends, start, end, r)
 }
 
 // The position of the vertex in a row.
@@ -122,7 +125,8 @@ fn place_at(d: Drawing, row: usize) -> Position
     requires { ⌜ row < 256 ⌝ }
     ensures { λ r. ⌜ r ≡ placeOf (getD (d .cells) row noCell .shape) ⌝ }
 {
-    let c = d.cells[row];
+    let cells = d.cells;
+    let c = cells[row];
     let s = c.shape;
     cut::position_of(s)
 }
@@ -157,10 +161,11 @@ pub fn looped(d: Drawing, v: u32, e: u32) -> Answer
     requires { ⌜ uncutCase (sheetOf d) v ≡ loop e ⌝ }
     ensures { λ r. ⌜ Answers d (uncut v) r ⌝ }
 {
+    let cy = d.cycles;
     let ix = store::index_of(d);
     let n = d.count;
     let next = d.next;
-    let t = answer::totals_of(&ix.bends, &ix.cycles, n, &d.cycles);
+    let t = answer::totals_of(&ix.bends, &ix.cycles, n, &cy);
     let no = bend_no(next, t, 1, 0);
     if no != 0 {
         return answer::refused(d, no);
@@ -272,11 +277,13 @@ pub fn jointed(d: Drawing, v: u32, x: u32, back1: bool, y: u32, back2: bool) -> 
     requires { ⌜ uncutCase (sheetOf d) v ≡ joint (record { edge = x; backward = back1 }) (record { edge = y; backward = back2 }) ⌝ }
     ensures { λ r. ⌜ Answers d (uncut v) r ⌝ }
 {
+    let cy = d.cycles;
+    let st = d.steps;
     let ix = store::index_of(d);
     let n = d.count;
     let next = d.next;
-    let t = answer::totals_of(&ix.bends, &ix.cycles, n, &d.cycles);
-    let no = joint_no(&d.cycles, &d.steps, next, y, t);
+    let t = answer::totals_of(&ix.bends, &ix.cycles, n, &cy);
+    let no = joint_no(&cy, &st, next, y, t);
     if no != 0 {
         return answer::refused(d, no);
     }

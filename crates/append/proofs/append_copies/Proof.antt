@@ -20,8 +20,8 @@ use Rattle.append.proofs.append_copies.Tie as tie
 mul-c : tie.Need-mul-c
 mul-c c = search needs
 
-element-copy-out-c : tie.Need-element-copy-out-c
-element-copy-out-c c = search needs
+array-copy-out-c : tie.Need-array-copy-out-c
+array-copy-out-c c = search needs
 
 bend-count-requires : tie.Need-bend-count-requires
 bend-count-requires c κs = search needs
@@ -34,38 +34,38 @@ bends-before-requires c κs = search needs
 
 -- as many bends as the figure has
 count-is : (c : tie.After-bends-before) →
-    let a = c .before .before .before .before .args in
-    c .before .wide .result ≡ length (bendsIn (figureAt (sheetOf (a .t1)) (a .row)))
+    let a = c .before .before .before .before .before .args in
+    c .before .wide .result ≡ length (bendsIn (figureAt (sheetOf (a .d)) (a .row)))
 count-is c =
-    let st = c .before .before .before .before in
+    let st = c .before .before .before .before .before in
     let a = st .args in
     c .before .wide .ensures ∙ c .before .before .bend-count .ensures
-    ∙ row-count (a .t1) (sizes (a .t1) _ (st .good .0)) (st .pre .fits) (a .row) (st .pre .row) _
+    ∙ row-count (a .d) (sizes (a .d) _ (st .good .0)) (st .pre .fits) (a .row) (st .pre .row) _
 
 fill-copies-requires : tie.Need-fill-copies-requires
 fill-copies-requires c κs =
-    let st = c .before .before .before .before in
+    let st = c .before .before .before .before .before in
     let a = st .args in
-    let z = sizes (a .t1) _ (st .good .0) in
+    let z = sizes (a .d) _ (st .good .0) in
     let h = st .pre in
     let k = count-is c in
     let f = c .bends-before .ensures in
-    let r = row-range (a .t1) z (h .fits) (a .row) (h .row) in
-    let e : a .n * c .before .wide .result ≡ a .n * length (bendsIn (figureAt (sheetOf (a .t1)) (a .row))) = ap (λ (m : ℕ). a .n * m) k in
+    let r = row-range (a .d) z (h .fits) (a .row) (h .row) in
+    let e : a .n * c .before .wide .result ≡ a .n * length (bendsIn (figureAt (sheetOf (a .d)) (a .row))) = ap (λ (m : ℕ). a .n * m) k in
     (h .fits, (omega arith, omega (arith, h .bends)))
 
 put-copies-requires : tie.Need-put-copies-requires
 put-copies-requires c κs =
-    let st = c .before .before .before .before .before in
+    let st = c .before .before .before .before .before .before in
     let a = st .args in
-    copies-room (a .t1) (sizes (a .t1) _ (st .good .0)) (a .row) (a .n) (st .pre) (c .fill-copies .result)
-    (repeated (a .n) (run (c .before .bends-before .result) (c .before .before .wide .result) (a .t1 .bends))) (c .fill-copies .ensures)
+    copies-room (a .d) (sizes (a .d) _ (st .good .0)) (a .row) (a .n) (st .pre) (c .fill-copies .result)
+    (repeated (a .n) (run (c .before .bends-before .result) (c .before .before .wide .result) (a .d .bends))) (c .fill-copies .ensures)
 
 returns : tie.Need-returns
 returns c =
-    let st = c .before .before .before .before .before .before in
+    let st = c .before .before .before .before .before .before .before in
     let a = st .args in
-    let d = a .t1 in
+    let d = a .d in
     let z = sizes d _ (st .good .0) in
     let h = st .pre in
     let k = count-is (c .before .before) in
@@ -82,7 +82,7 @@ append-copies-spec =
     tie.close
     (tie.spec
     mul-c
-    element-copy-out-c
+    array-copy-out-c
     bend-count-requires
     wide-requires
     bends-before-requires

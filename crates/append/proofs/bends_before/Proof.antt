@@ -15,10 +15,10 @@ abbrev bendsOf : Cell → ℕ
 bendsOf c = bendCount (c .shape)
 
 abbrev Inv-loop : tie.InvT-loop
-Inv-loop row d sum₀ i₀ sum i = (i ≤ row) × (sum ≡ bendSum (take i (d .cells)))
+Inv-loop row cells sum₀ i₀ sum i = (i ≤ row) × (sum ≡ bendSum (take i cells))
 
 abbrev μ-loop : tie.MeasureT-loop
-μ-loop row d sum₀ i₀ sum i = row - i
+μ-loop row cells sum₀ i₀ sum i = row - i
 
 loop-holds : tie.Need-loop-holds Inv-loop μ-loop
 loop-holds c = search needs
@@ -26,8 +26,8 @@ loop-holds c = search needs
 mul-c : tie.Need-mul-c Inv-loop μ-loop
 mul-c c = search needs
 
-element-copy-out-c : tie.Need-element-copy-out-c Inv-loop μ-loop
-element-copy-out-c c = omega (arith, c .before .before .pre .0 .cells)
+array-copy-out-c : tie.Need-array-copy-out-c Inv-loop μ-loop
+array-copy-out-c c = omega (arith, c .before .before .before .pre .0 .cells)
 
 bend-count-requires : tie.Need-bend-count-requires Inv-loop μ-loop
 bend-count-requires c κs = search needs
@@ -38,11 +38,11 @@ wide-requires c κs = search needs
 -- a turn adds the cell's bends
 turn : (c : tie.After-wide Inv-loop μ-loop) →
     let lp = c .before .before .before .before in
-    lp .loop .sum + c .wide .result ≡ bendSum (take (lp .loop .i + 1) (lp .before .args .t1 .cells))
+    lp .loop .sum + c .wide .result ≡ bendSum (take (lp .loop .i + 1) (lp .before .before .args .d .cells))
 turn c =
     let lp = c .before .before .before .before in
-    let st = lp .before in
-    let d = st .args .t1 in
+    let st = lp .before .before in
+    let d = st .args .d in
     let z = sizes d _ (st .good .0) .cells in
     ap₂ _+_ (lp .loop .inv .1) (c .wide .ensures ∙ c .before .bend-count .ensures)
     ∙ sym (sum-more bendsOf (d .cells) (lp .loop .i) _ (omega (arith, st .pre .0 .cells, st .pre .1)))
@@ -50,8 +50,8 @@ turn c =
 add-sum : tie.Need-add-sum Inv-loop μ-loop
 add-sum c =
     let lp = c .before .before .before .before in
-    let st = lp .before in
-    let d = st .args .t1 in
+    let st = lp .before .before in
+    let d = st .args .d in
     let e = turn c in
     let h = sum-le bendsOf (d .cells) (lp .loop .i + 1) (d .count) (omega (arith, st .pre .1)) in
     record { fits = omega (arith, st .pre .0 .bends) }
@@ -68,7 +68,7 @@ loop-again c = (omega arith, turn c)
 returns : tie.Need-returns Inv-loop μ-loop
 returns c =
     let lp = c .before in
-    let e : lp .loop .i ≡ lp .before .args .row = omega arith in
+    let e : lp .loop .i ≡ lp .before .before .args .row = omega arith in
     rw e at (lp .loop .inv .1)
 
 pub bends-before-spec : {M : Type 1} → statement M
@@ -79,7 +79,7 @@ bends-before-spec =
     μ-loop
     loop-holds
     mul-c
-    element-copy-out-c
+    array-copy-out-c
     bend-count-requires
     wide-requires
     add-sum

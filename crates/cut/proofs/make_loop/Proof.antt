@@ -21,39 +21,46 @@ use Rattle.cut.proofs.make_loop.Statement.{statement}
 use Rattle.cut.proofs.make_loop.Tie as tie
 
 add-at : tie.Need-add-at
-add-at c = omega (arith, half-below (c .args .t1) (sizes (c .args .t1) _ (c .good .0)) (c .args .e) (c .args .row) (c .args .base) (c .args .m) (c .args .q) (c .pre .0) (c .pre .1), c .pre .0 .range)
+add-at c =
+    let st = c .before in
+    let a = st .args in
+    let g = half-below (a .d) (sizes (a .d) _ (st .good .0)) (a .e) (a .row) (a .base) (a .m) (a .q) (st .pre .0) (st .pre .1) in
+    omega (arith, g, st .pre .0 .range)
 
 next-bend-requires : tie.Need-next-bend-requires
-next-bend-requires c κs = (c .pre .0 .range, half-below (c .args .t1) (sizes (c .args .t1) _ (c .good .0)) (c .args .e) (c .args .row) (c .args .base) (c .args .m) (c .args .q) (c .pre .0) (c .pre .1))
+next-bend-requires c κs =
+    let st = c .before in
+    let a = st .args in
+    (st .pre .0 .range, half-below (a .d) (sizes (a .d) _ (st .good .0)) (a .e) (a .row) (a .base) (a .m) (a .q) (st .pre .0) (st .pre .1))
 
 mul-b : tie.Need-mul-b
 mul-b c =
-    let st = c .before in
+    let st = c .before .before in
     let a = st .args in
-    let g = half-below (a .t1) (sizes (a .t1) _ (st .good .0)) (a .e) (a .row) (a .base) (a .m) (a .q) (st .pre .0) (st .pre .1) in
+    let g = half-below (a .d) (sizes (a .d) _ (st .good .0)) (a .e) (a .row) (a .base) (a .m) (a .q) (st .pre .0) (st .pre .1) in
     omega (arith, g, st .pre .0 .range)
 
-element-copy-out-b : tie.Need-element-copy-out-b
-element-copy-out-b c =
-    let st = c .before in
+array-copy-out-b : tie.Need-array-copy-out-b
+array-copy-out-b c =
+    let st = c .before .before in
     let a = st .args in
-    let g = half-below (a .t1) (sizes (a .t1) _ (st .good .0)) (a .e) (a .row) (a .base) (a .m) (a .q) (st .pre .0) (st .pre .1) in
+    let g = half-below (a .d) (sizes (a .d) _ (st .good .0)) (a .e) (a .row) (a .base) (a .m) (a .q) (st .pre .0) (st .pre .1) in
     omega (arith, g, st .pre .0 .range)
 
 mul-o : tie.Need-mul-o
 mul-o c =
     let nb = c .before in
-    let st = nb .before in
+    let st = nb .before .before in
     let a = st .args in
-    let g = half-below (a .t1) (sizes (a .t1) _ (st .good .0)) (a .e) (a .row) (a .base) (a .m) (a .q) (st .pre .0) (st .pre .1) in
+    let g = half-below (a .d) (sizes (a .d) _ (st .good .0)) (a .e) (a .row) (a .base) (a .m) (a .q) (st .pre .0) (st .pre .1) in
     omega (arith, next-most (a .base) (a .m) (a .q / 2) (st .pre .0 .range) g, nb .next-bend .ensures)
 
-element-copy-out-o : tie.Need-element-copy-out-o
-element-copy-out-o c =
+array-copy-out-o : tie.Need-array-copy-out-o
+array-copy-out-o c =
     let nb = c .before in
-    let st = nb .before in
+    let st = nb .before .before in
     let a = st .args in
-    let g = half-below (a .t1) (sizes (a .t1) _ (st .good .0)) (a .e) (a .row) (a .base) (a .m) (a .q) (st .pre .0) (st .pre .1) in
+    let g = half-below (a .d) (sizes (a .d) _ (st .good .0)) (a .e) (a .row) (a .base) (a .m) (a .q) (st .pre .0) (st .pre .1) in
     omega (arith, next-most (a .base) (a .m) (a .q / 2) (st .pre .0 .range) g, nb .next-bend .ensures)
 
 closed-place-requires : tie.Need-closed-place-requires
@@ -61,29 +68,29 @@ closed-place-requires c κs = search needs
 
 closed-runs-requires : tie.Need-closed-runs-requires
 closed-runs-requires c κs =
-    let st = c .before .before .before .before in
+    let st = c .before .before .before .before .before in
     let a = st .args in
-    (st .pre .0 .range, half-below (a .t1) (sizes (a .t1) _ (st .good .0)) (a .e) (a .row) (a .base) (a .m) (a .q) (st .pre .0) (st .pre .1))
+    (st .pre .0 .range, half-below (a .d) (sizes (a .d) _ (st .good .0)) (a .e) (a .row) (a .base) (a .m) (a .q) (st .pre .0) (st .pre .1))
 
 dead-row-requires : tie.Need-dead-row-requires
 dead-row-requires c κs =
-    let st = c .before .before .before .before .before in
-    omega (arith, st .pre .0 .below, sound-fits (st .args .t1) (st .pre .0 .sound) .cells)
+    let st = c .before .before .before .before .before .before in
+    omega (arith, st .pre .0 .below, sound-fits (st .args .d) (st .pre .0 .sound) .cells)
 
 add-swap-edge : tie.Need-add-swap-edge
 add-swap-edge c =
-    let st = c .before .before .before .before .before .before in
+    let st = c .before .before .before .before .before .before .before in
     let a = st .args in
-    omega (arith, next-in (a .t1) (st .pre .0 .sound))
+    omega (arith, next-in (a .d) (st .pre .0 .sound))
 
 swap-edge-requires : tie.Need-swap-edge-requires
 swap-edge-requires c κs =
-    let st = c .before .before .before .before .before .before in
+    let st = c .before .before .before .before .before .before .before in
     let a = st .args in
-    let z = sizes (a .t1) _ (st .good .0) in
-    let n = next-in (a .t1) (st .pre .0 .sound) in
-    let s = edge-small (a .t1) z (a .e) (a .row) (a .base) (a .m) (a .q) (st .pre .0) (st .pre .1) in
-    (sound-fits (a .t1) (st .pre .0 .sound), (omega (arith, s), omega (arith, n)))
+    let z = sizes (a .d) _ (st .good .0) in
+    let n = next-in (a .d) (st .pre .0 .sound) in
+    let s = edge-small (a .d) z (a .e) (a .row) (a .base) (a .m) (a .q) (st .pre .0) (st .pre .1) in
+    (sound-fits (a .d) (st .pre .0 .sound), (omega (arith, s), omega (arith, n)))
 
 keep-requires : tie.Need-keep-requires
 keep-requires c κs = c .swap-edge .ensures .1
@@ -96,9 +103,9 @@ append-vertex-requires c κs =
     let cr = dr .before in
     let cp = cr .before in
     let nb = cp .before .before .before in
-    let st = nb .before in
+    let st = nb .before .before in
     let a = st .args in
-    let d = a .t1 in
+    let d = a .d in
     let z = sizes d _ (st .good .0) in
     let ep = cp .closed-place .ensures ∙ closed-read (d .bends) (a .base) (a .m) (a .q) _ (z .bends) (st .pre .0 .range) (half-below d z (a .e) (a .row) (a .base) (a .m) (a .q) (st .pre .0) (st .pre .1)) (nb .next-bend .result) (nb .next-bend .ensures) in
     let u = dropped-row d z (st .pre .0 .sound) (a .e) (a .row) (st .pre .0 .found) (st .pre .0 .below) (rewired sameVertex (inPlaceOf (a .e) (d .next + 1) false)) (sw .swap-edge .result) (sizes (sw .swap-edge .result) _ (sw .swap-edge .ok)) (sw .swap-edge .ensures .1) (sw .swap-edge .ensures .0) (dr .dead-row .result) (dr .dead-row .ensures) (k .keep .result) (k .keep .ensures .0) in
@@ -113,9 +120,9 @@ append-open-requires c κs =
     let cr = dr .before in
     let cp = cr .before in
     let nb = cp .before .before .before in
-    let st = nb .before in
+    let st = nb .before .before in
     let a = st .args in
-    let d = a .t1 in
+    let d = a .d in
     let z = sizes d _ (st .good .0) in
     let ep = cp .closed-place .ensures ∙ closed-read (d .bends) (a .base) (a .m) (a .q) _ (z .bends) (st .pre .0 .range) (half-below d z (a .e) (a .row) (a .base) (a .m) (a .q) (st .pre .0) (st .pre .1)) (nb .next-bend .result) (nb .next-bend .ensures) in
     let u = dropped-row d z (st .pre .0 .sound) (a .e) (a .row) (st .pre .0 .found) (st .pre .0 .below) (rewired sameVertex (inPlaceOf (a .e) (d .next + 1) false)) (sw .swap-edge .result) (sizes (sw .swap-edge .result) _ (sw .swap-edge .ok)) (sw .swap-edge .ensures .1) (sw .swap-edge .ensures .0) (dr .dead-row .result) (dr .dead-row .ensures) (k .keep .result) (k .keep .ensures .0) in
@@ -138,9 +145,9 @@ returns c =
     let cr = dr .before in
     let cp = cr .before in
     let nb = cp .before .before .before in
-    let st = nb .before in
+    let st = nb .before .before in
     let a = st .args in
-    let d = a .t1 in
+    let d = a .d in
     let z = sizes d _ (st .good .0) in
     let ep = cp .closed-place .ensures ∙ closed-read (d .bends) (a .base) (a .m) (a .q) _ (z .bends) (st .pre .0 .range) (half-below d z (a .e) (a .row) (a .base) (a .m) (a .q) (st .pre .0) (st .pre .1)) (nb .next-bend .result) (nb .next-bend .ensures) in
     let u = dropped-row d z (st .pre .0 .sound) (a .e) (a .row) (st .pre .0 .found) (st .pre .0 .below) (rewired sameVertex (inPlaceOf (a .e) (d .next + 1) false)) (sw .swap-edge .result) (sizes (sw .swap-edge .result) _ (sw .swap-edge .ok)) (sw .swap-edge .ensures .1) (sw .swap-edge .ensures .0) (dr .dead-row .result) (dr .dead-row .ensures) (k .keep .result) (k .keep .ensures .0) in
@@ -154,9 +161,9 @@ make-loop-spec =
     add-at
     next-bend-requires
     mul-b
-    element-copy-out-b
+    array-copy-out-b
     mul-o
-    element-copy-out-o
+    array-copy-out-o
     closed-place-requires
     closed-runs-requires
     dead-row-requires

@@ -29,17 +29,17 @@ add-j c = search needs
 
 find-requires : tie.Need-find-requires
 find-requires c κs =
-    let st = c in
+    let st = c .before .before in
     let a = st .args in
-    let d = a .t1 in
+    let d = a .d in
     let z = sizes d _ (st .good .0) in
     (sound-fits d (st .pre .0 .sound) .cells, (st .pre .1 .1 .0, ids-rise d z (a .e) (a .row) (a .base) (a .m) (a .q) (st .pre .0) (a .s) (a .f) (st .pre .1 .0) (now (a .ids)) (st .pre .1 .1 .1)))
 
 find-requires-2 : tie.Need-find-requires-2
 find-requires-2 c κs =
-    let st = c .before in
+    let st = c .before .before .before in
     let a = st .args in
-    let d = a .t1 in
+    let d = a .d in
     let z = sizes d _ (st .good .0) in
     (sound-fits d (st .pre .0 .sound) .cells, (st .pre .1 .1 .0, ids-rise d z (a .e) (a .row) (a .base) (a .m) (a .q) (st .pre .0) (a .s) (a .f) (st .pre .1 .0) (now (a .ids)) (st .pre .1 .1 .1)))
 
@@ -47,19 +47,19 @@ mul-v : tie.Need-mul-v
 mul-v c =
     let f2 = c in
     let f1 = f2 .before in
-    let st = f1 .before in
+    let st = f1 .before .before .before in
     let a = st .args in
-    let d = a .t1 in
+    let d = a .d in
     let z = sizes d _ (st .good .0) in
     omega (arith, start-below d z (a .e) (a .row) (a .base) (a .m) (a .q) (st .pre .0) (a .s) (a .f) (st .pre .1 .0) (now (a .ids)) (st .pre .1 .1 .1) (f1 .find .result) (f2 .find2 .result) (f1 .find .ensures) (f2 .find2 .ensures))
 
-element-copy-out-v : tie.Need-element-copy-out-v
-element-copy-out-v c =
+array-copy-out-v : tie.Need-array-copy-out-v
+array-copy-out-v c =
     let f2 = c in
     let f1 = f2 .before in
-    let st = f1 .before in
+    let st = f1 .before .before .before in
     let a = st .args in
-    let d = a .t1 in
+    let d = a .d in
     let z = sizes d _ (st .good .0) in
     start-below d z (a .e) (a .row) (a .base) (a .m) (a .q) (st .pre .0) (a .s) (a .f) (st .pre .1 .0) (now (a .ids)) (st .pre .1 .1 .1) (f1 .find .result) (f2 .find2 .result) (f1 .find .ensures) (f2 .find2 .ensures)
 
@@ -67,19 +67,19 @@ mul-w : tie.Need-mul-w
 mul-w c =
     let f2 = c .before in
     let f1 = f2 .before in
-    let st = f1 .before in
+    let st = f1 .before .before .before in
     let a = st .args in
-    let d = a .t1 in
+    let d = a .d in
     let z = sizes d _ (st .good .0) in
     omega (arith, end-below d z (a .e) (a .row) (a .base) (a .m) (a .q) (st .pre .0) (a .s) (a .f) (st .pre .1 .0) (now (a .ids)) (st .pre .1 .1 .1) (f1 .find .result) (f2 .find2 .result) (f1 .find .ensures) (f2 .find2 .ensures))
 
-element-copy-out-w : tie.Need-element-copy-out-w
-element-copy-out-w c =
+array-copy-out-w : tie.Need-array-copy-out-w
+array-copy-out-w c =
     let f2 = c .before in
     let f1 = f2 .before in
-    let st = f1 .before in
+    let st = f1 .before .before .before in
     let a = st .args in
-    let d = a .t1 in
+    let d = a .d in
     let z = sizes d _ (st .good .0) in
     end-below d z (a .e) (a .row) (a .base) (a .m) (a .q) (st .pre .0) (a .s) (a .f) (st .pre .1 .0) (now (a .ids)) (st .pre .1 .1 .1) (f1 .find .result) (f2 .find2 .result) (f1 .find .ensures) (f2 .find2 .ensures)
 
@@ -91,7 +91,7 @@ position-of-requires-2 c κs = search needs
 
 point-place-requires : tie.Need-point-place-requires
 point-place-requires c κs =
-    let st = c .before .before .before .before .before .before in
+    let st = c .before .before .before .before .before .before .before .before in
     st .pre .0 .range
 
 add-point-place : tie.Need-add-point-place
@@ -99,34 +99,34 @@ add-point-place c = search needs
 
 point-place-requires-2 : tie.Need-point-place-requires-2
 point-place-requires-2 c κs =
-    let st = c .before .before .before .before .before .before .before in
+    let st = c .before .before .before .before .before .before .before .before .before in
     st .pre .0 .range
 
 mul-o : tie.Need-mul-o
 mul-o c =
     let kp = c .before in
-    let st = kp .before .before .before .before .before .before .before in
+    let st = kp .before .before .before .before .before .before .before .before .before in
     let a = st .args in
     omega (arith, point-below (a .base) (a .m) (a .q / 2) (st .pre .0 .range), kp .point-place .ensures)
 
-element-copy-out-o : tie.Need-element-copy-out-o
-element-copy-out-o c =
+array-copy-out-o : tie.Need-array-copy-out-o
+array-copy-out-o c =
     let kp = c .before in
-    let st = kp .before .before .before .before .before .before .before in
+    let st = kp .before .before .before .before .before .before .before .before .before in
     let a = st .args in
     omega (arith, point-below (a .base) (a .m) (a .q / 2) (st .pre .0 .range), kp .point-place .ensures)
 
 mul-x : tie.Need-mul-x
 mul-x c =
     let kp = c .before in
-    let st = kp .before .before .before .before .before .before .before .before in
+    let st = kp .before .before .before .before .before .before .before .before .before .before in
     let a = st .args in
     omega (arith, point-below (a .base) (a .m) (a .q / 2 + 1) (st .pre .0 .range), kp .point-place2 .ensures)
 
-element-copy-out-x : tie.Need-element-copy-out-x
-element-copy-out-x c =
+array-copy-out-x : tie.Need-array-copy-out-x
+array-copy-out-x c =
     let kp = c .before in
-    let st = kp .before .before .before .before .before .before .before .before in
+    let st = kp .before .before .before .before .before .before .before .before .before .before in
     let a = st .args in
     omega (arith, point-below (a .base) (a .m) (a .q / 2 + 1) (st .pre .0 .range), kp .point-place2 .ensures)
 
@@ -136,15 +136,15 @@ open-place-requires c κs = search needs
 dead-row-requires : tie.Need-dead-row-requires
 dead-row-requires c κs =
     let op = c in
-    let st = op .before .before .before .before .before .before .before .before .before .before .before in
-    omega (arith, st .pre .0 .below, sound-fits (st .args .t1) (st .pre .0 .sound) .cells)
+    let st = op .before .before .before .before .before .before .before .before .before .before .before .before .before in
+    omega (arith, st .pre .0 .below, sound-fits (st .args .d) (st .pre .0 .sound) .cells)
 
 add-cut-edge-steps : tie.Need-add-cut-edge-steps
 add-cut-edge-steps c =
     let op = c .before in
-    let st = op .before .before .before .before .before .before .before .before .before .before .before in
+    let st = op .before .before .before .before .before .before .before .before .before .before .before .before .before in
     let a = st .args in
-    let d = a .t1 in
+    let d = a .d in
     let z = sizes d _ (st .good .0) in
     let n = next-in d (st .pre .0 .sound) in
     omega (arith, n)
@@ -152,9 +152,9 @@ add-cut-edge-steps c =
 add-cut-edge-steps-2 : tie.Need-add-cut-edge-steps-2
 add-cut-edge-steps-2 c =
     let op = c .before in
-    let st = op .before .before .before .before .before .before .before .before .before .before .before in
+    let st = op .before .before .before .before .before .before .before .before .before .before .before .before .before in
     let a = st .args in
-    let d = a .t1 in
+    let d = a .d in
     let z = sizes d _ (st .good .0) in
     let n = next-in d (st .pre .0 .sound) in
     omega (arith, n)
@@ -168,9 +168,9 @@ cut-edge-steps-requires c κs =
     let pa = pb .before in
     let f2 = pa .before .before .before in
     let f1 = f2 .before in
-    let st = f1 .before in
+    let st = f1 .before .before .before in
     let a = st .args in
-    let d = a .t1 in
+    let d = a .d in
     let z = sizes d _ (st .good .0) in
     let p = op .open-place .result in
     let ep = placed-read d z (a .e) (a .row) (a .base) (a .m) (a .q) (st .pre .0) (a .s) (a .f) (st .pre .1 .0) (now (a .ids)) (st .pre .1 .1 .1) (f1 .find .result) (f2 .find2 .result) (f1 .find .ensures) (f2 .find2 .ensures) _ _ (pa .position-of .result) (pb .position-of2 .result) p (k1 .point-place .result) (k2 .point-place2 .result) (pa .position-of .ensures) (pb .position-of2 .ensures) (k1 .point-place .ensures) (k2 .point-place2 .ensures) (op .open-place .ensures) in
@@ -193,9 +193,9 @@ append-vertex-requires c κs =
     let pa = pb .before in
     let f2 = pa .before .before .before in
     let f1 = f2 .before in
-    let st = f1 .before in
+    let st = f1 .before .before .before in
     let a = st .args in
-    let d = a .t1 in
+    let d = a .d in
     let z = sizes d _ (st .good .0) in
     let u = dropped-row d z (st .pre .0 .sound) (a .e) (a .row) (st .pre .0 .found) (st .pre .0 .below) (rewired sameVertex (inTwo (a .e) (d .next + 1) (d .next + 2))) (cs .cut-edge-steps .result) (sizes (cs .cut-edge-steps .result) _ (cs .cut-edge-steps .ok)) (cs .cut-edge-steps .ensures .1) (cs .cut-edge-steps .ensures .0) (dr .dead-row .result) (dr .dead-row .ensures) (k .keep .result) (k .keep .ensures .0) in
     let p = op .open-place .result in
@@ -218,9 +218,9 @@ append-open-requires c κs =
     let pa = pb .before in
     let f2 = pa .before .before .before in
     let f1 = f2 .before in
-    let st = f1 .before in
+    let st = f1 .before .before .before in
     let a = st .args in
-    let d = a .t1 in
+    let d = a .d in
     let z = sizes d _ (st .good .0) in
     let u = dropped-row d z (st .pre .0 .sound) (a .e) (a .row) (st .pre .0 .found) (st .pre .0 .below) (rewired sameVertex (inTwo (a .e) (d .next + 1) (d .next + 2))) (cs .cut-edge-steps .result) (sizes (cs .cut-edge-steps .result) _ (cs .cut-edge-steps .ok)) (cs .cut-edge-steps .ensures .1) (cs .cut-edge-steps .ensures .0) (dr .dead-row .result) (dr .dead-row .ensures) (k .keep .result) (k .keep .ensures .0) in
     let p = op .open-place .result in
@@ -240,18 +240,18 @@ append-open-requires c κs =
 add-part-run : tie.Need-add-part-run
 add-part-run c =
     let op = c .before .before .before .before .before .before in
-    let st = op .before .before .before .before .before .before .before .before .before .before .before in
+    let st = op .before .before .before .before .before .before .before .before .before .before .before .before .before in
     let a = st .args in
-    let d = a .t1 in
+    let d = a .d in
     let z = sizes d _ (st .good .0) in
     omega (arith, place-below d z (a .e) (a .row) (a .base) (a .m) (a .q) (st .pre .0) (a .s) (a .f) (st .pre .1 .0), st .pre .0 .range)
 
 sub-part-run : tie.Need-sub-part-run
 sub-part-run c =
     let op = c .before .before .before .before .before .before in
-    let st = op .before .before .before .before .before .before .before .before .before .before .before in
+    let st = op .before .before .before .before .before .before .before .before .before .before .before .before .before in
     let a = st .args in
-    let d = a .t1 in
+    let d = a .d in
     let z = sizes d _ (st .good .0) in
     place-below d z (a .e) (a .row) (a .base) (a .m) (a .q) (st .pre .0) (a .s) (a .f) (st .pre .1 .0)
 
@@ -272,9 +272,9 @@ append-open-requires-2 c κs =
     let pa = pb .before in
     let f2 = pa .before .before .before in
     let f1 = f2 .before in
-    let st = f1 .before in
+    let st = f1 .before .before .before in
     let a = st .args in
-    let d = a .t1 in
+    let d = a .d in
     let z = sizes d _ (st .good .0) in
     let u = dropped-row d z (st .pre .0 .sound) (a .e) (a .row) (st .pre .0 .found) (st .pre .0 .below) (rewired sameVertex (inTwo (a .e) (d .next + 1) (d .next + 2))) (cs .cut-edge-steps .result) (sizes (cs .cut-edge-steps .result) _ (cs .cut-edge-steps .ok)) (cs .cut-edge-steps .ensures .1) (cs .cut-edge-steps .ensures .0) (dr .dead-row .result) (dr .dead-row .ensures) (k .keep .result) (k .keep .ensures .0) in
     let p = op .open-place .result in
@@ -310,9 +310,9 @@ returns c =
     let pa = pb .before in
     let f2 = pa .before .before .before in
     let f1 = f2 .before in
-    let st = f1 .before in
+    let st = f1 .before .before .before in
     let a = st .args in
-    let d = a .t1 in
+    let d = a .d in
     let z = sizes d _ (st .good .0) in
     let u = dropped-row d z (st .pre .0 .sound) (a .e) (a .row) (st .pre .0 .found) (st .pre .0 .below) (rewired sameVertex (inTwo (a .e) (d .next + 1) (d .next + 2))) (cs .cut-edge-steps .result) (sizes (cs .cut-edge-steps .result) _ (cs .cut-edge-steps .ok)) (cs .cut-edge-steps .ensures .1) (cs .cut-edge-steps .ensures .0) (dr .dead-row .result) (dr .dead-row .ensures) (k .keep .result) (k .keep .ensures .0) in
     let p = op .open-place .result in
@@ -337,18 +337,18 @@ make-parts-spec =
     find-requires
     find-requires-2
     mul-v
-    element-copy-out-v
+    array-copy-out-v
     mul-w
-    element-copy-out-w
+    array-copy-out-w
     position-of-requires
     position-of-requires-2
     point-place-requires
     add-point-place
     point-place-requires-2
     mul-o
-    element-copy-out-o
+    array-copy-out-o
     mul-x
-    element-copy-out-x
+    array-copy-out-x
     open-place-requires
     dead-row-requires
     add-cut-edge-steps

@@ -11,21 +11,22 @@ use Rattle.uncut_vertex.proofs.join_loop.Tie as tie
 
 bends-before-requires : tie.Need-bends-before-requires
 bends-before-requires c κs =
-    let w = c .pre .pair in
-    (sound-fits (c .args .t1) (w .sound), omega (arith, w .secondIn))
+    let s = c .before .before in
+    let w = s .pre .pair in
+    (sound-fits (s .args .d) (w .sound), omega (arith, w .secondIn))
 
 mul-c : tie.Need-mul-c
 mul-c c =
-    let s = c .before in
+    let s = c .before .before .before in
     let w = s .pre .pair in
-    record { fits = omega (arith, w .secondIn, sound-fits (s .args .t1) (w .sound) .cells) }
+    record { fits = omega (arith, w .secondIn, sound-fits (s .args .d) (w .sound) .cells) }
 
-element-copy-out-c : tie.Need-element-copy-out-c
-element-copy-out-c c =
-    let s = c .before in
+array-copy-out-c : tie.Need-array-copy-out-c
+array-copy-out-c c =
+    let s = c .before .before .before in
     let w = s .pre .pair in
-    let z = sizes (s .args .t1) _ (s .good .0) in
-    omega (arith, w .secondIn, sound-fits (s .args .t1) (w .sound) .cells, z .cells)
+    let z = sizes (s .args .d) _ (s .good .0) in
+    omega (arith, w .secondIn, sound-fits (s .args .d) (w .sound) .cells, z .cells)
 
 bend-count-requires : tie.Need-bend-count-requires
 bend-count-requires c κs = search needs
@@ -34,14 +35,14 @@ wide-requires : tie.Need-wide-requires
 wide-requires c κs = search needs
 
 swap-out-requires : tie.Need-swap-out-requires
-swap-out-requires c κs = let w = c .before .before .before .before .pre in (w .pair, w .small)
+swap-out-requires c κs = let w = c .before .before .before .before .before .before .pre in (w .pair, w .small)
 
 append-closed-requires : tie.Need-append-closed-requires
 append-closed-requires c κs =
     let n = c .before in
-    let s = n .before .before .before .before in
+    let s = n .before .before .before .before .before .before in
     let a = s .args in
-    let d = a .t1 in
+    let d = a .d in
     let z = sizes d _ (s .good .0) in
     let w = s .pre in
     let m = c .swap-out in
@@ -51,9 +52,9 @@ append-closed-requires c κs =
 returns : tie.Need-returns
 returns c =
     let n = c .before .before in
-    let s = n .before .before .before .before in
+    let s = n .before .before .before .before .before .before in
     let a = s .args in
-    let d = a .t1 in
+    let d = a .d in
     let z = sizes d _ (s .good .0) in
     let w = s .pre in
     let m = c .before .swap-out in (
@@ -68,7 +69,7 @@ join-loop-spec =
     (tie.spec
     bends-before-requires
     mul-c
-    element-copy-out-c
+    array-copy-out-c
     bend-count-requires
     wide-requires
     swap-out-requires

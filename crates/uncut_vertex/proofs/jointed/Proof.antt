@@ -16,21 +16,21 @@ use Rattle.uncut_vertex.proofs.jointed.Statement.{statement}
 use Rattle.uncut_vertex.proofs.jointed.Tie as tie
 
 index-of-requires : tie.Need-index-of-requires
-index-of-requires c κs = sound-fits (c .args .t1) (c .pre .0) .cells
+index-of-requires c κs = let st = c .before .before in sound-fits (st .args .d) (st .pre .0) .cells
 
 totals-of-requires : tie.Need-totals-of-requires
 totals-of-requires c κs =
-    let i = c .before .before .before .before .before in
-    let st = i .before in
-    let d = st .args .t1 in
+    let i = c .before .before .before .before in
+    let st = i .before .before .before in
+    let d = st .args .d in
     summed d (sizes d _ (st .good .0)) (sound-fits d (st .pre .0)) (i .index-of .result) (i .index-of .ensures)
 
 joint-no-requires : tie.Need-joint-no-requires
 joint-no-requires c κs =
-    let t = c .before .before .before in
-    let i = t .before .before .before .before .before .before in
-    let st = i .before in
-    let d = st .args .t1 in
+    let t = c .before .before in
+    let i = t .before .before .before .before .before in
+    let st = i .before .before .before in
+    let d = st .args .d in
     counted-in d (sizes d _ (st .good .0)) (st .pre .0) (i .index-of .result) (i .index-of .ensures) (t .totals-of .result) (t .totals-of .ensures)
 
 refused-requires : tie.Need-refused-requires
@@ -39,11 +39,11 @@ refused-requires c κs = search needs
 returns : tie.Need-returns
 returns c =
     let l = c .before .before in
-    let t = l .before .before .before .before in
-    let i = t .before .before .before .before .before .before in
-    let st = i .before in
+    let t = l .before .before .before in
+    let i = t .before .before .before .before .before in
+    let st = i .before .before .before in
     let a = st .args in
-    let d = a .t1 in
+    let d = a .d in
     let z = sizes d _ (st .good .0) in
     let k = joint-asked d z (st .pre .0) (a .v) (a .x) (a .back1) (a .y) (a .back2) (st .pre .1) (i .index-of .result) (i .index-of .ensures) (t .totals-of .result) (t .totals-of .ensures) (l .joint-no .result) (l .joint-no .ensures) in
     refuses d z (st .pre .0) (uncut (a .v)) (l .joint-no .result) k (c .before .if1 .taken) _ (c .refused .ensures)
@@ -51,11 +51,11 @@ returns c =
 join-at-requires : tie.Need-join-at-requires
 join-at-requires c κs =
     let l = c .before in
-    let t = l .before .before .before .before in
-    let i = t .before .before .before .before .before .before in
-    let st = i .before in
+    let t = l .before .before .before in
+    let i = t .before .before .before .before .before in
+    let st = i .before .before .before in
     let a = st .args in
-    let d = a .t1 in
+    let d = a .d in
     let z = sizes d _ (st .good .0) in
     let k = joint-asked d z (st .pre .0) (a .v) (a .x) (a .back1) (a .y) (a .back2) (st .pre .1) (i .index-of .result) (i .index-of .ensures) (t .totals-of .result) (t .totals-of .ensures) (l .joint-no .result) (l .joint-no .ensures) in
     joint-meets d z (st .pre .0) (a .v) (a .x) (a .back1) (a .y) (a .back2) (st .pre .1) (l .joint-no .result) k (c .if1 .left) (i .index-of .result) (i .index-of .ensures)
@@ -64,11 +64,11 @@ done-requires : tie.Need-done-requires
 done-requires c κs =
     let y = c .before in
     let l = y .before in
-    let t = l .before .before .before .before in
-    let i = t .before .before .before .before .before .before in
-    let st = i .before in
+    let t = l .before .before .before in
+    let i = t .before .before .before .before .before in
+    let st = i .before .before .before in
     let a = st .args in
-    let d = a .t1 in
+    let d = a .d in
     let z = sizes d _ (st .good .0) in
     let k = joint-asked d z (st .pre .0) (a .v) (a .x) (a .back1) (a .y) (a .back2) (st .pre .1) (i .index-of .result) (i .index-of .ensures) (t .totals-of .result) (t .totals-of .ensures) (l .joint-no .result) (l .joint-no .ensures) in
     let o = c .join-at in
@@ -79,11 +79,11 @@ returns-2 c =
     let oc = c .before in
     let y = oc .before in
     let l = y .before in
-    let t = l .before .before .before .before in
-    let i = t .before .before .before .before .before .before in
-    let st = i .before in
+    let t = l .before .before .before in
+    let i = t .before .before .before .before .before in
+    let st = i .before .before .before in
     let a = st .args in
-    let d = a .t1 in
+    let d = a .d in
     let z = sizes d _ (st .good .0) in
     let k = joint-asked d z (st .pre .0) (a .v) (a .x) (a .back1) (a .y) (a .back2) (st .pre .1) (i .index-of .result) (i .index-of .ensures) (t .totals-of .result) (t .totals-of .ensures) (l .joint-no .result) (l .joint-no .ensures) in
     let o = oc .join-at in

@@ -16,20 +16,20 @@ use Rattle.uncut_vertex.proofs.looped.Statement.{statement}
 use Rattle.uncut_vertex.proofs.looped.Tie as tie
 
 index-of-requires : tie.Need-index-of-requires
-index-of-requires c κs = sound-fits (c .args .t1) (c .pre .0) .cells
+index-of-requires c κs = sound-fits (c .before .args .d) (c .before .pre .0) .cells
 
 totals-of-requires : tie.Need-totals-of-requires
 totals-of-requires c κs =
-    let i = c .before .before .before .before .before in
-    let st = i .before in
-    let d = st .args .t1 in
+    let i = c .before .before .before .before in
+    let st = i .before .before in
+    let d = st .args .d in
     summed d (sizes d _ (st .good .0)) (sound-fits d (st .pre .0)) (i .index-of .result) (i .index-of .ensures)
 
 bend-no-requires : tie.Need-bend-no-requires
 bend-no-requires c κs =
-    let i = c .before .before .before .before .before .before in
-    let st = i .before in
-    let d = st .args .t1 in
+    let i = c .before .before .before .before .before in
+    let st = i .before .before in
+    let d = st .args .d in
     (next-in d (st .pre .0), (rw (c .totals-of .ensures) (totals-small d (sizes d _ (st .good .0)) (sound-fits d (st .pre .0)) (i .index-of .result) (i .index-of .ensures)), (lit≤ tt, lit≤ tt)))
 
 refused-requires : tie.Need-refused-requires
@@ -39,35 +39,35 @@ returns : tie.Need-returns
 returns c =
     let l = c .before .before in
     let t = l .before in
-    let i = t .before .before .before .before .before .before in
-    let st = i .before in
+    let i = t .before .before .before .before .before in
+    let st = i .before .before in
     let a = st .args in
-    let d = a .t1 in
+    let d = a .d in
     let z = sizes d _ (st .good .0) in
     let k = loop-asked d z (st .pre .0) (a .v) (a .e) (st .pre .1) (i .index-of .result) (i .index-of .ensures) (t .totals-of .result) (t .totals-of .ensures) (l .bend-no .result) (l .bend-no .ensures) in
     refuses d z (st .pre .0) (uncut (a .v)) (l .bend-no .result) k (c .before .if1 .taken) _ (c .refused .ensures)
 
 find-requires : tie.Need-find-requires
 find-requires c κs =
-    let i = c .before .before .before .before .before .before .before .before .before .before in
-    let st = i .before in
-    let d = st .args .t1 in
+    let i = c .before .before .before .before .before .before .before .before .before in
+    let st = i .before .before in
+    let d = st .args .d in
     find-asks d (sizes d _ (st .good .0)) (st .pre .0) (i .index-of .result) (i .index-of .ensures)
 
 find-requires-2 : tie.Need-find-requires-2
 find-requires-2 c κs =
-    let i = c .before .before .before .before .before .before .before .before .before .before .before .before in
-    let st = i .before in
-    let d = st .args .t1 in
+    let i = c .before .before .before .before .before .before .before .before .before .before .before in
+    let st = i .before .before in
+    let d = st .args .d in
     find-asks d (sizes d _ (st .good .0)) (st .pre .0) (i .index-of .result) (i .index-of .ensures)
 
 place-at-requires : tie.Need-place-at-requires
 place-at-requires c κs =
     let fd = c .before .before in
-    let i = fd .before .before .before .before .before .before .before .before .before .before .before in
-    let st = i .before in
+    let i = fd .before .before .before .before .before .before .before .before .before .before in
+    let st = i .before .before in
     let a = st .args in
-    let d = a .t1 in
+    let d = a .d in
     let z = sizes d _ (st .good .0) in
     row-below d z (st .pre .0) (i .index-of .result) (i .index-of .ensures) (a .v) (fd .find .result) (fd .find .ensures) (loop-live d z (st .pre .0) (a .v) (a .e) (st .pre .1) .vertexLive)
 
@@ -78,10 +78,10 @@ join-loop-requires c κs =
     let y = fd .before .before .before in
     let l = y .before in
     let t = l .before in
-    let i = t .before .before .before .before .before .before in
-    let st = i .before in
+    let i = t .before .before .before .before .before in
+    let st = i .before .before in
     let a = st .args in
-    let d = a .t1 in
+    let d = a .d in
     let z = sizes d _ (st .good .0) in
     let k = loop-asked d z (st .pre .0) (a .v) (a .e) (st .pre .1) (i .index-of .result) (i .index-of .ensures) (t .totals-of .result) (t .totals-of .ensures) (l .bend-no .result) (l .bend-no .ensures) in
     looped-needs d z (st .pre .0) (a .v) (a .e) (st .pre .1) (l .bend-no .result) k (y .if1 .left) (i .index-of .result) (i .index-of .ensures) (fd .find .result) (f2 .find2 .result) (fd .find .ensures) (f2 .find2 .ensures) (c .place-at .result) (c .place-at .ensures)
@@ -92,10 +92,10 @@ done-requires c κs =
     let y = fd .before .before .before in
     let l = y .before in
     let t = l .before in
-    let i = t .before .before .before .before .before .before in
-    let st = i .before in
+    let i = t .before .before .before .before .before in
+    let st = i .before .before in
     let a = st .args in
-    let d = a .t1 in
+    let d = a .d in
     let z = sizes d _ (st .good .0) in
     let k = loop-asked d z (st .pre .0) (a .v) (a .e) (st .pre .1) (i .index-of .result) (i .index-of .ensures) (t .totals-of .result) (t .totals-of .ensures) (l .bend-no .result) (l .bend-no .ensures) in
     let o = c .join-loop in
@@ -108,10 +108,10 @@ returns-2 c =
     let y = fd .before .before .before in
     let l = y .before in
     let t = l .before in
-    let i = t .before .before .before .before .before .before in
-    let st = i .before in
+    let i = t .before .before .before .before .before in
+    let st = i .before .before in
     let a = st .args in
-    let d = a .t1 in
+    let d = a .d in
     let z = sizes d _ (st .good .0) in
     let k = loop-asked d z (st .pre .0) (a .v) (a .e) (st .pre .1) (i .index-of .result) (i .index-of .ensures) (t .totals-of .result) (t .totals-of .ensures) (l .bend-no .result) (l .bend-no .ensures) in
     let o = oc .join-loop in

@@ -1,4 +1,4 @@
--- `append::fill_read` meets its contract. Assumes nothing.
+-- `append::put_read` meets its contract. Assumes nothing.
 use borrow.Author.Needs.{needs}
 use Prim.Native.Nat.{_≤_, _-_}
 use mathlib.Core.Path.{_≡_, ap, sym, _∙_}
@@ -8,15 +8,15 @@ use Rattle.store.specs.Edits.{withBends}
 use Rattle.store.proofs.Sizes.{sizes}
 use Rattle.bends.specs.Bends.{positionsAt}
 use Rattle.bends.proofs.Laws.{positions-length}
-use Rattle.append.proofs.Bends.{bends-more, bends-done, positions-get}
-use Rattle.append.proofs.fill_read.Statement.{statement}
-use Rattle.append.proofs.fill_read.Tie as tie
+use Rattle.append.proofs.Bends.{bends-more, bends-done, cell-done, positions-get}
+use Rattle.append.proofs.put_read.Statement.{statement}
+use Rattle.append.proofs.put_read.Tie as tie
 
 abbrev Inv-loop : tie.InvT-loop
-Inv-loop script first count base n out₀ k₀ out k = (k ≤ n) × (out ≡ withBends out₀ (paste (out₀ .bends) base (positionsAt script first count) k))
+Inv-loop d script first count s base n out₀ k₀ out k = (k ≤ n) × (out ≡ withBends out₀ (paste (out₀ .bends) base (positionsAt script first count) k))
 
 abbrev μ-loop : tie.MeasureT-loop
-μ-loop script first count base n out₀ k₀ out k = n - k
+μ-loop d script first count s base n out₀ k₀ out k = n - k
 
 bend-total-requires : tie.Need-bend-total-requires Inv-loop μ-loop
 bend-total-requires c κs = search needs
@@ -68,16 +68,29 @@ loop-again c =
           (c .position-at .ensures ∙ sym (positions-get (a .script .now) (a .first) (a .count) (lp .loop .k) (c .position-at .result) (omega arith))),
     )
 
+mul-c : tie.Need-mul-c Inv-loop μ-loop
+mul-c c = search needs
+
+element-set-from-c : tie.Need-element-set-from-c Inv-loop μ-loop
+element-set-from-c c = search needs
+
+add-out : tie.Need-add-out Inv-loop μ-loop
+add-out c = search needs
+
+add-out-2 : tie.Need-add-out-2 Inv-loop μ-loop
+add-out-2 c = search needs
+
 returns : tie.Need-returns Inv-loop μ-loop
 returns c =
     let lp = c .before in
     let st = lp .before .before .before .before in
     let a = st .args in
-    bends-done (a .d) (lp .loop .out) (lp .before .before .bend-total .result) (lp .loop .k) (lp .before .wide .result) (positionsAt (a .script .now) (a .first) (a .count)) (lp .loop .inv .1)
-    (lp .before .before .bend-total .ensures) (lp .before .wide .ensures ∙ sym (positions-length (a .script .now) (a .first) (a .count))) (omega arith)
+    cell-done (a .d) (lp .loop .out) (positionsAt (a .script .now) (a .first) (a .count)) (a .s)
+    (bends-done (a .d) (lp .loop .out) (lp .before .before .bend-total .result) (lp .loop .k) (lp .before .wide .result) (positionsAt (a .script .now) (a .first) (a .count)) (lp .loop .inv .1)
+    (lp .before .before .bend-total .ensures) (lp .before .wide .ensures ∙ sym (positions-length (a .script .now) (a .first) (a .count))) (omega arith))
 
-pub fill-read-spec : {M : Type 1} → statement M
-fill-read-spec =
+pub put-read-spec : {M : Type 1} → statement M
+put-read-spec =
     tie.close
     (tie.spec
     Inv-loop
@@ -94,4 +107,8 @@ fill-read-spec =
     add-k
     loop-less
     loop-again
+    mul-c
+    element-set-from-c
+    add-out
+    add-out-2
     returns)
