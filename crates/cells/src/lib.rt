@@ -49,7 +49,8 @@ pub fn add_vertex(d: Drawing, p: Position) -> Answer
     let ix = store::index_of(d);
     let n = d.count;
     let next = d.next;
-    let t = answer::totals_of(&ix.bends, &ix.cycles, n, &d.cycles);
+    let cy = d.cycles;
+    let t = answer::totals_of(&ix.bends, &ix.cycles, n, &cy);
     let no = cell_no(next, t, 0, 0, 0);
     if no != 0 {
         return answer::refused(d, no);
@@ -79,7 +80,8 @@ pub fn add_open(d: Drawing, script: &[u8], start: u32, end: u32, count: u32, fir
     if b != 0 {
         return answer::refused(d, 4);
     }
-    let t = answer::totals_of(&ix.bends, &ix.cycles, n, &d.cycles);
+    let cy = d.cycles;
+    let t = answer::totals_of(&ix.bends, &ix.cycles, n, &cy);
     let no = cell_no(next, t, 0, 0, store::wide(count));
     if no != 0 {
         return answer::refused(d, no);
@@ -106,7 +108,8 @@ pub fn add_closed(d: Drawing, script: &[u8], count: u32, first: usize) -> Answer
     let ix = store::index_of(d);
     let n = d.count;
     let next = d.next;
-    let t = answer::totals_of(&ix.bends, &ix.cycles, n, &d.cycles);
+    let cy = d.cycles;
+    let t = answer::totals_of(&ix.bends, &ix.cycles, n, &cy);
     let no = cell_no(next, t, 0, 0, store::wide(count));
     if no != 0 {
         return answer::refused(d, no);

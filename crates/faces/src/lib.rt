@@ -309,7 +309,8 @@ pub fn add_face(d: Drawing, script: &[u8], k: u32, first: usize) -> Answer
     if asked != 0 {
         return answer::refused(d, asked);
     }
-    let t = answer::totals_of(&ix.bends, &ix.cycles, n, &d.cycles);
+    let cy = d.cycles;
+    let t = answer::totals_of(&ix.bends, &ix.cycles, n, &cy);
     let m = script::count_cycle_steps(script, first, k, 2048);
     let no = cells::cell_no(next, t, store::wide(k), m, 0);
     if no != 0 {

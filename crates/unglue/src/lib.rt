@@ -68,8 +68,10 @@ pub fn unglue_edge(u: Use, d: Drawing, ix: Index, e: u32) -> Answer
 {
     let n = d.count;
     let next = d.next;
-    let t = answer::totals_of(&ix.bends, &ix.cycles, n, &d.cycles);
-    let parts = count_all(u, &d.cycles, t.cycles, &d.steps, e);
+    let cy = d.cycles;
+    let st = d.steps;
+    let t = answer::totals_of(&ix.bends, &ix.cycles, n, &cy);
+    let parts = count_all(u, &cy, t.cycles, &st, e);
     if parts < 2 {
         return answer::refused(d, 6);
     }
@@ -431,11 +433,13 @@ fn unglue_vertex(d: Drawing, ix: Index, v: u32) -> Answer
 {
     let n = d.count;
     let next = d.next;
-    let t = answer::totals_of(&ix.bends, &ix.cycles, n, &d.cycles);
+    let cy = d.cycles;
+    let st = d.steps;
+    let t = answer::totals_of(&ix.bends, &ix.cycles, n, &cy);
     let mut at = [false; 512];
     let mut groups = [0u32; 512];
     let g = group_ends(d, ix, t.cycles, v, &mut at, &mut groups);
-    let lone = count_all(Use::Lone, &d.cycles, t.cycles, &d.steps, v);
+    let lone = count_all(Use::Lone, &cy, t.cycles, &st, v);
     let parts = store::wide(g) + lone;
     if parts < 2 {
         return answer::refused(d, 6);

@@ -28,7 +28,7 @@ returns : tie.Need-returns
 returns c =
     let w = c .before .before in
     let st = w .before .before in
-    let d = st .args .t1 in
+    let d = st .args .d in
     let bs = positionsAt (st .args .script .now) (st .args .first) (st .args .count) in
     answers-no d (sound-fits d (st .pre .0)) (create (closedEdge bs)) 3 _ (c .refused .ensures) (no-3 (sheetOf d) (create (closedEdge bs)) (closed-three bs false (sym (w .bends-within .ensures) ∙ not-true _ (c .before .if1 .taken))))
 
@@ -40,20 +40,20 @@ returns-2 c =
     let e = c .before .before in
     let w = e .before in
     let st = w .before .before in
-    let d = st .args .t1 in
+    let d = st .args .d in
     let bs = positionsAt (st .args .script .now) (st .args .first) (st .args .count) in
     answers-no d (sound-fits d (st .pre .0)) (create (closedEdge bs)) 5 _ (c .refused2 .ensures)
     (no-5 (sheetOf d) (create (closedEdge bs)) (closed-three bs true (sym (w .bends-within .ensures) ∙ not-false _ (e .if1 .left))) (closed-four d bs)
     (closed-five d bs (positions-length (st .args .script .now) (st .args .first) (st .args .count) ∙ c .before .if2 .taken)))
 
 index-of-requires : tie.Need-index-of-requires
-index-of-requires c κs = let st = c .before .before .before .before in sound-fits (st .args .t1) (st .pre .0) .cells
+index-of-requires c κs = let st = c .before .before .before .before in sound-fits (st .args .d) (st .pre .0) .cells
 
 totals-of-requires : tie.Need-totals-of-requires
 totals-of-requires c κs =
     let x = c .before .before .before .before .before in
     let st = x .before .before .before .before .before in
-    let d = st .args .t1 in
+    let d = st .args .d in
     summed d (sizes d _ (st .good .0)) (sound-fits d (st .pre .0)) (x .index-of .result) (x .index-of .ensures)
 
 wide-requires : tie.Need-wide-requires
@@ -64,7 +64,7 @@ cell-no-requires c κs =
     let t = c .before in
     let x = t .before .before .before .before .before .before in
     let st = x .before .before .before .before .before in
-    let d = st .args .t1 in
+    let d = st .args .d in
     let z = sizes d _ (st .good .0) in
     let r = st .fits .count in
     (next-in d z (st .pre .0) (closedEdge (positionsAt (st .args .script .now) (st .args .first) (st .args .count))), (rw (t .totals-of .ensures) (totals-small d z (sound-fits d (st .pre .0)) (x .index-of .result) (x .index-of .ensures)), (lit≤ tt, (lit≤ tt, omega (arith, c .wide .ensures, r)))))
@@ -79,7 +79,7 @@ returns-3 c =
     let x = t .before .before .before .before .before .before in
     let w = x .before .before .before in
     let st = w .before .before in
-    let d = st .args .t1 in
+    let d = st .args .d in
     let z = sizes d _ (st .good .0) in
     let n = positions-length (st .args .script .now) (st .args .first) (st .args .count) in
     let bs = positionsAt (st .args .script .now) (st .args .first) (st .args .count) in
@@ -93,7 +93,7 @@ append-closed-read-requires c κs =
     let x = t .before .before .before .before .before .before in
     let w = x .before .before .before in
     let st = w .before .before in
-    let d = st .args .t1 in
+    let d = st .args .d in
     let z = sizes d _ (st .good .0) in
     let n = positions-length (st .args .script .now) (st .args .first) (st .args .count) in
     let bs = positionsAt (st .args .script .now) (st .args .first) (st .args .count) in
@@ -108,7 +108,7 @@ done-requires c κs =
     let x = t .before .before .before .before .before .before in
     let w = x .before .before .before in
     let st = w .before .before in
-    let d = st .args .t1 in
+    let d = st .args .d in
     let z = sizes d _ (st .good .0) in
     let n = positions-length (st .args .script .now) (st .args .first) (st .args .count) in
     let bs = positionsAt (st .args .script .now) (st .args .first) (st .args .count) in
@@ -123,7 +123,7 @@ returns-4 c =
     let x = t .before .before .before .before .before .before in
     let w = x .before .before .before in
     let st = w .before .before in
-    let d = st .args .t1 in
+    let d = st .args .d in
     let z = sizes d _ (st .good .0) in
     let n = positions-length (st .args .script .now) (st .args .first) (st .args .count) in
     let bs = positionsAt (st .args .script .now) (st .args .first) (st .args .count) in

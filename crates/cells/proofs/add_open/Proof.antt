@@ -28,18 +28,18 @@ returns : tie.Need-returns
 returns c =
     let w = c .before .before in
     let st = w .before .before in
-    let d = st .args .t1 in
+    let d = st .args .d in
     let bs = positionsAt (st .args .script .now) (st .args .first) (st .args .count) in
     answers-no d (sound-fits d (st .pre .0)) (create (openEdge (st .args .start) (st .args .end) bs)) 3 _ (c .refused .ensures) (no-3 (sheetOf d) (create (openEdge (st .args .start) (st .args .end) bs)) (open-three (st .args .start) (st .args .end) bs false (sym (w .bends-within .ensures) ∙ not-true _ (c .before .if1 .taken))))
 
 index-of-requires : tie.Need-index-of-requires
-index-of-requires c κs = let st = c .before .before .before in sound-fits (st .args .t1) (st .pre .0) .cells
+index-of-requires c κs = let st = c .before .before .before in sound-fits (st .args .d) (st .pre .0) .cells
 
 value-at-requires : tie.Need-value-at-requires
 value-at-requires c κs =
     let x = c .before .before .before .before in
     let st = x .before .before .before .before in
-    let d = st .args .t1 in
+    let d = st .args .d in
     let i = x .index-of .ensures in
     (sound-fits d (st .pre .0) .cells, (i .sizes .0, (i .sizes .1, looks d (sizes d _ (st .good .0)) (x .index-of .result) i (st .pre .0) .rising)))
 
@@ -52,7 +52,7 @@ returns-2 c =
     let x = a .before .before .before .before .before in
     let w = x .before .before in
     let st = w .before .before in
-    let d = st .args .t1 in
+    let d = st .args .d in
     let bs = positionsAt (st .args .script .now) (st .args .first) (st .args .count) in
     answers-no d (sound-fits d (st .pre .0)) (create (openEdge (st .args .start) (st .args .end) bs)) 4 _ (c .refused2 .ensures)
     (no-4 (sheetOf d) (create (openEdge (st .args .start) (st .args .end) bs)) (open-three (st .args .start) (st .args .end) bs true (sym (w .bends-within .ensures) ∙ not-false _ (x .before .if1 .left)))
@@ -63,7 +63,7 @@ value-at-requires-2 : tie.Need-value-at-requires-2
 value-at-requires-2 c κs =
     let x = c .before .before .before .before .before .before .before .before in
     let st = x .before .before .before .before in
-    let d = st .args .t1 in
+    let d = st .args .d in
     let i = x .index-of .ensures in
     (sound-fits d (st .pre .0) .cells, (i .sizes .0, (i .sizes .1, looks d (sizes d _ (st .good .0)) (x .index-of .result) i (st .pre .0) .rising)))
 
@@ -77,7 +77,7 @@ returns-3 c =
     let x = a .before .before .before .before .before in
     let w = x .before .before in
     let st = w .before .before in
-    let d = st .args .t1 in
+    let d = st .args .d in
     let z = sizes d _ (st .good .0) in
     let bs = positionsAt (st .args .script .now) (st .args .first) (st .args .count) in
     answers-no d (sound-fits d (st .pre .0)) (create (openEdge (st .args .start) (st .args .end) bs)) 4 _ (c .refused3 .ensures)
@@ -90,7 +90,7 @@ totals-of-requires : tie.Need-totals-of-requires
 totals-of-requires c κs =
     let x = c .before .before .before .before .before .before .before .before .before .before .before .before .before .before .before in
     let st = x .before .before .before .before in
-    let d = st .args .t1 in
+    let d = st .args .d in
     summed d (sizes d _ (st .good .0)) (sound-fits d (st .pre .0)) (x .index-of .result) (x .index-of .ensures)
 
 wide-requires : tie.Need-wide-requires
@@ -101,7 +101,7 @@ cell-no-requires c κs =
     let t = c .before in
     let x = t .before .before .before .before .before .before .before .before .before .before .before .before .before .before .before .before in
     let st = x .before .before .before .before in
-    let d = st .args .t1 in
+    let d = st .args .d in
     let z = sizes d _ (st .good .0) in
     let r = st .fits .count in
     let bs = positionsAt (st .args .script .now) (st .args .first) (st .args .count) in
@@ -119,7 +119,7 @@ returns-4 c =
     let x = a .before .before .before .before .before in
     let w = x .before .before in
     let st = w .before .before in
-    let d = st .args .t1 in
+    let d = st .args .d in
     let z = sizes d _ (st .good .0) in
     let bs = positionsAt (st .args .script .now) (st .args .first) (st .args .count) in
     let g = open-passed d (st .args .start) (st .args .end) bs (sym (w .bends-within .ensures) ∙ not-false _ (x .before .if1 .left))
@@ -137,7 +137,7 @@ append-open-read-requires c κs =
     let x = a .before .before .before .before .before in
     let w = x .before .before in
     let st = w .before .before in
-    let d = st .args .t1 in
+    let d = st .args .d in
     let z = sizes d _ (st .good .0) in
     let bs = positionsAt (st .args .script .now) (st .args .first) (st .args .count) in
     let g = open-passed d (st .args .start) (st .args .end) bs (sym (w .bends-within .ensures) ∙ not-false _ (x .before .if1 .left))
@@ -156,7 +156,7 @@ done-requires c κs =
     let x = a .before .before .before .before .before in
     let w = x .before .before in
     let st = w .before .before in
-    let d = st .args .t1 in
+    let d = st .args .d in
     let z = sizes d _ (st .good .0) in
     let bs = positionsAt (st .args .script .now) (st .args .first) (st .args .count) in
     let g = open-passed d (st .args .start) (st .args .end) bs (sym (w .bends-within .ensures) ∙ not-false _ (x .before .if1 .left))
@@ -175,7 +175,7 @@ returns-5 c =
     let x = a .before .before .before .before .before in
     let w = x .before .before in
     let st = w .before .before in
-    let d = st .args .t1 in
+    let d = st .args .d in
     let z = sizes d _ (st .good .0) in
     let bs = positionsAt (st .args .script .now) (st .args .first) (st .args .count) in
     let g = open-passed d (st .args .start) (st .args .end) bs (sym (w .bends-within .ensures) ∙ not-false _ (x .before .if1 .left))

@@ -24,25 +24,25 @@ refused-requires c κs = search needs
 returns : tie.Need-returns
 returns c =
     let st = c .before .before .before in
-    let d = st .args .t1 in
+    let d = st .args .d in
     let q = create (vertex (st .args .p)) in
     answers-no d (sound-fits d (st .pre)) q 3 _ (c .refused .ensures) (no-3 (sheetOf d) q (vertex-three (st .args .p) false (sym (c .before .before .in-bounds .ensures) ∙ not-true _ (c .before .if1 .taken))))
 
 index-of-requires : tie.Need-index-of-requires
-index-of-requires c κs = let st = c .before .before in sound-fits (st .args .t1) (st .pre) .cells
+index-of-requires c κs = let st = c .before .before in sound-fits (st .args .d) (st .pre) .cells
 
 totals-of-requires : tie.Need-totals-of-requires
 totals-of-requires c κs =
     let x = c .before .before .before .before .before in
     let st = x .before .before .before in
-    let d = st .args .t1 in
+    let d = st .args .d in
     summed d (sizes d _ (st .good .0)) (sound-fits d (st .pre)) (x .index-of .result) (x .index-of .ensures)
 
 cell-no-requires : tie.Need-cell-no-requires
 cell-no-requires c κs =
     let x = c .before .before .before .before .before .before in
     let st = x .before .before .before in
-    let d = st .args .t1 in
+    let d = st .args .d in
     let z = sizes d _ (st .good .0) in
     (next-in d z (st .pre) (vertex (st .args .p)), (rw (c .totals-of .ensures) (totals-small d z (sound-fits d (st .pre)) (x .index-of .result) (x .index-of .ensures)), (lit≤ tt, (lit≤ tt, lit≤ tt))))
 
@@ -55,7 +55,7 @@ returns-2 c =
     let t = l .before in
     let x = t .before .before .before .before .before .before in
     let st = x .before .before .before in
-    let d = st .args .t1 in
+    let d = st .args .d in
     let z = sizes d _ (st .good .0) in
     let p = st .args .p in
     let g = vertex-passed d p (sym (x .before .before .in-bounds .ensures) ∙ not-false _ (x .before .if1 .left)) in
@@ -67,7 +67,7 @@ append-vertex-requires c κs =
     let t = l .before in
     let x = t .before .before .before .before .before .before in
     let st = x .before .before .before in
-    let d = st .args .t1 in
+    let d = st .args .d in
     let z = sizes d _ (st .good .0) in
     let p = st .args .p in
     let g = vertex-passed d p (sym (x .before .before .in-bounds .ensures) ∙ not-false _ (x .before .if1 .left)) in
@@ -79,7 +79,7 @@ done-requires c κs =
     let t = l .before in
     let x = t .before .before .before .before .before .before in
     let st = x .before .before .before in
-    let d = st .args .t1 in
+    let d = st .args .d in
     let z = sizes d _ (st .good .0) in
     let p = st .args .p in
     let g = vertex-passed d p (sym (x .before .before .in-bounds .ensures) ∙ not-false _ (x .before .if1 .left)) in
@@ -92,7 +92,7 @@ returns-3 c =
     let t = l .before in
     let x = t .before .before .before .before .before .before in
     let st = x .before .before .before in
-    let d = st .args .t1 in
+    let d = st .args .d in
     let z = sizes d _ (st .good .0) in
     let p = st .args .p in
     let g = vertex-passed d p (sym (x .before .before .in-bounds .ensures) ∙ not-false _ (x .before .if1 .left)) in

@@ -16,13 +16,13 @@ use Rattle.faces.proofs.add_face.Statement.{statement}
 use Rattle.faces.proofs.add_face.Tie as tie
 
 index-of-requires : tie.Need-index-of-requires
-index-of-requires c κs = let st = c .before in sound-fits (st .args .t1) (st .pre .0) .cells
+index-of-requires c κs = let st = c .before in sound-fits (st .args .d) (st .pre .0) .cells
 
 face-no-requires : tie.Need-face-no-requires
 face-no-requires c κs =
     let x = c .before .before .before .before .before .before .before .before in
     let st = x .before .before in
-    let d = st .args .t1 in
+    let d = st .args .d in
     (st .pre .1, rowed d (sizes d _ (st .good .0)) (st .pre .0) (x .index-of .result) (x .index-of .ensures))
 
 refused-requires : tie.Need-refused-requires
@@ -33,7 +33,7 @@ returns c =
     let f = c .before .before in
     let x = f .before .before .before .before .before .before .before .before .before in
     let st = x .before .before in
-    let d = st .args .t1 in
+    let d = st .args .d in
     let s = st .args .script .now in
     answers-no d (sound-fits d (st .pre .0)) (create (face (cyclesRead s (st .args .first) (st .args .k)))) (f .face-no .result) _ (c .refused .ensures)
     (face-refuses d (sizes d _ (st .good .0)) (st .pre .0) (x .index-of .result) (x .index-of .ensures) s (st .args .first) (st .args .k) (st .pre .1) (f .face-no .result) (f .face-no .ensures) (c .before .if1 .taken))
@@ -42,7 +42,7 @@ totals-of-requires : tie.Need-totals-of-requires
 totals-of-requires c κs =
     let x = c .before .before .before .before .before .before .before .before .before .before .before .before .before .before .before in
     let st = x .before .before in
-    let d = st .args .t1 in
+    let d = st .args .d in
     summed d (sizes d _ (st .good .0)) (sound-fits d (st .pre .0)) (x .index-of .result) (x .index-of .ensures)
 
 count-cycle-steps-requires : tie.Need-count-cycle-steps-requires
@@ -56,7 +56,7 @@ cell-no-requires c κs =
     let t = c .before .before in
     let x = t .before .before .before .before .before .before .before .before .before .before .before .before .before .before .before .before in
     let st = x .before .before in
-    let d = st .args .t1 in
+    let d = st .args .d in
     let z = sizes d _ (st .good .0) in
     (next-in d z (st .pre .0) (face (cyclesRead (st .args .script .now) (st .args .first) (st .args .k))), (rw (t .totals-of .ensures) (totals-small d z (sound-fits d (st .pre .0)) (x .index-of .result) (x .index-of .ensures)), (omega (arith, c .wide .ensures, st .fits .k), (omega (arith, c .before .count-cycle-steps .ensures), lit≤ tt))))
 
@@ -70,7 +70,7 @@ returns-2 c =
     let f = t .before .before .before .before .before .before .before in
     let x = f .before .before .before .before .before .before .before .before .before in
     let st = x .before .before in
-    let d = st .args .t1 in
+    let d = st .args .d in
     let z = sizes d _ (st .good .0) in
     let w = st .pre .0 in
     let s = st .args .script .now in
@@ -86,7 +86,7 @@ put-face-requires c κs =
     let f = t .before .before .before .before .before .before .before in
     let x = f .before .before .before .before .before .before .before .before .before in
     let st = x .before .before in
-    let d = st .args .t1 in
+    let d = st .args .d in
     let z = sizes d _ (st .good .0) in
     let w = st .pre .0 in
     let s = st .args .script .now in
@@ -102,7 +102,7 @@ done-requires c κs =
     let f = t .before .before .before .before .before .before .before in
     let x = f .before .before .before .before .before .before .before .before .before in
     let st = x .before .before in
-    let d = st .args .t1 in
+    let d = st .args .d in
     let z = sizes d _ (st .good .0) in
     let w = st .pre .0 in
     let s = st .args .script .now in
@@ -119,7 +119,7 @@ returns-3 c =
     let f = t .before .before .before .before .before .before .before in
     let x = f .before .before .before .before .before .before .before .before .before in
     let st = x .before .before in
-    let d = st .args .t1 in
+    let d = st .args .d in
     let z = sizes d _ (st .good .0) in
     let w = st .pre .0 in
     let s = st .args .script .now in

@@ -78,8 +78,8 @@ module _ (d : Drawing) (z : Sizes d) (w : T (soundDrawing d)) (ix : Index) (x : 
 
 totals-of-requires : tie.Need-totals-of-requires
 totals-of-requires c κs =
-    let st = c .before .before .before .before .before in
-    let d = st .args .t1 in
+    let st = c .before .before .before .before .before .before in
+    let d = st .args .d in
     summed d (sizes d _ (st .good .0)) (sound-fits d (st .pre .0)) (st .args .t2) (st .pre .1 .0)
 
 slice-aggregate-group-ends : tie.Need-slice-aggregate-group-ends
@@ -91,16 +91,16 @@ slice-aggregate-group-ends-2 c = search needs
 group-ends-requires : tie.Need-group-ends-requires
 group-ends-requires c κs =
     let to = c .before .before in
-    let st = to .before .before .before .before .before .before in
-    let d = st .args .t1 in
+    let st = to .before .before .before .before .before .before .before in
+    let d = st .args .d in
     let x = st .pre .1 .0 in
     (st .pre .0, (st .pre .1 .1, (x, (cycles-are d (sizes d _ (st .good .0)) (st .pre .0) (st .args .t2) x (to .totals-of .result) (to .totals-of .ensures), fresh))))
 
 count-all-requires : tie.Need-count-all-requires
 count-all-requires c κs =
-    let to = c .before .before .before .before .before .before .before .before in
-    let st = to .before .before .before .before .before .before in
-    let d = st .args .t1 in
+    let to = c .before .before .before .before .before .before .before in
+    let st = to .before .before .before .before .before .before .before in
+    let d = st .args .d in
     count-asks d (sizes d _ (st .good .0)) (st .pre .0) (st .args .t2) (st .pre .1 .0) (to .totals-of .result) (to .totals-of .ensures)
 
 wide-requires : tie.Need-wide-requires
@@ -110,10 +110,10 @@ add-parts : tie.Need-add-parts
 add-parts c =
     let y = c in
     let k = y .before in
-    let ge = k .before .before .before .before .before .before in
+    let ge = k .before .before .before .before .before in
     let to = ge .before .before .before in
-    let st = to .before .before .before .before .before .before in
-    let d = st .args .t1 in
+    let st = to .before .before .before .before .before .before .before in
+    let d = st .args .d in
     let ix = st .args .t2 in
     let v = st .args .v in
     let z = sizes d _ (st .good .0) in
@@ -130,10 +130,10 @@ returns : tie.Need-returns
 returns c =
     let y = c .before .before in
     let k = y .before in
-    let ge = k .before .before .before .before .before .before in
+    let ge = k .before .before .before .before .before in
     let to = ge .before .before .before in
-    let st = to .before .before .before .before .before .before in
-    let d = st .args .t1 in
+    let st = to .before .before .before .before .before .before .before in
+    let d = st .args .d in
     let ix = st .args .t2 in
     let v = st .args .v in
     let z = sizes d _ (st .good .0) in
@@ -150,10 +150,10 @@ late-copies-requires : tie.Need-late-copies-requires
 late-copies-requires c κs =
     let y = c .before in
     let k = y .before in
-    let ge = k .before .before .before .before .before .before in
+    let ge = k .before .before .before .before .before in
     let to = ge .before .before .before in
-    let st = to .before .before .before .before .before .before in
-    let d = st .args .t1 in
+    let st = to .before .before .before .before .before .before .before in
+    let d = st .args .d in
     let ix = st .args .t2 in
     let v = st .args .v in
     let z = sizes d _ (st .good .0) in
@@ -172,10 +172,10 @@ returns-2 c =
     let f = l .before in
     let y = f .before in
     let k = y .before in
-    let ge = k .before .before .before .before .before .before in
+    let ge = k .before .before .before .before .before in
     let to = ge .before .before .before in
-    let st = to .before .before .before .before .before .before in
-    let d = st .args .t1 in
+    let st = to .before .before .before .before .before .before .before in
+    let d = st .args .d in
     let ix = st .args .t2 in
     let v = st .args .v in
     let z = sizes d _ (st .good .0) in
@@ -191,10 +191,10 @@ find-requires c κs =
     let f = l .before in
     let y = f .before in
     let k = y .before in
-    let ge = k .before .before .before .before .before .before in
+    let ge = k .before .before .before .before .before in
     let to = ge .before .before .before in
-    let st = to .before .before .before .before .before .before in
-    let d = st .args .t1 in
+    let st = to .before .before .before .before .before .before .before in
+    let d = st .args .d in
     let ix = st .args .t2 in
     let v = st .args .v in
     let z = sizes d _ (st .good .0) in
@@ -216,10 +216,10 @@ part-ends-requires c κs =
     let f = l .before in
     let y = f .before in
     let k = y .before in
-    let ge = k .before .before .before .before .before .before in
+    let ge = k .before .before .before .before .before in
     let to = ge .before .before .before in
-    let st = to .before .before .before .before .before .before in
-    let d = st .args .t1 in
+    let st = to .before .before .before .before .before .before .before in
+    let d = st .args .d in
     let ix = st .args .t2 in
     let v = st .args .v in
     let z = sizes d _ (st .good .0) in
@@ -238,10 +238,10 @@ append-copies-requires c κs =
     let f = l .before in
     let y = f .before in
     let k = y .before in
-    let ge = k .before .before .before .before .before .before in
+    let ge = k .before .before .before .before .before in
     let to = ge .before .before .before in
-    let st = to .before .before .before .before .before .before in
-    let d = st .args .t1 in
+    let st = to .before .before .before .before .before .before .before in
+    let d = st .args .d in
     let ix = st .args .t2 in
     let v = st .args .v in
     let z = sizes d _ (st .good .0) in
@@ -259,10 +259,10 @@ done-requires c κs =
     let f = l .before in
     let y = f .before in
     let k = y .before in
-    let ge = k .before .before .before .before .before .before in
+    let ge = k .before .before .before .before .before in
     let to = ge .before .before .before in
-    let st = to .before .before .before .before .before .before in
-    let d = st .args .t1 in
+    let st = to .before .before .before .before .before .before .before in
+    let d = st .args .d in
     let ix = st .args .t2 in
     let v = st .args .v in
     let z = sizes d _ (st .good .0) in
@@ -282,10 +282,10 @@ returns-3 c =
     let f = l .before in
     let y = f .before in
     let k = y .before in
-    let ge = k .before .before .before .before .before .before in
+    let ge = k .before .before .before .before .before in
     let to = ge .before .before .before in
-    let st = to .before .before .before .before .before .before in
-    let d = st .args .t1 in
+    let st = to .before .before .before .before .before .before .before in
+    let d = st .args .d in
     let ix = st .args .t2 in
     let v = st .args .v in
     let z = sizes d _ (st .good .0) in
