@@ -73,7 +73,9 @@ fn cut_at(d: Drawing, ix: Index, f: u32, p: Position) -> Drawing
     ensures { λ r. ⌜ Fits r ⌝ }
 {
     let t = outline::face_spans(d, ix, f);
-    let l = and_lone(&d.cycles, &d.steps, t, d.next);
+    let cy = d.cycles;
+    let st = d.steps;
+    let l = and_lone(&cy, &st, t, d.next);
     let out = outline::with_cycles(d, ix, f, l);
     append::append_vertex(out, p)
 }
@@ -91,7 +93,8 @@ pub fn cut_face_vertex(d: Drawing, f: u32, p: Position) -> Answer
     if !outline::is_face(ix, n, f) {
         return answer::refused(d, 4);
     }
-    let t = answer::totals_of(&ix.bends, &ix.cycles, n, &d.cycles);
+    let cy = d.cycles;
+    let t = answer::totals_of(&ix.bends, &ix.cycles, n, &cy);
     let more = Totals {
         cells: 1,
         cycles: 1,
@@ -246,7 +249,9 @@ fn cut_round(
     ensures { λ r. ⌜ Fits r ⌝ }
 {
     let t = outline::face_spans(d, ix, f);
-    let q = round_parts(&d.cycles, &d.steps, t, script, moved, place, d.next);
+    let cy = d.cycles;
+    let st = d.steps;
+    let q = round_parts(&cy, &st, t, script, moved, place, d.next);
     let old = q.old;
     let new = q.new;
     let a = outline::with_cycles(d, ix, f, old);
@@ -299,7 +304,8 @@ pub fn cut_face_closed(
     if early != 0 {
         return answer::refused(d, early);
     }
-    let t = answer::totals_of(&ix.bends, &ix.cycles, n, &d.cycles);
+    let cy = d.cycles;
+    let t = answer::totals_of(&ix.bends, &ix.cycles, n, &cy);
     let more = Totals {
         cells: 2,
         cycles: 2,

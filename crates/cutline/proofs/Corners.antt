@@ -24,11 +24,11 @@ use Rattle.sound.specs.Looks.{Looks}
 use Rattle.sound.proofs.Meaning.{looks-in, open-at}
 use Rattle.cycles.specs.declared.Spans.{Spans}
 use Rattle.command.specs.Lists.{Stand, numbersRead}
-use Rattle.outline.specs.Faces.{Named, Rows, Spanned}
+use Rattle.outline.specs.Faces.{Named, Rows, Within, Spanned}
 use Rattle.outline.specs.Arcs.{cornerIn}
 use Rattle.outline.proofs.Lists.{at-length}
 use Rattle.split.proofs.Places.{place-room, place-cycle}
-use Rattle.cutline.specs.Corners.{cornerOn, movedFit}
+use Rattle.cutline.specs.Corners.{cornerOn, cornerAt, loneAt, movedFit}
 
 -- ---- a cycle in the arrays, and its corners
 module _ (look : Look) (ix : Index) (n : ℕ) (o : (i : ℕ) → eqb (valueAt 4 (take n (ix .ids)) (take n (ix .kinds)) i) 1 ≡ isOpen (look i)) (steps : List ℕ) (z : length steps ≡ 2048) (at s : ℕ) where
@@ -63,6 +63,31 @@ pub alone-small : (k : Cycle) → aloneIn k ≤ 1
 alone-small (lone v) = omega arith
 alone-small (path hs) = omega arith
 
+-- ---- of spans in two arrays; i is c
+pub is-lone : (cycles : List ℕ) (t : Spans) (c i : ℕ) → i ≡ c → (b : Bool) → eqb (getD cycles (t .cycles .first + i) 0) 0 ≡ b → cond b 1 0 ≡ loneAt cycles t c
+is-lone cycles t c i e b eb = ap (λ (q : Bool). cond q 1 0) (sym eb) ∙ ap (loneAt cycles t) e
+
+module _ (cycles steps : List ℕ) (t : Spans) (c i : ℕ) (e : i ≡ c) (ix : Index) (n : ℕ) where
+  pub no-cycle : t .cycles .count ≤ i → (k : ℕ) → false ≡ cornerAt ix n cycles steps t c k
+  no-cycle h k = rw (le-ltb c (t .cycles .count) (omega arith))
+
+  module _ (w : Within cycles steps t) (h : i < t .cycles .count) where
+    pub place-asks : (length cycles ≡ 512) × ((t .cycles .first + i ≤ 512) × (t .steps .first + widthSum (take i (drop (t .cycles .first) cycles)) ≤ 2048))
+    place-asks =
+        let p = place-room cycles steps t w i h in
+        let m = w .inCycles in
+        (w .cyclesSize, (omega arith, omega arith))
+
+    module _ (at : ℕ) (ea : at ≡ t .steps .first + widthSum (take i (drop (t .cycles .first) cycles))) where
+      pub corner-asks : Rows ix n → Rows ix n × ((length steps ≡ 2048) × (at + width (getD cycles (t .cycles .first + i) 0) ≤ 2048))
+      corner-asks r = let p = place-room cycles steps t w i h in (r, (w .stepsSize, omega arith))
+
+      pub corner-at : (k : ℕ) (b : Bool) → b ≡ cornerIn ix n (getD cycles (t .cycles .first + i) 0) steps at k → b ≡ cornerAt ix n cycles steps t c k
+      corner-at k b eb =
+          eb ∙ ap (λ (a : ℕ). cornerIn ix n (getD cycles (t .cycles .first + i) 0) steps a k) ea
+          ∙ ap (λ (q : Bool). q && cornerIn ix n (getD cycles (t .cycles .first + i) 0) steps (t .steps .first + widthSum (take i (drop (t .cycles .first) cycles))) k) (sym (lt-ltb i (t .cycles .count) h))
+          ∙ ap (λ (a : ℕ). cornerAt ix n cycles steps t a k) e
+
 -- ---- of a face
 module _ (d : Drawing) (z : Sizes d) (ix : Index) (f : ℕ) (m : Named d ix f) where
   abbrev look : Look
@@ -83,40 +108,30 @@ module _ (d : Drawing) (z : Sizes d) (ix : Index) (f : ℕ) (m : Named d ix f) w
   count-told k e = e ∙ seen .cycles f
 
   module _ (t : Spans) (s : Spanned d f t) where
-    pub many-cycles : length ks ≡ t .cycles .count
+    many-cycles : length ks ≡ t .cycles .count
     many-cycles = sym (ap length (s .list)) ∙ at-length (d .cycles) (d .steps) t (s .within)
 
-    module _ (c i : ℕ) (e : i ≡ c) where
-      pub no-cycle : t .cycles .count ≤ i → (k : ℕ) → false ≡ cornerOn look ks c k
-      no-cycle h k = let l = many-cycles in rw (le-ltb c (length ks) (omega arith))
+    cycle-is : (c : ℕ) → c < t .cycles .count → getD ks c noCycle ≡ cycleOf (getD (d .cycles) (t .cycles .first + c) 0) (drop (t .steps .first + widthSum (take c (drop (t .cycles .first) (d .cycles)))) (d .steps))
+    cycle-is c h = ap (λ (l : List Cycle). getD l c noCycle) (sym (s .list)) ∙ place-cycle (d .cycles) (d .steps) t (s .within) c h
 
-      module _ (h : i < t .cycles .count) where
-        cycle-is : getD ks c noCycle ≡ cycleOf (getD (d .cycles) (t .cycles .first + i) 0) (drop (t .steps .first + widthSum (take i (drop (t .cycles .first) (d .cycles)))) (d .steps))
-        cycle-is =
-            ap₂ (λ (l : List Cycle) (n : ℕ). getD l n noCycle) (sym (s .list)) (sym e)
-            ∙ place-cycle (d .cycles) (d .steps) t (s .within) i h
+    pub corner-told : (c k : ℕ) (b : Bool) → b ≡ cornerAt ix (d .count) (d .cycles) (d .steps) t c k → b ≡ cornerOn look ks c k
+    corner-told c k b eb = eb ∙ go (ltb c (t .cycles .count)) refl
+      where
+        go : (q : Bool) → ltb c (t .cycles .count) ≡ q → cornerAt ix (d .count) (d .cycles) (d .steps) t c k ≡ cornerOn look ks c k
+        go true e =
+            let h = ltb-true c (t .cycles .count) e in
+            let at = t .steps .first + widthSum (take c (drop (t .cycles .first) (d .cycles))) in
+            let r = place-room (d .cycles) (d .steps) t (s .within) c h in
+            ap₂ _&&_ (ap (ltb c) (sym many-cycles))
+            (corner-is look ix (d .count) (open-at seen) (d .steps) (s .within .stepsSize) at k (getD (d .cycles) (t .cycles .first + c) 0) (omega arith)
+            ∙ ap (λ (y : Cycle). cornerExists look y k) (sym (cycle-is c h)))
+        go false e = rw (many-cycles, e)
 
-        pub place-asks : (length (d .cycles) ≡ 512) × ((t .cycles .first + i ≤ 512) × (t .steps .first + widthSum (take i (drop (t .cycles .first) (d .cycles))) ≤ 2048))
-        place-asks =
-            let w = s .within in
-            let p = place-room (d .cycles) (d .steps) t w i h in
-            let n = w .inCycles in
-            (w .cyclesSize, (omega arith, omega arith))
+    pub lone-asks : (c : ℕ) → c < length ks → t .cycles .first + c < 512
+    lone-asks c h = let l = many-cycles in let n = s .within .inCycles in omega arith
 
-        module _ (at : ℕ) (ea : at ≡ t .steps .first + widthSum (take i (drop (t .cycles .first) (d .cycles)))) where
-          pub corner-asks : Rows ix (d .count) × ((length (d .steps) ≡ 2048) × (at + width (getD (d .cycles) (t .cycles .first + i) 0) ≤ 2048))
-          corner-asks = let p = place-room (d .cycles) (d .steps) t (s .within) i h in (rows, (s .within .stepsSize, omega arith))
-
-          pub corner-on : (k : ℕ) (b : Bool) → b ≡ cornerIn ix (d .count) (getD (d .cycles) (t .cycles .first + i) 0) (d .steps) at k → b ≡ cornerOn look ks c k
-          corner-on k b eb =
-              let l = many-cycles in
-              eb ∙ corner-is look ix (d .count) (open-at seen) (d .steps) (s .within .stepsSize) at k (getD (d .cycles) (t .cycles .first + i) 0) (corner-asks .1 .1)
-              ∙ ap (λ (n : ℕ). cornerExists look (cycleOf (getD (d .cycles) (t .cycles .first + i) 0) (drop n (d .steps))) k) ea
-              ∙ ap (λ (y : Cycle). cornerExists look y k) (sym cycle-is)
-              ∙ ap (λ (q : Bool). q && cornerExists look (getD ks c noCycle) k) (sym (lt-ltb c (length ks) (omega arith)))
-
-        pub alone-told : (b : Bool) → eqb (getD (d .cycles) (t .cycles .first + i) 0) 0 ≡ b → cond b 1 0 ≡ aloneIn (getD ks c noCycle)
-        alone-told b eb = sym (ap aloneIn cycle-is ∙ alone-is (getD (d .cycles) (t .cycles .first + i) 0) _ ∙ ap (λ (q : Bool). cond q 1 0) eb)
+    pub lone-told : (c : ℕ) → c < length ks → (n : ℕ) → n ≡ loneAt (d .cycles) t c → n ≡ aloneIn (getD ks c noCycle)
+    lone-told c h n e = let l = many-cycles in e ∙ sym (ap aloneIn (cycle-is c (omega arith)) ∙ alone-is (getD (d .cycles) (t .cycles .first + c) 0) _)
 
 -- ---- the moved cycles
 empty-is : (xs : List ℕ) → isEmpty xs ≡ eqb (length xs) 0

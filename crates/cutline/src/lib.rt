@@ -2,56 +2,60 @@ ghost use mathlib.Core.Path.{_≡_};
 ghost use mathlib.Core.Bool.{true, false};
 ghost use Prim.Native.Nat.{_+_, _*_, _<_, _≤_};
 ghost use lib.Dec.{T, eqb};
-ghost use lib.ListN.{length, getD};
+ghost use lib.ListN.{length};
 ghost use Rattle.number.specs.Readers.{all};
 ghost use Rattle.number.specs.Numbers.{readNumber};
 ghost use Rattle.coordinate.specs.Bounds.{within};
 ghost use Rattle.bends.specs.Bends.{positionsAt};
 ghost use Rattle.complex.specs.Cells.{cellAt, cyclesOf};
 ghost use Rattle.complex.specs.Decode.{cutFaceOpen};
-ghost use Rattle.complex.specs.Cut.{noCycle, cutCorners};
-ghost use Rattle.complex.specs.Sizes.{aloneIn};
+ghost use Rattle.complex.specs.Cut.{cutCorners};
 ghost use Rattle.store.specs.View.{sheetOf};
 ghost use Rattle.sound.specs.Soundness.{soundDrawing};
 ghost use Rattle.command.specs.Lists.{Stand, numbersRead};
 ghost use Rattle.answer.specs.Answers.{Answers};
-ghost use Rattle.outline.specs.Faces.{Named};
+ghost use Rattle.outline.specs.Faces.{Named, Within, Rows};
 ghost use Rattle.split.specs.Along.{Along};
-ghost use Rattle.cutline.specs.Corners.{cornerOn, movedFit};
+ghost use Rattle.cutline.specs.Corners.{cornerAt, loneAt, movedFit};
 use answer::Answer;
 use answer::Totals;
+use cycles::Spans;
 use store::Drawing;
 use store::Index;
 
-// Whether a face has the cycle c, and that the corner s.
-fn corner_on(d: Drawing, ix: Index, f: u32, c: u32, s: u32) -> bool
-    requires { ⌜ Named d ix f ⌝ }
-    ensures { λ r. ⌜ r ≡ cornerOn (cellAt (sheetOf d)) (cyclesOf (cellAt (sheetOf d) f)) c s ⌝ }
+// Whether there is a cycle c in the spans, and it has the corner s.
+fn corner_on(
+    cycles: &[u32; 512],
+    steps: &[u32; 2048],
+    n: usize,
+    ix: Index,
+    t: Spans,
+    c: u32,
+    s: u32,
+) -> bool
+    requires { ⌜ Within (now cycles) (now steps) t ⌝ }
+    requires { ⌜ Rows ix n ⌝ }
+    ensures { λ r. ⌜ r ≡ cornerAt ix n (now (cycles .entry)) (now (steps .entry)) t c s ⌝ }
 {
-    let t = outline::face_spans(d, ix, f);
     let k = t.cycles;
     let i = store::wide(c);
     if k.count <= i {
         return false;
     }
-    let counts = d.cycles;
     let j = k.first + i;
-    let m = counts[j];
-    let at = outline::cycle_place(&counts, t, i);
-    outline::corner_exists(ix, d.count, m, &d.steps, at, s)
+    let m = cycles[j];
+    let at = outline::cycle_place(cycles, t, i);
+    outline::corner_exists(ix, n, m, steps, at, s)
 }
 
-// 1 if cycle c of a face is a lone vertex, which counts as one step, else 0.
-fn lone_step(d: Drawing, ix: Index, f: u32, c: u32) -> usize
-    requires { ⌜ Named d ix f ⌝ }
-    requires { ⌜ c < length (cyclesOf (cellAt (sheetOf d) f)) ⌝ }
-    ensures { λ r. ⌜ r ≡ aloneIn (getD (cyclesOf (cellAt (sheetOf d) f)) c noCycle) ⌝ }
+// 1 if cycle c of the spans is a lone vertex, which counts as one step, else 0.
+fn lone_step(cycles: &[u32; 512], t: Spans, c: u32) -> usize
+    requires { ⌜ t .cycles .first + c < 512 ⌝ }
+    ensures { λ r. ⌜ r ≡ loneAt (now (cycles .entry)) t c ⌝ }
 {
-    let t = outline::face_spans(d, ix, f);
     let k = t.cycles;
-    let counts = d.cycles;
     let j = k.first + store::wide(c);
-    if counts[j] == 0 {
+    if cycles[j] == 0 {
         return 1;
     }
     0
@@ -88,10 +92,13 @@ fn corners_exist(
     requires { ⌜ Stand readNumber (now script) place moved ⌝ }
     ensures { λ r. ⌜ r ≡ cutCorners (cellAt (sheetOf d)) (cyclesOf (cellAt (sheetOf d) f)) c1 s1 c2 s2 (numbersRead (now (script .entry)) place moved) ⌝ }
 {
-    if !corner_on(d, ix, f, c1, s1) {
+    let t = outline::face_spans(d, ix, f);
+    let cy = d.cycles;
+    let st = d.steps;
+    if !corner_on(&cy, &st, d.count, ix, t, c1, s1) {
         return false;
     }
-    if !corner_on(d, ix, f, c2, s2) {
+    if !corner_on(&cy, &st, d.count, ix, t, c2, s2) {
         return false;
     }
     let ids = ix.ids;
@@ -118,18 +125,19 @@ fn cut_one_cycle(
     requires { ⌜ all within (positionsAt (now script) first bends) ≡ true ⌝ }
     ensures { λ r. ⌜ Answers d (cutFaceOpen f c s1 c s2 (positionsAt (now (script .entry)) first bends) (numbersRead (now (script .entry)) place moved)) r ⌝ }
 {
-    let t = answer::totals_of(&ix.bends, &ix.cycles, d.count, &d.cycles);
+    let cy = d.cycles;
+    let t = answer::totals_of(&ix.bends, &ix.cycles, d.count, &cy);
+    let at = outline::face_spans(d, ix, f);
     let more = Totals {
         cells: 2,
         cycles: 1,
         steps: 2,
         bends: store::wide(bends),
     };
-    let alone = lone_step(d, ix, f, c);
     let less = Totals {
         cells: 0,
         cycles: 0,
-        steps: alone,
+        steps: lone_step(&cy, at, c),
         bends: 0,
     };
     let no = answer::late_no(d.next, 2, t, more, less);
@@ -160,14 +168,16 @@ fn cut_two_cycles(
     requires { ⌜ all within (positionsAt (now script) first bends) ≡ true ⌝ }
     ensures { λ r. ⌜ Answers d (cutFaceOpen f c1 s1 c2 s2 (positionsAt (now (script .entry)) first bends) (numbersRead (now (script .entry)) place moved)) r ⌝ }
 {
-    let t = answer::totals_of(&ix.bends, &ix.cycles, d.count, &d.cycles);
+    let cy = d.cycles;
+    let t = answer::totals_of(&ix.bends, &ix.cycles, d.count, &cy);
+    let at = outline::face_spans(d, ix, f);
     let more = Totals {
         cells: 1,
         cycles: 0,
         steps: 2,
         bends: store::wide(bends),
     };
-    let alone = lone_step(d, ix, f, c1) + lone_step(d, ix, f, c2);
+    let alone = lone_step(&cy, at, c1) + lone_step(&cy, at, c2);
     let less = Totals {
         cells: 0,
         cycles: 1,

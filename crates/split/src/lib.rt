@@ -180,22 +180,12 @@ pub fn split_face(
     ensures { λ r. ⌜ Fits r ⌝ }
 {
     let t = outline::face_spans(d, ix, f);
-    let p = place_of(&d.cycles, t, c);
-    let q = halves(
-        &d.cycles,
-        &d.steps,
-        t,
-        script,
-        moved,
-        place,
-        c,
-        p,
-        s1,
-        s2,
-        d.next,
-    );
-    let start = vertex_of(ix, d.count, &d.steps, p, s1);
-    let end = vertex_of(ix, d.count, &d.steps, p, s2);
+    let cy = d.cycles;
+    let st = d.steps;
+    let p = place_of(&cy, t, c);
+    let q = halves(&cy, &st, t, script, moved, place, c, p, s1, s2, d.next);
+    let start = vertex_of(ix, d.count, &st, p, s1);
+    let end = vertex_of(ix, d.count, &st, p, s2);
     let old = q.old;
     let new = q.new;
     let a = outline::with_cycles(d, ix, f, old);
@@ -274,11 +264,13 @@ pub fn bridge_cycles(
     ensures { λ r. ⌜ Fits r ⌝ }
 {
     let t = outline::face_spans(d, ix, f);
-    let p = place_of(&d.cycles, t, c1);
-    let q = place_of(&d.cycles, t, c2);
-    let l = bridge_list(&d.cycles, &d.steps, t, c1, p, s1, c2, q, s2, d.next);
-    let start = vertex_of(ix, d.count, &d.steps, p, s1);
-    let end = vertex_of(ix, d.count, &d.steps, q, s2);
+    let cy = d.cycles;
+    let st = d.steps;
+    let p = place_of(&cy, t, c1);
+    let q = place_of(&cy, t, c2);
+    let l = bridge_list(&cy, &st, t, c1, p, s1, c2, q, s2, d.next);
+    let start = vertex_of(ix, d.count, &st, p, s1);
+    let end = vertex_of(ix, d.count, &st, q, s2);
     let a = outline::with_cycles(d, ix, f, l);
     append::append_open_read(a, start, end, script, first, bends)
 }

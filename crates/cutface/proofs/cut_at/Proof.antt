@@ -14,47 +14,47 @@ face-spans-requires c κs = search needs
 
 and-lone-requires : tie.Need-and-lone-requires
 and-lone-requires c κs =
-    let fs = c .before .before .before in
-    let st = fs .before in
-    let a = st .args in
-    lone-asks (a .t1) (sizes (a .t1) _ (st .good .0)) (a .ix) (a .f) (st .pre .0) (a .p) (st .pre .1) (fs .face-spans .result) (fs .face-spans .ensures)
-
-with-cycles-requires : tie.Need-with-cycles-requires
-with-cycles-requires c κs =
     let fs = c .before .before .before .before in
     let st = fs .before in
     let a = st .args in
-    let z = sizes (a .t1) _ (st .good .0) in
+    lone-asks (a .d) (sizes (a .d) _ (st .good .0)) (a .ix) (a .f) (st .pre .0) (a .p) (st .pre .1) (fs .face-spans .result) (fs .face-spans .ensures)
+
+with-cycles-requires : tie.Need-with-cycles-requires
+with-cycles-requires c κs =
+    let fs = c .before .before .before .before .before in
+    let st = fs .before in
+    let a = st .args in
+    let z = sizes (a .d) _ (st .good .0) in
     let l = c .and-lone .result in
-    let e = lone-list (a .t1) z (a .ix) (a .f) (st .pre .0) (a .p) (st .pre .1) (fs .face-spans .result) (fs .face-spans .ensures) (l .counts) (l .used) (l .steps) (c .and-lone .ensures) in
-    (st .pre .0, (c .and-lone .ensures .building, room-listed (a .t1) z (a .ix) (a .f) (st .pre .0) _ (vertex (a .p) ∷ []) (st .pre .1) (l .counts) (l .used) (l .steps) e))
+    let e = lone-list (a .d) z (a .ix) (a .f) (st .pre .0) (a .p) (st .pre .1) (fs .face-spans .result) (fs .face-spans .ensures) (l .counts) (l .used) (l .steps) (c .and-lone .ensures) in
+    (st .pre .0, (c .and-lone .ensures .building, room-listed (a .d) z (a .ix) (a .f) (st .pre .0) _ (vertex (a .p) ∷ []) (st .pre .1) (l .counts) (l .used) (l .steps) e))
 
 append-vertex-requires : tie.Need-append-vertex-requires
 append-vertex-requires c κs =
     let al = c .before in
-    let fs = al .before .before .before .before in
+    let fs = al .before .before .before .before .before in
     let st = fs .before in
     let a = st .args in
-    let z = sizes (a .t1) _ (st .good .0) in
+    let z = sizes (a .d) _ (st .good .0) in
     let l = al .and-lone .result in
     let w = c .with-cycles in
-    let e = lone-list (a .t1) z (a .ix) (a .f) (st .pre .0) (a .p) (st .pre .1) (fs .face-spans .result) (fs .face-spans .ensures) (l .counts) (l .used) (l .steps) (al .and-lone .ensures) in
-    lone-room (a .t1) z (a .ix) (a .f) (st .pre .0) (a .p) (st .pre .1) (w .result) (sizes (w .result) _ (w .ok)) (w .ensures .1)
-    (sheet-listed (a .t1) z (a .ix) (a .f) (st .pre .0) _ (vertex (a .p) ∷ []) (st .pre .1) (l .counts) (l .used) (l .steps) e (sheetOf (w .result)) (w .ensures .0))
+    let e = lone-list (a .d) z (a .ix) (a .f) (st .pre .0) (a .p) (st .pre .1) (fs .face-spans .result) (fs .face-spans .ensures) (l .counts) (l .used) (l .steps) (al .and-lone .ensures) in
+    lone-room (a .d) z (a .ix) (a .f) (st .pre .0) (a .p) (st .pre .1) (w .result) (sizes (w .result) _ (w .ok)) (w .ensures .1)
+    (sheet-listed (a .d) z (a .ix) (a .f) (st .pre .0) _ (vertex (a .p) ∷ []) (st .pre .1) (l .counts) (l .used) (l .steps) e (sheetOf (w .result)) (w .ensures .0))
 
 returns : tie.Need-returns
 returns c =
     let wc = c .before in
     let al = wc .before in
-    let fs = al .before .before .before .before in
+    let fs = al .before .before .before .before .before in
     let st = fs .before in
     let a = st .args in
-    let z = sizes (a .t1) _ (st .good .0) in
+    let z = sizes (a .d) _ (st .good .0) in
     let l = al .and-lone .result in
     let w = wc .with-cycles in
-    let e = lone-list (a .t1) z (a .ix) (a .f) (st .pre .0) (a .p) (st .pre .1) (fs .face-spans .result) (fs .face-spans .ensures) (l .counts) (l .used) (l .steps) (al .and-lone .ensures) in (
-      lone-done (a .t1) z (a .ix) (a .f) (st .pre .0) (a .p) (st .pre .1) (w .result)
-          (sheet-listed (a .t1) z (a .ix) (a .f) (st .pre .0) _ (vertex (a .p) ∷ []) (st .pre .1) (l .counts) (l .used) (l .steps) e (sheetOf (w .result)) (w .ensures .0)) (sheetOf (c .append-vertex .result)) (c .append-vertex .ensures .0),
+    let e = lone-list (a .d) z (a .ix) (a .f) (st .pre .0) (a .p) (st .pre .1) (fs .face-spans .result) (fs .face-spans .ensures) (l .counts) (l .used) (l .steps) (al .and-lone .ensures) in (
+      lone-done (a .d) z (a .ix) (a .f) (st .pre .0) (a .p) (st .pre .1) (w .result)
+          (sheet-listed (a .d) z (a .ix) (a .f) (st .pre .0) _ (vertex (a .p) ∷ []) (st .pre .1) (l .counts) (l .used) (l .steps) e (sheetOf (w .result)) (w .ensures .0)) (sheetOf (c .append-vertex .result)) (c .append-vertex .ensures .0),
       c .append-vertex .ensures .1,
     )
 

@@ -41,19 +41,19 @@ returns c =
     let i = c .before .before in
     let st = i .before .before in
     let a = st .args in
-    let d = a .t1 in
+    let d = a .d in
     let bs = positionsAt (a .script .now) (a .first) (a .bends) in
     let ms = numbersRead (a .script .now) (a .place) (a .moved) in
     answers-no d (sound-fits d (st .pre .0)) (cutFaceClosed (a .f) bs ms) 3 _ (c .refused .ensures)
     (no-3 (sheetOf d) (cutFaceClosed (a .f) bs ms) (round-three (sheetOf d) (a .f) bs ms ∙ sym (i .bends-within .ensures) ∙ not-true _ (c .before .if1 .taken)))
 
 index-of-requires : tie.Need-index-of-requires
-index-of-requires c κs = let st = c .before .before .before in sound-fits (st .args .t1) (st .pre .0) .cells
+index-of-requires c κs = let st = c .before .before .before in sound-fits (st .args .d) (st .pre .0) .cells
 
 round-no-requires : tie.Need-round-no-requires
 round-no-requires c κs =
     let st = c .before .before .before .before in
-    let d = st .args .t1 in
+    let d = st .args .d in
     (rows-in d (sizes d _ (st .good .0)) (st .pre .0) (c .index-of .result) (c .index-of .ensures), st .pre .1 .1)
 
 refused-requires-2 : tie.Need-refused-requires-2
@@ -66,7 +66,7 @@ returns-2 c =
     let i = x .before .before in
     let st = i .before .before in
     let a = st .args in
-    let d = a .t1 in
+    let d = a .d in
     let s = a .script .now in
     let b = sym (i .bends-within .ensures) ∙ not-false _ (x .before .if1 .left) in
     answers-no d (sound-fits d (st .pre .0)) (cutFaceClosed (a .f) (positionsAt s (a .first) (a .bends)) (numbersRead s (a .place) (a .moved))) (n .round-no .result) _ (c .refused2 .ensures)
@@ -77,7 +77,7 @@ totals-of-requires : tie.Need-totals-of-requires
 totals-of-requires c κs =
     let x = c .before .before .before .before .before .before .before in
     let st = x .before .before .before .before in
-    let d = st .args .t1 in
+    let d = st .args .d in
     summed d (sizes d _ (st .good .0)) (sound-fits d (st .pre .0)) (x .index-of .result) (x .index-of .ensures)
 
 wide-requires : tie.Need-wide-requires
@@ -88,7 +88,7 @@ late-no-requires c κs =
     let t = c .before in
     let x = t .before .before .before .before .before .before .before .before in
     let st = x .before .before .before .before in
-    let d = st .args .t1 in
+    let d = st .args .d in
     let z = sizes d _ (st .good .0) in
     (next-in d (st .pre .0), (lit≤ tt, (rw (t .totals-of .ensures) (totals-small d z (sound-fits d (st .pre .0)) (x .index-of .result) (x .index-of .ensures)), record { cells = lit≤ tt; cycles = lit≤ tt; steps = lit≤ tt; bends = omega (arith, c .wide .ensures, st .fits .bends) }, record { cells = lit≤ tt; cycles = lit≤ tt; steps = lit≤ tt; bends = lit≤ tt })))
 
@@ -125,7 +125,7 @@ returns-3 c =
     let i = x .before .before in
     let st = i .before .before in
     let a = st .args in
-    let d = a .t1 in
+    let d = a .d in
     let z = sizes d _ (st .good .0) in
     let w = st .pre .0 in
     let s = a .script .now in
@@ -146,7 +146,7 @@ cut-round-requires c κs =
     let i = x .before .before in
     let st = i .before .before in
     let a = st .args in
-    let d = a .t1 in
+    let d = a .d in
     let z = sizes d _ (st .good .0) in
     let w = st .pre .0 in
     let s = a .script .now in
@@ -177,7 +177,7 @@ done-requires c κs =
     let i = x .before .before in
     let st = i .before .before in
     let a = st .args in
-    let d = a .t1 in
+    let d = a .d in
     let z = sizes d _ (st .good .0) in
     let w = st .pre .0 in
     let s = a .script .now in
@@ -199,7 +199,7 @@ returns-4 c =
     let i = x .before .before in
     let st = i .before .before in
     let a = st .args in
-    let d = a .t1 in
+    let d = a .d in
     let z = sizes d _ (st .good .0) in
     let w = st .pre .0 in
     let s = a .script .now in

@@ -41,17 +41,17 @@ returns c =
     let i = c .before .before in
     let st = i .before in
     let a = st .args in
-    let d = a .t1 in
+    let d = a .d in
     answers-no d (sound-fits d (st .pre)) (cutFaceVertex (a .f) (a .p)) 3 _ (c .refused .ensures)
     (no-3 (sheetOf d) (cutFaceVertex (a .f) (a .p)) (vertex-three (sheetOf d) (a .f) (a .p) false (sym (i .in-bounds .ensures) ∙ not-true _ (c .before .if1 .taken))))
 
 index-of-requires : tie.Need-index-of-requires
-index-of-requires c κs = let st = c .before .before in sound-fits (st .args .t1) (st .pre) .cells
+index-of-requires c κs = let st = c .before .before in sound-fits (st .args .d) (st .pre) .cells
 
 is-face-requires : tie.Need-is-face-requires
 is-face-requires c κs =
     let st = c .before .before .before in
-    let d = st .args .t1 in
+    let d = st .args .d in
     rows-in d (sizes d _ (st .good .0)) (st .pre) (c .index-of .result) (c .index-of .ensures)
 
 refused-requires-2 : tie.Need-refused-requires-2
@@ -64,7 +64,7 @@ returns-2 c =
     let i = x .before .before in
     let st = i .before in
     let a = st .args in
-    let d = a .t1 in
+    let d = a .d in
     let k = cutFaceVertex (a .f) (a .p) in
     answers-no d (sound-fits d (st .pre)) k 4 _ (c .refused2 .ensures)
     (no-4 (sheetOf d) k
@@ -76,14 +76,14 @@ totals-of-requires : tie.Need-totals-of-requires
 totals-of-requires c κs =
     let x = c .before .before .before .before .before .before .before in
     let st = x .before .before .before in
-    let d = st .args .t1 in
+    let d = st .args .d in
     summed d (sizes d _ (st .good .0)) (sound-fits d (st .pre)) (x .index-of .result) (x .index-of .ensures)
 
 late-no-requires : tie.Need-late-no-requires
 late-no-requires c κs =
     let x = c .before .before .before .before .before .before .before .before in
     let st = x .before .before .before in
-    let d = st .args .t1 in
+    let d = st .args .d in
     let z = sizes d _ (st .good .0) in
     (next-in d (st .pre), (lit≤ tt, (rw (c .totals-of .ensures) (totals-small d z (sound-fits d (st .pre)) (x .index-of .result) (x .index-of .ensures)), record { cells = lit≤ tt; cycles = lit≤ tt; steps = lit≤ tt; bends = lit≤ tt }, record { cells = lit≤ tt; cycles = lit≤ tt; steps = lit≤ tt; bends = lit≤ tt })))
 
@@ -118,7 +118,7 @@ returns-3 c =
     let i = x .before .before in
     let st = i .before in
     let a = st .args in
-    let d = a .t1 in
+    let d = a .d in
     let z = sizes d _ (st .good .0) in
     let b = sym (i .in-bounds .ensures) ∙ not-false _ (x .before .if1 .left) in
     let h = face-told d z (st .pre) (x .index-of .result) (x .index-of .ensures) (a .f) _ (g .is-face .ensures) ∙ not-false _ (e .if2 .left) in
@@ -135,7 +135,7 @@ cut-at-requires c κs =
     let i = x .before .before in
     let st = i .before in
     let a = st .args in
-    let d = a .t1 in
+    let d = a .d in
     let z = sizes d _ (st .good .0) in
     let b = sym (i .in-bounds .ensures) ∙ not-false _ (x .before .if1 .left) in
     let h = face-told d z (st .pre) (x .index-of .result) (x .index-of .ensures) (a .f) _ (g .is-face .ensures) ∙ not-false _ (e .if2 .left) in
@@ -153,7 +153,7 @@ done-requires c κs =
     let i = x .before .before in
     let st = i .before in
     let a = st .args in
-    let d = a .t1 in
+    let d = a .d in
     let z = sizes d _ (st .good .0) in
     let b = sym (i .in-bounds .ensures) ∙ not-false _ (x .before .if1 .left) in
     let h = face-told d z (st .pre) (x .index-of .result) (x .index-of .ensures) (a .f) _ (g .is-face .ensures) ∙ not-false _ (e .if2 .left) in
@@ -173,7 +173,7 @@ returns-4 c =
     let i = x .before .before in
     let st = i .before in
     let a = st .args in
-    let d = a .t1 in
+    let d = a .d in
     let z = sizes d _ (st .good .0) in
     let b = sym (i .in-bounds .ensures) ∙ not-false _ (x .before .if1 .left) in
     let h = face-told d z (st .pre) (x .index-of .result) (x .index-of .ensures) (a .f) _ (g .is-face .ensures) ∙ not-false _ (e .if2 .left) in

@@ -12,61 +12,61 @@ face-spans-requires c κs = search needs
 
 place-of-requires : tie.Need-place-of-requires
 place-of-requires c κs =
-    let fs = c .before .before in
+    let fs = c .before .before .before in
     let st = fs .before .before in
     let g = st .pre .asked in
-    place-asks (sizes (st .args .t1) _ (st .good .0)) (g .sound) (g .named) (fs .face-spans .ensures) (st .args .c1) (in-first g)
+    place-asks (sizes (st .args .d) _ (st .good .0)) (g .sound) (g .named) (fs .face-spans .ensures) (st .args .c1) (in-first g)
 
 place-of-requires-2 : tie.Need-place-of-requires-2
 place-of-requires-2 c κs =
     let fs = c .before .before .before .before .before in
     let st = fs .before .before in
     let g = st .pre .asked in
-    place-asks (sizes (st .args .t1) _ (st .good .0)) (g .sound) (g .named) (fs .face-spans .ensures) (st .args .c2) (in-second g)
+    place-asks (sizes (st .args .d) _ (st .good .0)) (g .sound) (g .named) (fs .face-spans .ensures) (st .args .c2) (in-second g)
 
 bridge-list-requires : tie.Need-bridge-list-requires
 bridge-list-requires c κs =
-    let p2 = c .before .before .before in
-    let p1 = p2 .before .before .before in
-    let fs = p1 .before .before .before in
+    let p2 = c .before .before in
+    let p1 = p2 .before .before in
+    let fs = p1 .before .before .before .before in
     let st = fs .before .before in
-    bridging (sizes (st .args .t1) _ (st .good .0)) (st .pre) (fs .face-spans .ensures) (p1 .place-of .ensures) (p2 .place-of2 .ensures)
+    bridging (sizes (st .args .d) _ (st .good .0)) (st .pre) (fs .face-spans .ensures) (p1 .place-of .ensures) (p2 .place-of2 .ensures)
 
 vertex-of-requires : tie.Need-vertex-of-requires
 vertex-of-requires c κs =
-    let p1 = c .before .before .before .before .before .before .before .before .before in
-    let fs = p1 .before .before .before in
+    let p1 = c .before .before .before .before .before .before in
+    let fs = p1 .before .before .before .before in
     let st = fs .before .before in
     let g = st .pre .asked in
-    vertex-asks (sizes (st .args .t1) _ (st .good .0)) (g .sound) (g .named) (fs .face-spans .ensures) (st .args .c1) (in-first g) (st .args .s1) (at-first g) (p1 .place-of .ensures)
+    vertex-asks (sizes (st .args .d) _ (st .good .0)) (g .sound) (g .named) (fs .face-spans .ensures) (st .args .c1) (in-first g) (st .args .s1) (at-first g) (p1 .place-of .ensures)
 
 vertex-of-requires-2 : tie.Need-vertex-of-requires-2
 vertex-of-requires-2 c κs =
-    let p2 = c .before .before .before .before .before .before .before .before .before in
+    let p2 = c .before .before .before .before .before .before in
     let fs = p2 .before .before .before .before .before .before in
     let st = fs .before .before in
     let g = st .pre .asked in
-    vertex-asks (sizes (st .args .t1) _ (st .good .0)) (g .sound) (g .named) (fs .face-spans .ensures) (st .args .c2) (in-second g) (st .args .s2) (at-second g) (p2 .place-of2 .ensures)
+    vertex-asks (sizes (st .args .d) _ (st .good .0)) (g .sound) (g .named) (fs .face-spans .ensures) (st .args .c2) (in-second g) (st .args .s2) (at-second g) (p2 .place-of2 .ensures)
 
 with-cycles-requires : tie.Need-with-cycles-requires
 with-cycles-requires c κs =
-    let bl = c .before .before .before .before .before .before in
-    let fs = bl .before .before .before .before .before .before .before .before .before .before in
+    let bl = c .before .before .before .before in
+    let fs = bl .before .before .before .before .before .before .before .before .before in
     let st = fs .before .before in
     let b = bl .bridge-list .ensures in
-    (st .pre .asked .named, (b .building, joint-fits (sizes (st .args .t1) _ (st .good .0)) (st .pre) (fs .face-spans .ensures) b))
+    (st .pre .asked .named, (b .building, joint-fits (sizes (st .args .d) _ (st .good .0)) (st .pre) (fs .face-spans .ensures) b))
 
 append-open-read-requires : tie.Need-append-open-read-requires
 append-open-read-requires c κs =
     let w = c .with-cycles in
     let v2 = c .before in
-    let v1 = v2 .before .before .before in
-    let bl = v1 .before .before .before in
-    let p2 = bl .before .before .before .before in
-    let p1 = p2 .before .before .before in
-    let fs = p1 .before .before .before in
+    let v1 = v2 .before .before in
+    let bl = v1 .before .before in
+    let p2 = bl .before .before .before in
+    let p1 = p2 .before .before in
+    let fs = p1 .before .before .before .before in
     let st = fs .before .before in
-    let z = sizes (st .args .t1) _ (st .good .0) in
+    let z = sizes (st .args .d) _ (st .good .0) in
     let g = st .pre .asked in
     let s = fs .face-spans .ensures in
     let e1 = vertex-is z (g .sound) (g .named) s (st .args .c1) (in-first g) (st .args .s1) (at-first g) (p1 .place-of .ensures) (v1 .vertex-of .result) (v1 .vertex-of .ensures) in
@@ -77,13 +77,13 @@ returns : tie.Need-returns
 returns c =
     let w = c .before .with-cycles in
     let v2 = c .before .before in
-    let v1 = v2 .before .before .before in
-    let bl = v1 .before .before .before in
-    let p2 = bl .before .before .before .before in
-    let p1 = p2 .before .before .before in
-    let fs = p1 .before .before .before in
+    let v1 = v2 .before .before in
+    let bl = v1 .before .before in
+    let p2 = bl .before .before .before in
+    let p1 = p2 .before .before in
+    let fs = p1 .before .before .before .before in
     let st = fs .before .before in
-    let z = sizes (st .args .t1) _ (st .good .0) in
+    let z = sizes (st .args .d) _ (st .good .0) in
     let g = st .pre .asked in
     let s = fs .face-spans .ensures in
     let e1 = vertex-is z (g .sound) (g .named) s (st .args .c1) (in-first g) (st .args .s1) (at-first g) (p1 .place-of .ensures) (v1 .vertex-of .result) (v1 .vertex-of .ensures) in

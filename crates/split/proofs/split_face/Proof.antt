@@ -12,54 +12,54 @@ face-spans-requires c κs = search needs
 
 place-of-requires : tie.Need-place-of-requires
 place-of-requires c κs =
-    let fs = c .before .before in
+    let fs = c .before .before .before in
     let st = fs .before .before in
-    let z = sizes (st .args .t1) _ (st .good .0) in
+    let z = sizes (st .args .d) _ (st .good .0) in
     let g = st .pre .asked in
     place-asks z (g .sound) (g .named) (fs .face-spans .ensures) (st .args .c) (in-first g)
 
 halves-requires : tie.Need-halves-requires
 halves-requires c κs =
-    let po = c .before .before .before in
-    let fs = po .before .before .before in
+    let po = c .before .before in
+    let fs = po .before .before .before .before in
     let st = fs .before .before in
-    parting (sizes (st .args .t1) _ (st .good .0)) (st .pre) (fs .face-spans .ensures) (po .place-of .ensures)
+    parting (sizes (st .args .d) _ (st .good .0)) (st .pre) (fs .face-spans .ensures) (po .place-of .ensures)
 
 vertex-of-requires : tie.Need-vertex-of-requires
 vertex-of-requires c κs =
-    let po = c .before .before .before .before .before .before in
-    let fs = po .before .before .before in
+    let po = c .before .before .before .before in
+    let fs = po .before .before .before .before in
     let st = fs .before .before in
     let g = st .pre .asked in
-    vertex-asks (sizes (st .args .t1) _ (st .good .0)) (g .sound) (g .named) (fs .face-spans .ensures) (st .args .c) (in-first g) (st .args .s1) (at-first g) (po .place-of .ensures)
+    vertex-asks (sizes (st .args .d) _ (st .good .0)) (g .sound) (g .named) (fs .face-spans .ensures) (st .args .c) (in-first g) (st .args .s1) (at-first g) (po .place-of .ensures)
 
 vertex-of-requires-2 : tie.Need-vertex-of-requires-2
 vertex-of-requires-2 c κs =
-    let po = c .before .before .before .before .before .before .before .before .before in
-    let fs = po .before .before .before in
+    let po = c .before .before .before .before .before .before in
+    let fs = po .before .before .before .before in
     let st = fs .before .before in
     let g = st .pre .asked in
-    vertex-asks (sizes (st .args .t1) _ (st .good .0)) (g .sound) (g .named) (fs .face-spans .ensures) (st .args .c) (in-first g) (st .args .s2) (at-second g) (po .place-of .ensures)
+    vertex-asks (sizes (st .args .d) _ (st .good .0)) (g .sound) (g .named) (fs .face-spans .ensures) (st .args .c) (in-first g) (st .args .s2) (at-second g) (po .place-of .ensures)
 
 with-cycles-requires : tie.Need-with-cycles-requires
 with-cycles-requires c κs =
-    let ha = c .before .before .before .before .before .before .before .before in
-    let po = ha .before .before .before .before in
-    let fs = po .before .before .before in
+    let ha = c .before .before .before .before .before .before in
+    let po = ha .before .before .before in
+    let fs = po .before .before .before .before in
     let st = fs .before .before in
     let b = ha .halves .ensures .0 in
-    (st .pre .asked .named, (b .building, near-fits (sizes (st .args .t1) _ (st .good .0)) (st .pre) (fs .face-spans .ensures) b))
+    (st .pre .asked .named, (b .building, near-fits (sizes (st .args .d) _ (st .good .0)) (st .pre) (fs .face-spans .ensures) b))
 
 append-open-read-requires : tie.Need-append-open-read-requires
 append-open-read-requires c κs =
     let w = c .with-cycles in
     let v2 = c .before .before .before in
-    let v1 = v2 .before .before .before in
-    let ha = v1 .before .before .before in
-    let po = ha .before .before .before .before in
-    let fs = po .before .before .before in
+    let v1 = v2 .before .before in
+    let ha = v1 .before .before in
+    let po = ha .before .before .before in
+    let fs = po .before .before .before .before in
     let st = fs .before .before in
-    let z = sizes (st .args .t1) _ (st .good .0) in
+    let z = sizes (st .args .d) _ (st .good .0) in
     let g = st .pre .asked in
     let s = fs .face-spans .ensures in
     let e1 = vertex-is z (g .sound) (g .named) s (st .args .c) (in-first g) (st .args .s1) (at-first g) (po .place-of .ensures) (v1 .vertex-of .result) (v1 .vertex-of .ensures) in
@@ -71,12 +71,12 @@ with-face-requires c κs =
     let o = c .append-open-read in
     let w = c .before .with-cycles in
     let v2 = c .before .before .before .before in
-    let v1 = v2 .before .before .before in
-    let ha = v1 .before .before .before in
-    let po = ha .before .before .before .before in
-    let fs = po .before .before .before in
+    let v1 = v2 .before .before in
+    let ha = v1 .before .before in
+    let po = ha .before .before .before in
+    let fs = po .before .before .before .before in
     let st = fs .before .before in
-    let z = sizes (st .args .t1) _ (st .good .0) in
+    let z = sizes (st .args .d) _ (st .good .0) in
     let g = st .pre .asked in
     let s = fs .face-spans .ensures in
     let e1 = vertex-is z (g .sound) (g .named) s (st .args .c) (in-first g) (st .args .s1) (at-first g) (po .place-of .ensures) (v1 .vertex-of .result) (v1 .vertex-of .ensures) in
@@ -88,12 +88,12 @@ returns c =
     let o = c .before .append-open-read in
     let w = c .before .before .with-cycles in
     let v2 = c .before .before .before .before .before in
-    let v1 = v2 .before .before .before in
-    let ha = v1 .before .before .before in
-    let po = ha .before .before .before .before in
-    let fs = po .before .before .before in
+    let v1 = v2 .before .before in
+    let ha = v1 .before .before in
+    let po = ha .before .before .before in
+    let fs = po .before .before .before .before in
     let st = fs .before .before in
-    let z = sizes (st .args .t1) _ (st .good .0) in
+    let z = sizes (st .args .d) _ (st .good .0) in
     let g = st .pre .asked in
     let s = fs .face-spans .ensures in
     let e1 = vertex-is z (g .sound) (g .named) s (st .args .c) (in-first g) (st .args .s1) (at-first g) (po .place-of .ensures) (v1 .vertex-of .result) (v1 .vertex-of .ensures) in
