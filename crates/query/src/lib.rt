@@ -434,6 +434,8 @@ pub fn star(d: Drawing, id: u32, buffer: &mut [u32]) -> Counted
     if sound::sound(d) {
         let t = store::index_of(d);
         let n = d.count;
+        let cy = d.cycles;
+        let st = d.steps;
         return star_in(
             &t.ids,
             &t.kinds,
@@ -441,8 +443,8 @@ pub fn star(d: Drawing, id: u32, buffer: &mut [u32]) -> Counted
             &t.ends,
             &t.cycles,
             n,
-            &d.cycles,
-            &d.steps,
+            &cy,
+            &st,
             id,
             buffer,
         );

@@ -424,7 +424,9 @@ fn file_length(d: Drawing) -> usize
     let cells = d.cells;
     let m = measure_cells(cells, n);
     let k = m.cycles;
-    let rings = rings_length(&d.cycles, k, &d.steps);
+    let cy = d.cycles;
+    let st = d.steps;
+    let rings = rings_length(&cy, k, &st);
     let a = number::number_width(d.next);
     let b = number::number_width(n as u32);
     a + (b + (m.heads + (rings + 16 * m.bends)))
@@ -448,7 +450,9 @@ fn write_sound(d: Drawing, buffer: &mut [u8]) -> Written
     let n = d.count;
     let at = put_two(d.next, n as u32, buffer, 0);
     let cells = d.cells;
-    let end = put_cells(cells, n, &p.xs, &p.ys, &d.cycles, &d.steps, buffer, at);
+    let cy = d.cycles;
+    let st = d.steps;
+    let end = put_cells(cells, n, &p.xs, &p.ys, &cy, &st, buffer, at);
     Written {
         number: 0,
         count: end,

@@ -12,14 +12,14 @@ sound-requires : tie.Need-sound-requires
 sound-requires c κs = search needs
 
 index-of-requires : tie.Need-index-of-requires
-index-of-requires c κs = sound-fits (c .before .before .before .args .t1) (truth (sym (c .before .sound .ensures) ∙ c .if1 .taken)) .cells
+index-of-requires c κs = sound-fits (c .before .before .before .args .d) (truth (sym (c .before .sound .ensures) ∙ c .if1 .taken)) .cells
 
 star-in-requires : tie.Need-star-in-requires
 star-in-requires c κs =
-    let x = c .before .before .before .before .before .before .before .before .before .before in
+    let x = c .before .before .before .before .before .before .before .before .before .before .before in
     let s = x .before .before in
     let b = s .before .before in
-    sound-rows (b .args .t1) (sizes (b .args .t1) _ (b .good .0)) (x .index-of .result) (x .index-of .ensures) (truth (sym (s .sound .ensures) ∙ x .before .if1 .taken))
+    sound-rows (b .args .d) (sizes (b .args .d) _ (b .good .0)) (x .index-of .result) (x .index-of .ensures) (truth (sym (s .sound .ensures) ∙ x .before .if1 .taken))
 
 same-length : tie.Need-same-length
 same-length c = search needs
@@ -27,17 +27,17 @@ same-length c = search needs
 returns : tie.Need-returns
 returns c =
     let r = c .before .before in
-    let x = r .before .before .before .before .before .before .before .before .before .before .before in
+    let x = r .before .before .before .before .before .before .before .before .before .before .before .before in
     let s = x .before .before in
     let b = s .before .before in
     r .star-in .ensures
-    ∙ star-answer (b .args .t1) (sizes (b .args .t1) _ (b .good .0)) (x .index-of .result) (x .index-of .ensures) (truth (sym (s .sound .ensures) ∙ x .before .if1 .taken)) (b .args .id) (b .args .buffer .now)
+    ∙ star-answer (b .args .d) (sizes (b .args .d) _ (b .good .0)) (x .index-of .result) (x .index-of .ensures) (truth (sym (s .sound .ensures) ∙ x .before .if1 .taken)) (b .args .id) (b .args .buffer .now)
 
 returns-2 : tie.Need-returns-2
 returns-2 c =
     let s = c .before in
     let b = s .before .before in
-    star-unsound (b .args .t1) (b .args .id) (b .args .buffer .now) (sym (s .sound .ensures) ∙ c .if1 .left)
+    star-unsound (b .args .d) (b .args .id) (b .args .buffer .now) (sym (s .sound .ensures) ∙ c .if1 .left)
 
 pub star-spec : {M : Type 1} → statement M
 star-spec =

@@ -15,39 +15,39 @@ use borrow.Author.Needs.{needs}
 use Rattle.writer.proofs.file_length.Statement.{statement}
 use Rattle.writer.proofs.file_length.Tie as tie
 
-size : (c : tie.Start) → Sizes (c .args .t1)
-size c = sizes (c .args .t1) _ (c .good .0)
+size : (c : tie.Start) → Sizes (c .args .d)
+size c = sizes (c .args .d) _ (c .good .0)
 
 -- the sum is the file's length
 module _ (c : tie.After-number-width2) where
-  sum-is : c .before .number-width .result + (c .number-width2 .result + (c .before .before .before .before .before .before .measure-cells .result .heads + (c .before .before .rings-length .result + 16 * c .before .before .before .before .before .before .measure-cells .result .bends))) ≡ length (fileOf (sheetOf (c .before .before .before .before .before .before .before .before .args .t1)))
+  sum-is : c .before .number-width .result + (c .number-width2 .result + (c .before .before .before .before .before .before .before .measure-cells .result .heads + (c .before .before .rings-length .result + 16 * c .before .before .before .before .before .before .before .measure-cells .result .bends))) ≡ length (fileOf (sheetOf (c .before .before .before .before .before .before .before .before .before .args .d)))
   sum-is =
-      let s = c .before .before .before .before .before .before .before .before in
-      let d = s .args .t1 in
-      let m = c .before .before .before .before .before .before .measure-cells .ensures in
+      let s = c .before .before .before .before .before .before .before .before .before in
+      let d = s .args .d in
+      let m = c .before .before .before .before .before .before .before .measure-cells .ensures in
       let r = c .before .before .rings-length .ensures ∙ ap (λ (k : ℕ). length (spread cycleBytes (cyclesOf (take k (d .cycles)) (d .steps)))) (m .cycles) in
       (λ i. c .before .number-width .ensures i + (c .number-width2 .ensures i + (m .heads i + (r i + 16 * m .bends i)))) ∙ sym (file-bytes d (size s) (s .pre))
 
-  small : c .before .number-width .result + (c .number-width2 .result + (c .before .before .before .before .before .before .measure-cells .result .heads + (c .before .before .rings-length .result + 16 * c .before .before .before .before .before .before .measure-cells .result .bends))) ≤ 65536
-  small = subst (λ (n : ℕ). n ≤ 65536) (sym sum-is) (file-small (c .before .before .before .before .before .before .before .before .args .t1) (size (c .before .before .before .before .before .before .before .before)) (c .before .before .before .before .before .before .before .before .pre))
+  small : c .before .number-width .result + (c .number-width2 .result + (c .before .before .before .before .before .before .before .measure-cells .result .heads + (c .before .before .rings-length .result + 16 * c .before .before .before .before .before .before .before .measure-cells .result .bends))) ≤ 65536
+  small = subst (λ (n : ℕ). n ≤ 65536) (sym sum-is) (file-small (c .before .before .before .before .before .before .before .before .before .args .d) (size (c .before .before .before .before .before .before .before .before .before)) (c .before .before .before .before .before .before .before .before .before .pre))
 
 measure-cells-requires : tie.Need-measure-cells-requires
-measure-cells-requires c κs = let s = c .before in heads-ready (s .args .t1) (size s) (s .pre)
+measure-cells-requires c κs = let s = c .before in heads-ready (s .args .d) (size s) (s .pre)
 
 rings-length-requires : tie.Need-rings-length-requires
 rings-length-requires c κs =
-    let s = c .before .before .before .before .before in
-    let d = s .args .t1 in
-    subst (λ (k : ℕ). Rings (d .cycles) 0 k (d .steps) 0) (sym (c .before .before .before .measure-cells .ensures .cycles)) (rings-ready d (size s) (s .pre))
+    let s = c .before .before .before .before .before .before in
+    let d = s .args .d in
+    subst (λ (k : ℕ). Rings (d .cycles) 0 k (d .steps) 0) (sym (c .before .before .before .before .measure-cells .ensures .cycles)) (rings-ready d (size s) (s .pre))
 
 number-width-requires : tie.Need-number-width-requires
-number-width-requires c κs = let s = c .before .before .before .before .before .before in next-spells (s .args .t1) (size s) (s .pre)
+number-width-requires c κs = let s = c .before .before .before .before .before .before .before in next-spells (s .args .d) (size s) (s .pre)
 
 cast-number-width : tie.Need-cast-number-width
-cast-number-width c = let s = c .before .before .before .before .before .before .before in let f = s .pre .fits .cells in search needs
+cast-number-width c = let s = c .before .before .before .before .before .before .before .before in let f = s .pre .fits .cells in search needs
 
 number-width-requires-2 : tie.Need-number-width-requires-2
-number-width-requires-2 c κs = let s = c .before .before .before .before .before .before .before in let f = s .pre .fits .cells in omega arith
+number-width-requires-2 c κs = let s = c .before .before .before .before .before .before .before .before in let f = s .pre .fits .cells in omega arith
 
 mul-result : tie.Need-mul-result
 mul-result c = let e = small (c .before) in record { fits = omega arith }

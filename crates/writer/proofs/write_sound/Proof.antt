@@ -16,14 +16,14 @@ use borrow.Author.Needs.{needs}
 use Rattle.writer.proofs.write_sound.Statement.{statement}
 use Rattle.writer.proofs.write_sound.Tie as tie
 
-size : (c : tie.Start) → Sizes (c .args .t1)
-size c = sizes (c .args .t1) _ (c .good .0)
+size : (c : tie.Start) → Sizes (c .args .d)
+size c = sizes (c .args .d) _ (c .good .0)
 
 -- there is room for the file
-room : (c : tie.Else1) → 0 + length ((spell (c .before .before .before .args .t1 .next) ++ spell (c .before .before .before .args .t1 .count)) ++ spread cellBytes (sheetOf (c .before .before .before .args .t1) .cells)) ≤ length (c .before .before .before .args .buffer .now)
+room : (c : tie.Else1) → 0 + length ((spell (c .before .before .before .args .d .next) ++ spell (c .before .before .before .args .d .count)) ++ spread cellBytes (sheetOf (c .before .before .before .args .d) .cells)) ≤ length (c .before .before .before .args .buffer .now)
 room c =
     let s = c .before .before .before in
-    let e = ap length (file-is (s .args .t1) (size s) (s .pre)) in
+    let e = ap length (file-is (s .args .d) (size s) (s .pre)) in
     let l = c .before .file-length .ensures in
     let h = c .if1 .left in
     omega arith
@@ -32,7 +32,7 @@ file-length-requires : tie.Need-file-length-requires
 file-length-requires c κs = search needs
 
 returns : tie.Need-returns
-returns c = let s = c .before .before .before in filled-short (fileOf (sheetOf (s .args .t1))) (s .args .buffer .now) (c .before .file-length .result) (c .before .file-length .ensures) (c .if1 .taken)
+returns c = let s = c .before .before .before in filled-short (fileOf (sheetOf (s .args .d))) (s .args .buffer .now) (c .before .file-length .result) (c .before .file-length .ensures) (c .if1 .taken)
 
 points-of-requires : tie.Need-points-of-requires
 points-of-requires c κs = size (c .before .before .before .before) .bends
@@ -43,17 +43,17 @@ cast-put-two c = let s = c .before .before .before .before .before in let f = s 
 put-two-requires : tie.Need-put-two-requires
 put-two-requires c κs =
     let s = c .before .before .before .before .before .before in
-    let d = s .args .t1 in
+    let d = s .args .d in
     let f = s .pre .fits .cells in
     (next-spells d (size s) (s .pre), (omega arith, room-first (s .args .buffer .now) 0 (spell (d .next) ++ spell (d .count)) (spread cellBytes (sheetOf d .cells)) (room (c .before .before .before))))
 
 put-cells-requires : tie.Need-put-cells-requires
 put-cells-requires c κs =
-    let s = c .before .before .before .before .before .before .before .before .before .before .before .before .before .before .before .before .before in
-    let d = s .args .t1 in
-    let p = c .before .before .before .before .before .before .before .before .before .before .before .before .points-of in
-    let f = c .before .before .before .before .before .before .before .before .before .before .put-two in
-    let r = room-then (s .args .buffer .now) 0 (spell (d .next) ++ spell (d .count)) (spread cellBytes (sheetOf d .cells)) (f .ensures) (room (c .before .before .before .before .before .before .before .before .before .before .before .before .before .before)) in (
+    let s = c .before .before .before .before .before .before .before .before .before .before .before .before .before .before .before .before .before .before in
+    let d = s .args .d in
+    let p = c .before .before .before .before .before .before .before .before .before .before .before .before .before .points-of in
+    let f = c .before .before .before .before .before .before .before .before .before .before .before .put-two in
+    let r = room-then (s .args .buffer .now) 0 (spell (d .next) ++ spell (d .count)) (spread cellBytes (sheetOf d .cells)) (f .ensures) (room (c .before .before .before .before .before .before .before .before .before .before .before .before .before .before .before)) in (
       cells-ready d (size s) (s .pre) (p .result) (p .ensures),
       subst (λ (l : List ℕ). f .result + length l ≤ length (f .last .1 .1 .0)) (sym (cells-same d (size s) (s .pre) (p .result) (p .ensures))) r,
     )
@@ -63,13 +63,13 @@ same-length c = search needs
 
 returns-2 : tie.Need-returns-2
 returns-2 c =
-    let s = c .before .before .before .before .before .before .before .before .before .before .before .before .before .before .before .before .before .before .before .before in
-    let d = s .args .t1 in
-    let p = c .before .before .before .before .before .before .before .before .before .before .before .before .before .before .before .points-of in
-    let f = c .before .before .before .before .before .before .before .before .before .before .before .before .before .put-two in
+    let s = c .before .before .before .before .before .before .before .before .before .before .before .before .before .before .before .before .before .before .before .before .before in
+    let d = s .args .d in
+    let p = c .before .before .before .before .before .before .before .before .before .before .before .before .before .before .before .before .points-of in
+    let f = c .before .before .before .before .before .before .before .before .before .before .before .before .before .before .put-two in
     let g = c .before .before .put-cells in
-    let e = c .before .before .before .before .before .before .before .before .before .before .before .before .before .before .before .before .before .before .file-length .ensures in
-    let h = c .before .before .before .before .before .before .before .before .before .before .before .before .before .before .before .before .before .if1 .left in
+    let e = c .before .before .before .before .before .before .before .before .before .before .before .before .before .before .before .before .before .before .before .file-length .ensures in
+    let h = c .before .before .before .before .before .before .before .before .before .before .before .before .before .before .before .before .before .before .if1 .left in
     filled-put (fileOf (sheetOf d)) (omega arith)
     (put-as (sym (file-is d (size s) (s .pre)))
     (put-then (spell (d .next) ++ spell (d .count)) (spread cellBytes (sheetOf d .cells)) (f .ensures)
