@@ -46,7 +46,8 @@ pub fn face_spans(d: Drawing, ix: Index, f: u32) -> Spans
     let at = ix.cycles;
     let n = d.count;
     let row = store::find(&ids, n, f);
-    cycles::spans_of(&at, n, row, &d.cycles)
+    let cy = d.cycles;
+    cycles::spans_of(&at, n, row, &cy)
 }
 
 // The face gets other cycles.

@@ -9,25 +9,28 @@ find-requires : tie.Need-find-requires
 find-requires c κs =
     let st = c .before .before .before in
     let a = st .args in
-    finding (a .t1) (sizes (a .t1) _ (st .good .0)) (a .ix) (a .f) (st .pre)
+    finding (a .d) (sizes (a .d) _ (st .good .0)) (a .ix) (a .f) (st .pre)
 
 slice-aggregate-spans-of : tie.Need-slice-aggregate-spans-of
 slice-aggregate-spans-of c = search needs
 
+slice-aggregate-spans-of-2 : tie.Need-slice-aggregate-spans-of-2
+slice-aggregate-spans-of-2 c = search needs
+
 spans-of-requires : tie.Need-spans-of-requires
 spans-of-requires c κs =
-    let fd = c .before .before .before .before in
+    let fd = c .before .before .before in
     let st = fd .before .before .before .before in
     let a = st .args in
-    spanning (a .t1) (sizes (a .t1) _ (st .good .0)) (a .ix) (a .f) (st .pre) (fd .find .result) (fd .find .ensures)
+    spanning (a .d) (sizes (a .d) _ (st .good .0)) (a .ix) (a .f) (st .pre) (fd .find .result) (fd .find .ensures)
 
 returns : tie.Need-returns
 returns c =
-    let fd = c .before .before .before .before .before in
+    let fd = c .before .before .before .before in
     let st = fd .before .before .before .before in
     let a = st .args in
-    spanned (a .t1) (sizes (a .t1) _ (st .good .0)) (a .ix) (a .f) (st .pre) (fd .find .result) (c .spans-of .result) (fd .find .ensures) (c .spans-of .ensures)
+    spanned (a .d) (sizes (a .d) _ (st .good .0)) (a .ix) (a .f) (st .pre) (fd .find .result) (c .spans-of .result) (fd .find .ensures) (c .spans-of .ensures)
 
 pub face-spans-spec : {M : Type 1} → statement M
 face-spans-spec =
-    tie.close (tie.spec find-requires slice-aggregate-spans-of spans-of-requires returns)
+    tie.close (tie.spec find-requires slice-aggregate-spans-of slice-aggregate-spans-of-2 spans-of-requires returns)
