@@ -52,11 +52,12 @@ fn rename_ends(d: Drawing, a: u32, b: u32) -> Drawing
     ensures { λ r. ⌜ r ≡ withCells d (d .next) (d .count) (r .cells) ⌝ }
     ensures { λ r. ⌜ take (d .count) (r .cells) ≡ map (renameCell (renamed a b)) (take (d .count) (d .cells)) ⌝ }
 {
+    let cells = d.cells;
     let mut out = d;
     let n = d.count;
     let mut i: usize = 0;
     while i < n {
-        let c = d.cells[i];
+        let c = cells[i];
         let s = c.shape;
         let t = rename_shape(s, a, b);
         let e = Cell { id: c.id, shape: t };
@@ -392,11 +393,12 @@ pub fn set_ends(d: Drawing, starts: &[u32; 256], ends: &[u32; 256]) -> Drawing
     ensures { λ r. ⌜ sheetOf r ≡ withEntries (sheetOf d) (reEnded (now (starts .entry)) (now (ends .entry)) 0 (sheetOf d .cells)) ⌝ }
     ensures { λ r. ⌜ Fits r ⌝ }
 {
+    let cells = d.cells;
     let mut out = d;
     let n = d.count;
     let mut i: usize = 0;
     while i < n {
-        let c = d.cells[i];
+        let c = cells[i];
         let s = c.shape;
         let t = end_shape(s, starts[i], ends[i]);
         let e = Cell { id: c.id, shape: t };
@@ -413,8 +415,9 @@ pub fn set_position(d: Drawing, row: usize, p: Position) -> Drawing
     ensures { λ r. ⌜ sheetOf r ≡ withEntries (sheetOf d) (set (sheetOf d .cells) row (record { id = getD (ids (sheetOf d .cells)) row 0; figure = vertex p })) ⌝ }
     ensures { λ r. ⌜ Fits r ⌝ }
 {
+    let cells = d.cells;
     let mut out = d;
-    let c = d.cells[row];
+    let c = cells[row];
     let e = Cell {
         id: c.id,
         shape: Shape::Vertex(p),
