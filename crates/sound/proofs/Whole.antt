@@ -235,5 +235,9 @@ module _ (d : Drawing) (z : Sizes d) (ix : Index) (x : Indexes d ix) (b k : ℕ)
     pub sound-not-numbers : r ≡ false → false ≡ soundDrawing d
     sound-not-numbers e = sym (tests ∙ and-false (allPlaced d b) e)
 
-    pub sound-placed : r ≡ true → (p : Bool) → p ≡ allPlaced d b → p ≡ soundDrawing d
-    sound-placed e p ep = ep ∙ sym (tests ∙ and-true (allPlaced d b) e)
+    module _ (e : r ≡ true) (v : Bool) (ev : v ≡ all cellPlaced (take (d .count) (d .cells))) where
+      pub sound-not-vertices : v ≡ false → false ≡ soundDrawing d
+      sound-not-vertices h = sym (tests ∙ and-true (allPlaced d b) e ∙ and-false _ (sym ev ∙ h))
+
+      pub sound-bends : v ≡ true → (p : Bool) → p ≡ all within (take b (d .bends)) → p ≡ soundDrawing d
+      sound-bends h p ep = ep ∙ sym (tests ∙ and-true (allPlaced d b) e ∙ and-true _ (sym ev ∙ h))

@@ -8,8 +8,10 @@ ghost use Rattle.coordinate.specs.Bounds.{within};
 ghost use Rattle.store.specs.Edits.{placesOf};
 ghost use Rattle.store.specs.Index.{Rising, rowOf};
 ghost use Rattle.store.specs.View.{width, widthSum};
-ghost use Rattle.sound.specs.Soundness.{capped, sumsOf, soundDrawing, placed, allPlaced};
+ghost use Rattle.sound.specs.Soundness.{capped, sumsOf, soundDrawing, placed, cellPlaced};
 ghost use Rattle.sound.specs.Rows.{hintPlaces, Lent, Numbers, rowsOf, sideAt, isVertexIn, goesOnAt, leadsIn, joinsIn, cycleGood, cyclesGood, rowGood, allFrom, numbersGood};
+use coordinate::Position;
+use store::Cell;
 use store::Drawing;
 use store::Shape;
 
@@ -107,29 +109,37 @@ fn in_place(s: Shape) -> bool
     }
 }
 
-// Whether the vertices and the first m bends lie in bounds.
-fn all_in_place(d: Drawing, m: usize) -> bool
-    requires { ⌜ d .count ≤ cellsMost ⌝ }
-    requires { ⌜ m ≤ bendsMost ⌝ }
-    ensures { λ r. ⌜ r ≡ allPlaced d m ⌝ }
+// Whether the vertices of the first n cells lie in bounds.
+fn vertices_in_place(cells: [Cell; CELLS_MOST], n: usize) -> bool
+    requires { ⌜ n ≤ cellsMost ⌝ }
+    requires { ⌜ length cells ≡ cellsMost ⌝ }
+    ensures { λ r. ⌜ r ≡ all cellPlaced (take n cells) ⌝ }
 {
-    let n = d.count;
     let mut i: usize = 0;
     while i < n {
-        let c = d.cells[i];
+        let c = cells[i];
         let s = c.shape;
         if !in_place(s) {
             return false;
         }
         i = i + 1;
     }
-    let mut j: usize = 0;
-    while j < m {
-        let p = d.bends[j];
+    true
+}
+
+// Whether the first m bends lie in bounds.
+fn bends_in_place(bends: [Position; BENDS_MOST], m: usize) -> bool
+    requires { ⌜ m ≤ bendsMost ⌝ }
+    requires { ⌜ length bends ≡ bendsMost ⌝ }
+    ensures { λ r. ⌜ r ≡ all within (take m bends) ⌝ }
+{
+    let mut i: usize = 0;
+    while i < m {
+        let p = bends[i];
         if !coordinate::in_bounds(p) {
             return false;
         }
-        j = j + 1;
+        i = i + 1;
     }
     true
 }
@@ -510,11 +520,13 @@ pub fn sound(d: Drawing) -> bool
         return false;
     }
     let ix = store::index_of(d);
-    let Sums::Within { bends, cycles } = sums_of(&ix.bends, &ix.cycles, n, &d.cycles) else {
+    let cy = d.cycles;
+    let Sums::Within { bends, cycles } = sums_of(&ix.bends, &ix.cycles, n, &cy) else {
         return false;
     };
     let next = d.next;
-    if numbers_good(
+    let st = d.steps;
+    if !numbers_good(
         &ix.ids,
         &ix.kinds,
         &ix.starts,
@@ -522,11 +534,16 @@ pub fn sound(d: Drawing) -> bool
         &ix.bends,
         n,
         next,
-        &d.cycles,
+        &cy,
         cycles,
-        &d.steps,
+        &st,
     ) {
-        return all_in_place(d, bends);
+        return false;
     }
-    false
+    let cells = d.cells;
+    if !vertices_in_place(cells, n) {
+        return false;
+    }
+    let points = d.bends;
+    bends_in_place(points, bends)
 }
