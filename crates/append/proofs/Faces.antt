@@ -1,5 +1,5 @@
 -- Cycles put after those in use, and a face that has them. Assumes nothing.
-use Prim.Native.Nat.{ℕ, _+_, _<_, _≤_}
+use Prim.Native.Nat.{ℕ, _+_, _≤_}
 use mathlib.Core.Path.{_≡_, ap, ap₂, sym, subst, _∙_}
 use mathlib.Core.List.{List, _++_, map}
 use native.Mathlib.Omega.{arith}
@@ -7,8 +7,6 @@ use lib.ListN.{length, take, drop, length-set}
 use lib.Seq.{paste, length-paste, take-paste, take-length, length-take-le}
 use Rattle.number.specs.Readers.{spread}
 use Rattle.complex.specs.Cells.{Cycle, face}
-use Rattle.complex.specs.Sound.{idsEnd}
-use Rattle.store.specs.declared.Shape.{Shape}
 use Rattle.store.specs.declared.Shape.the-variants.{Face}
 use Rattle.store.specs.declared.Drawing.{Drawing}
 use Rattle.store.specs.Sizes.{Sizes}
@@ -19,9 +17,14 @@ use Rattle.store.specs.Edits.{withCycles, withSteps}
 use Rattle.store.proofs.Encode.{numbers, places, cycles-real, length-cycles, width-sum}
 use Rattle.store.proofs.Pools.{held-cycles}
 use Rattle.store.proofs.Grow.{append, no-more}
-use Rattle.append.specs.Appends.{Room, withCell, withMoreCycles}
+use Rattle.append.specs.Appends.{Room, withCell}
 use Rattle.append.specs.Requirements.{FaceRoom}
 use Rattle.append.proofs.Bends.{Grew}
+
+-- d with ns and st after the cycles and the steps in use
+abbrev pub withMoreCycles : Drawing → List ℕ → List ℕ → Drawing
+withMoreCycles d ns st =
+    withSteps (withCycles d (paste (d .cycles) (cycleTotal d) ns (length ns))) (paste (d .steps) (stepTotal d) st (length st))
 
 -- the first n elements, pasted, are the whole of themselves
 paste-front : {A : Type 0} (l : List A) (at : ℕ) (s : List A) (n : ℕ) → n ≤ length s → paste l at s n ≡ paste l at (take n s) (length (take n s))
@@ -35,9 +38,6 @@ module _ (d : Drawing) (counts : List ℕ) (n : ℕ) (steps : List ℕ) (m : ℕ
       ap₂ (λ (x y : List ℕ). withSteps (withCycles d x) y)
       (e ∙ ap (λ (k : ℕ). paste (d .cycles) k counts n) p ∙ paste-front (d .cycles) (cycleTotal d) counts n hn)
       (f ∙ ap (λ (k : ℕ). paste (d .steps) k steps m) (q ∙ ap (λ (k : ℕ). widthSum (take k (d .cycles))) p) ∙ paste-front (d .steps) (stepTotal d) steps m hm)
-
-  pub cycle-room : (q : Drawing) → q ≡ withMoreCycles d (take n counts) (take m steps) → d .count < 256 → d .next < idsEnd → (q .count < 256) × (q .next < idsEnd)
-  cycle-room q e h g = subst (λ (r : Drawing). (r .count < 256) × (r .next < idsEnd)) (sym e) (h, g)
 
   module _ (z : Sizes d) (h : FaceRoom d counts n steps m) where
     abbrev ns : List ℕ
@@ -67,8 +67,8 @@ module _ (d : Drawing) (counts : List ℕ) (n : ℕ) (steps : List ℕ) (m : ℕ
         omega (arith, h .room .steps)
 
     -- a face's cycles, and then its cell
-    pub face-grown : (q r : Drawing) (s : Shape) → q ≡ withMoreCycles d (take n counts) (take m steps) → s ≡ Face n → r ≡ withCell q s → Grew d (face ks) r
-    face-grown q r s p t f =
+    pub face-grown : (q : Drawing) → q ≡ withMoreCycles d (take n counts) (take m steps) → Grew d (face ks) (withCell q (Face n))
+    face-grown q p =
         let st = take m steps in
         let zc = z .cycles in
         let zs = z .steps in
@@ -79,7 +79,7 @@ module _ (d : Drawing) (counts : List ℕ) (n : ℕ) (steps : List ℕ) (m : ℕ
         let cy = paste (d .cycles) (cycleTotal d) ns (length ns) in
         let sp = paste (d .steps) (stepTotal d) st (length st) in
         let bends = h .room .fits .bends in
-        subst (Grew d (face ks)) (sym (f ∙ ap₂ withCell p (t ∙ ap Face (sym count-is))))
+        subst (Grew d (face ks)) (sym (ap₂ withCell p (ap Face (sym count-is))))
         (append d z (h .room .fits) (h .room .cells) (face ks) cy sp (d .bends)
         (record {
           cells = length-set (d .cells) (d .count) _ ∙ z .cells;

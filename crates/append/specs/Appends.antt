@@ -14,7 +14,7 @@ use Rattle.store.specs.declared.Shape.{Shape}
 use Rattle.store.specs.declared.Drawing.{Drawing}
 use Rattle.store.specs.View.{Fits, cycleTotal, stepTotal, bendTotal}
 use Rattle.store.specs.Places.{cyclesIn, bendsIn, stepsIn}
-use Rattle.store.specs.Edits.{withCells, withBends, withCycles, withSteps}
+use Rattle.store.specs.Edits.{withCells, withBends}
 
 -- ---- sheets
 -- the sheet with more cells, at the next ids
@@ -51,8 +51,3 @@ withCell d s = withCells d (d .next + 1) (d .count + 1) (set (d .cells) (d .coun
 -- d with bs after the bends in use
 abbrev pub withMoreBends : Drawing → List Position → Drawing
 withMoreBends d bs = withBends d (paste (d .bends) (bendTotal d) bs (length bs))
-
--- d with ns and st after the cycles and the steps in use
-abbrev pub withMoreCycles : Drawing → List ℕ → List ℕ → Drawing
-withMoreCycles d ns st =
-    withSteps (withCycles d (paste (d .cycles) (cycleTotal d) ns (length ns))) (paste (d .steps) (stepTotal d) st (length st))

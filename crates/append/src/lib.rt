@@ -5,9 +5,9 @@ ghost use lib.Seq.{paste};
 ghost use Rattle.complex.specs.Cells.{vertex, openEdge, closedEdge, face};
 ghost use Rattle.complex.specs.Sound.{idsEnd};
 ghost use Rattle.bends.specs.Bends.{positionsAt};
-ghost use Rattle.store.specs.View.{sheetOf, Fits, cyclesOf, widthSum, cycleTotal, stepTotal, bendTotal, bendSum};
+ghost use Rattle.store.specs.View.{sheetOf, Fits, cyclesOf, widthSum, bendTotal, bendSum};
 ghost use Rattle.store.specs.Edits.{appended};
-ghost use Rattle.append.specs.Appends.{Room, appendedAll, figureAt, withCell, withMoreBends, withMoreCycles};
+ghost use Rattle.append.specs.Appends.{Room, appendedAll, figureAt, withCell, withMoreBends};
 ghost use Rattle.append.specs.Runs.{run, runsOf, InRange, beforeSecond, runsLength, inRun, runPlace, runBend};
 ghost use Rattle.append.specs.Copies.{repeated, withCopies};
 ghost use Rattle.append.specs.Requirements.{RunsRoom, BytesRoom, FaceRoom, CopiesRoom};
@@ -41,22 +41,6 @@ pub fn append_vertex(d: Drawing, p: Position) -> Drawing
         id: id,
         shape: Shape::Vertex(p),
     };
-    out.cells[n] = c;
-    out.count = n + 1;
-    out.next = id + 1;
-    out
-}
-
-// A cell of this shape at the next id, its places being filled already.
-fn put_cell(d: Drawing, s: Shape) -> Drawing
-    requires { ⌜ d .count < 256 ⌝ }
-    requires { ⌜ d .next < idsEnd ⌝ }
-    ensures { λ r. ⌜ r ≡ withCell d s ⌝ }
-{
-    let mut out = d;
-    let n = d.count;
-    let id = d.next;
-    let c = Cell { id: id, shape: s };
     out.cells[n] = c;
     out.count = n + 1;
     out.next = id + 1;
@@ -265,27 +249,6 @@ pub fn step_total(cycles: &[u32; 512], n: usize) -> usize
     sum
 }
 
-// The cycles in lent arrays, put after the cycles and the steps of d.
-fn fill_cycles(d: Drawing, counts: &[u32; 512], n: usize, steps: &[u32; 2048], m: usize) -> Drawing
-    requires { ⌜ Fits d ⌝ }
-    requires { ⌜ length (now counts) ≡ 512 ⌝ }
-    requires { ⌜ length (now steps) ≡ 2048 ⌝ }
-    requires { ⌜ cycleTotal d + n ≤ 512 ⌝ }
-    requires { ⌜ stepTotal d + m ≤ 2048 ⌝ }
-    ensures { λ r. ⌜ r ≡ withMoreCycles d (take n (now (counts .entry))) (take m (now (steps .entry))) ⌝ }
-{
-    let a = store::cycle_total(d);
-    let mut cy = d.cycles;
-    let mut st = d.steps;
-    let b = step_total(&cy, a);
-    copy_numbers(counts, n, &mut cy, a);
-    copy_numbers(steps, m, &mut st, b);
-    let mut out = d;
-    out.cycles = cy;
-    out.steps = st;
-    out
-}
-
 // A new face: n cycles, whose steps take m places.
 pub fn append_face(
     d: Drawing,
@@ -298,9 +261,23 @@ pub fn append_face(
     ensures { λ r. ⌜ sheetOf r ≡ appended (sheetOf d) (face (cyclesOf (take n (now (counts .entry))) (now (steps .entry)))) ⌝ }
     ensures { λ r. ⌜ Fits r ⌝ }
 {
-    let out = fill_cycles(d, counts, n, steps, m);
+    let a = store::cycle_total(d);
+    let mut cy = d.cycles;
+    let mut st = d.steps;
+    let b = step_total(&cy, a);
+    copy_numbers(counts, n, &mut cy, a);
+    copy_numbers(steps, m, &mut st, b);
+    let mut out = d;
+    out.cycles = cy;
+    out.steps = st;
+    let k = d.count;
+    let id = d.next;
     let s = Shape::Face { cycles: n as u32 };
-    put_cell(out, s)
+    let c = Cell { id: id, shape: s };
+    out.cells[k] = c;
+    out.count = k + 1;
+    out.next = id + 1;
+    out
 }
 
 // The places of `bends` that the cells before a row take.
