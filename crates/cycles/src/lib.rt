@@ -151,14 +151,17 @@ pub fn replace_at(
     ensures { λ r. ⌜ sheetOf r ≡ withRow (sheetOf d) row (face (cyclesOf (take n (now (counts .entry))) (now (steps .entry)))) ⌝ }
     ensures { λ r. ⌜ Fits r ⌝ }
 {
-    let t = spans_of(at, d.count, row, &d.cycles);
+    let own_cycles = d.cycles;
+    let own_steps = d.steps;
+    let cells = d.cells;
+    let t = spans_of(at, d.count, row, &own_cycles);
     let c = t.cycles;
     let s = t.steps;
     let mut cy = d.cycles;
     let mut st = d.steps;
-    splice(&d.cycles, c, counts, n, &mut cy);
-    splice(&d.steps, s, steps, m, &mut st);
-    let was = d.cells[row];
+    splice(&own_cycles, c, counts, n, &mut cy);
+    splice(&own_steps, s, steps, m, &mut st);
+    let was = cells[row];
     let made = Cell {
         id: was.id,
         shape: Shape::Face { cycles: n as u32 },
