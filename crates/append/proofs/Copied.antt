@@ -1,5 +1,5 @@
 -- The cell in a row, where its bends stand, and a drawing with copies of it. Assumes nothing.
-use Prim.Native.Nat.{ℕ, zero, suc, _+_, _<_, _≤_}
+use Prim.Native.Nat.{ℕ, zero, suc, _+_, _*_, _<_, _≤_}
 use mathlib.Core.Path.{_≡_, refl, ap, ap₂, sym, subst, _∙_}
 use mathlib.Core.Bool.{Bool, true, false, false≢true, cond}
 use mathlib.Core.List.{List, [], _∷_, _++_, map, append-assoc, append-nil}
@@ -7,12 +7,12 @@ use mathlib.Core.Option.{some}
 use native.Mathlib.Omega.{arith}
 use lib.Dec.{eqb}
 use lib.ListN.{length, take, drop, getD, replicate, length-replicate, length-append, List·getD-map}
-use lib.Seq.{length-paste, take-paste, take-length, take-all, take-at, drop-at, take-take, getD-take, split-at}
+use lib.Seq.{paste, length-paste, take-paste, take-length, take-all, take-at, drop-at, take-take, getD-take, split-at}
 use Rattle.coordinate.specs.declared.Position.{Position}
 use Rattle.number.specs.Readers.{spread}
 use Rattle.complex.specs.Cells.{Cycle, Figure, vertex, openEdge, closedEdge, face, LiveCell, isFace, origin, ids, lookup, someIf}
-use Rattle.complex.specs.Sound.{idsEnd}
 use Rattle.complex.specs.Edits.{numbered}
+use Rattle.store.specs.declared.Shape.{Shape}
 use Rattle.store.specs.declared.Cell.{Cell}
 use Rattle.store.specs.declared.Drawing.{Drawing}
 use Rattle.store.specs.Sizes.{Sizes}
@@ -20,6 +20,7 @@ use Rattle.store.specs.Sheet.{allReal}
 use Rattle.store.specs.Index.{rowOf}
 use Rattle.store.specs.View.{sheetOf, Fits, bendCount, bendSum, bendTotal}
 use Rattle.store.specs.Places.{shapeOf, headOf, cyclesIn, bendsIn, cyclesAt, bendsAt}
+use Rattle.store.specs.Edits.{withBends, withCells}
 use Rattle.store.proofs.Lists.{map-append}
 use Rattle.store.proofs.Encode.{flat-append, bend-sum}
 use Rattle.store.proofs.Rows.{getD-any}
@@ -27,7 +28,7 @@ use Rattle.store.proofs.Stands.{begins-split, Stands, stands, viewed, fitting, 
 use Rattle.store.proofs.Grow.{begins-more, sheet-is, next-is}
 use Rattle.append.specs.Appends.{appendedAll, figureAt, withMoreBends}
 use Rattle.append.specs.Runs.{run}
-use Rattle.append.specs.Copies.{repeated, copyCells, withCopies}
+use Rattle.append.specs.Copies.{repeated, copyCells}
 use Rattle.append.specs.Requirements.{CopiesRoom}
 use Rattle.append.proofs.CopyLists.{repeated-length, copies-length, copy-heads, copy-bends, copy-cycles}
 
@@ -86,15 +87,21 @@ module _ (d : Drawing) (z : Sizes d) (f : Fits d) (row : ℕ) (h : row < d .coun
       ∙ ap (take (length b)) (drop-at p (b ++ (q ++ t)) (bendSum (take row (d .cells))) before-length)
       ∙ take-at b (q ++ t) (length b) refl
 
-  -- and within the array
-  pub row-range : bendSum (take row (d .cells)) + length (bendsIn (figureAt (sheetOf d) row)) ≤ 2048
-  row-range =
+  -- and within those in use
+  pub row-within : bendSum (take row (d .cells)) + length (bendsIn (figureAt (sheetOf d) row)) ≤ bendTotal d
+  row-within =
       let p = before-length in
       let e = ap length bends-split in
       let t = bend-total d xs (stands d z f) in
-      let m = f .bends in
       let a = length-append (spread bendsAt (take row xs)) (bendsIn (figureAt (sheetOf d) row) ++ spread bendsAt (drop (suc row) xs)) in
       let b = length-append (bendsIn (figureAt (sheetOf d) row)) (spread bendsAt (drop (suc row) xs)) in
+      omega arith
+
+  -- and within the array
+  pub row-range : bendSum (take row (d .cells)) + length (bendsIn (figureAt (sheetOf d) row)) ≤ 2048
+  row-range =
+      let r = row-within in
+      let m = f .bends in
       omega arith
 
 -- an id's figure stands in its row
@@ -125,7 +132,9 @@ module _ (d : Drawing) (z : Sizes d) (row n : ℕ) (h : CopiesRoom d row n) wher
   new = numbered (sheetOf d .next) (replicate n (figureAt (sheetOf d) row))
 
   abbrev grownBy : Drawing
-  grownBy = withCopies (withMoreBends d (repeated n (bendsIn (figureAt (sheetOf d) row)))) (shapeOf (figureAt (sheetOf d) row)) n
+  grownBy =
+      withCells (withMoreBends d (repeated n (bendsIn (figureAt (sheetOf d) row)))) (d .next + n) (d .count + n)
+      (paste (d .cells) (d .count) (copyCells (d .next) (shapeOf (figureAt (sheetOf d) row)) n) n)
 
   room : bendTotal d + length bs ≤ 2048
   room = let e = repeated-length n (bendsIn x) in omega (arith, h .bends)
@@ -176,15 +185,29 @@ module _ (d : Drawing) (z : Sizes d) (row n : ℕ) (h : CopiesRoom d row n) wher
         real = ap allReal fk ∙ s .real;
       }
 
-  pub copies-room : (q : Drawing) (ys : List Position) → q ≡ withMoreBends d ys → (q .count + n ≤ 256) × (q .next + n ≤ idsEnd)
-  copies-room q ys e = subst (λ (r : Drawing). (r .count + n ≤ 256) × (r .next + n ≤ idsEnd)) (sym e) (h .cells, h .ids)
+  -- the row's bends, put n times after those in use
+  pub bends-filled : (base first k : ℕ) (l : List Position) → l ≡ paste (d .bends) base (repeated n (run first k (d .bends))) (n * k)
+      → base ≡ bendTotal d → first ≡ bendSum (take row (d .cells)) → k ≡ length (bendsIn (figureAt (sheetOf d) row))
+      → l ≡ paste (d .bends) (bendTotal d) (repeated n (bendsIn (figureAt (sheetOf d) row))) (length (repeated n (bendsIn (figureAt (sheetOf d) row))))
+  bends-filled base first k l e p q r =
+      e
+      ∙ ap₂ (λ (i j : ℕ). paste (d .bends) i (repeated n (run j k (d .bends))) (n * k)) p q
+      ∙ ap (λ (m : ℕ). paste (d .bends) (bendTotal d) (repeated n (run (bendSum (take row (d .cells))) m (d .bends))) (n * m)) r
+      ∙ ap₂ (λ (b : List Position) (m : ℕ). paste (d .bends) (bendTotal d) (repeated n b) m) (row-bends d z (h .fits) row (h .row)) (sym (repeated-length n (bendsIn x)))
 
-  pub copies-grown : (q r : Drawing) → q ≡ withMoreBends d (repeated n (bendsIn (figureAt (sheetOf d) row))) → r ≡ withCopies q (shapeOf (figureAt (sheetOf d) row)) n
-      → (sheetOf r ≡ appendedAll (replicate n (figureAt (sheetOf d) row)) (sheetOf d)) × Fits r
-  copies-grown q r p e =
+  -- the bends of the copies, and their cells
+  pub copies-grown : (l : List Position) (s : Shape) (cs : List Cell)
+      → l ≡ paste (d .bends) (bendTotal d) (repeated n (bendsIn (figureAt (sheetOf d) row))) (length (repeated n (bendsIn (figureAt (sheetOf d) row))))
+      → s ≡ shapeOf (figureAt (sheetOf d) row) → cs ≡ paste (d .cells) (d .count) (copyCells (d .next) s n) n
+      → let r = withCells (withBends d l) (d .next + n) (d .count + n) cs in
+      (sheetOf r ≡ appendedAll (replicate n (figureAt (sheetOf d) row)) (sheetOf d)) × Fits r
+  copies-grown l s cs p t e =
       let k = length-replicate n x in
       let i = next-is d in
-      subst (λ (t : Drawing). (sheetOf t ≡ appendedAll (replicate n x) (sheetOf d)) × Fits t) (sym (e ∙ ap (λ (t : Drawing). withCopies t (shapeOf x) n) p)) (
+      subst (λ (t : Drawing). (sheetOf t ≡ appendedAll (replicate n x) (sheetOf d)) × Fits t)
+      (sym
+      (ap₂ (λ (a : List Position) (b : List Cell). withCells (withBends d a) (d .next + n) (d .count + n) b) p
+      (e ∙ ap (λ (v : Shape). paste (d .cells) (d .count) (copyCells (d .next) v n) n) t))) (
         sheet-is grownBy (appendedAll (replicate n x) (sheetOf d)) (ap₂ _+_ (sym i) (sym k)) (viewed grownBy (sheetOf d .cells ++ new) grown-stands),
         fitting grownBy (sheetOf d .cells ++ new) grown-stands grown-sizes (h .cells),
       )

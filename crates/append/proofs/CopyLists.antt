@@ -6,19 +6,17 @@ use native.Mathlib.Omega.{arith}
 use native.Mathlib.Decide.{decLt}
 use native.Mathlib.Nat.{suc-mul, zero-mul, mul-zero, mod-lt, mod-eq-of-lt, add-mod-left}
 use native.Mathlib.Numerals.{add-one}
-use lib.ListN.{length, drop, set, getD, replicate, length-append, List·getD-append}
-use lib.Seq.{getD-take, getD-drop, getD-append-add, paste, paste-suc}
+use lib.ListN.{length, take, drop, set, getD, replicate, length-append, List·getD-append}
+use lib.Seq.{length-take-le, getD-take, getD-drop, getD-append-add, paste, paste-suc}
 use Rattle.coordinate.specs.declared.Position.{Position}
 use Rattle.number.specs.Readers.{spread}
 use Rattle.complex.specs.Cells.{Cycle, Figure}
 use Rattle.complex.specs.Edits.{numbered}
 use Rattle.store.specs.declared.Shape.{Shape}
 use Rattle.store.specs.declared.Cell.{Cell}
-use Rattle.store.specs.declared.Drawing.{Drawing}
 use Rattle.store.specs.Places.{shapeOf, headOf, cyclesIn, bendsIn, cyclesAt, bendsAt}
-use Rattle.store.specs.Edits.{withCells}
 use Rattle.append.specs.Runs.{run}
-use Rattle.append.specs.Copies.{repeated, copyCells, withCopies}
+use Rattle.append.specs.Copies.{repeated, copyCells}
 use Rattle.append.proofs.RunLists.{run-length}
 
 -- where there is a place there is an element
@@ -61,6 +59,28 @@ module _ {A : Type 0} (n first k : ℕ) (l : List A) (h : first + k ≤ length l
       ∙ getD-take k (drop first l) (j % k) z (mod-lt j (some-place n k j g))
       ∙ getD-drop first l (j % k) z
 
+-- what stands before a copied part is as it was
+paste-before : {A : Type 0} (l : List A) (at : ℕ) (s : List A) (n i : ℕ) (z : A) → i < at → at ≤ length l → getD (paste l at s n) i z ≡ getD l i z
+paste-before l at s n i z h g =
+    let e = length-take-le at l g in
+    let f = length-append (take at l) (take n s) in
+    List·getD-append (take at l ++ take n s) (drop (at + n) l) z i (omega arith)
+    ∙ List·getD-append (take at l) (take n s) z i (omega arith)
+    ∙ getD-take at l i z h
+
+-- a turn of the loop that puts the bends: the run is read where the copies go, before them
+pub bend-more : {A : Type 0} (l res : List A) (at n first k j : ℕ) (z : A) → res ≡ paste l at (repeated n (run first k l)) j → first + k ≤ at → at + n * k ≤ length l → j < n * k
+    → set res (at + j) (getD res (first + j % k) z) ≡ paste l at (repeated n (run first k l)) (j + 1)
+bend-more {A} l res at n first k j z e h g t =
+    let s = repeated n (run first k l) in
+    let r : first + k ≤ length l = omega arith in
+    let m = repeated-run-length n first k l r in
+    let p = mod-lt j (some-place n k j t) in
+    ap₂ (λ (q : List A) (w : A). set q (at + j) w) e
+    (ap (λ (q : List A). getD q (first + j % k) z) e ∙ paste-before l at s j (first + j % k) z (omega arith) (omega arith) ∙ sym (repeated-run n first k l r j z t))
+    ∙ paste-suc l at s j z (omega arith) (omega arith)
+    ∙ ap (paste l at s) (sym (add-one j))
+
 pub copies-length : (i : ℕ) (s : Shape) (n : ℕ) → length (copyCells i s n) ≡ n
 copies-length i s zero = refl
 copies-length i s (suc n) = ap suc (copies-length (suc i) s n)
@@ -72,24 +92,15 @@ copies-at i s (suc n) (suc j) z h =
     let e : suc i + j ≡ i + suc j = omega arith in
     copies-at (suc i) s n j z (omega arith) ∙ ap (λ (k : ℕ). record { id = k; shape = s }) e
 
--- a turn of the loop that puts the cells, and its end
-pub cells-more : (d res : Drawing) (at : ℕ) (s : Shape) (n i id : ℕ) → res ≡ withCells d (d .next) (d .count) (paste (d .cells) at (copyCells (d .next) s n) i)
-    → at + i < length (d .cells) → i < n → id ≡ d .next + i
-    → withCells res (res .next) (res .count) (set (res .cells) (at + i) (record { id = id; shape = s })) ≡ withCells d (d .next) (d .count) (paste (d .cells) at (copyCells (d .next) s n) (i + 1))
-cells-more d res at s n i id e h k g =
+-- a turn of the loop that puts the cells
+pub cells-more : (cells res : List Cell) (at next : ℕ) (s : Shape) (n i id : ℕ) → res ≡ paste cells at (copyCells next s n) i → at + i < length cells → i < n → id ≡ next + i
+    → set res (at + i) (record { id = id; shape = s }) ≡ paste cells at (copyCells next s n) (i + 1)
+cells-more cells res at next s n i id e h k g =
     let c : Cell = record { id = id; shape = s } in
-    let l = copies-length (d .next) s n in
-    ap (λ (q : Drawing). withCells q (q .next) (q .count) (set (q .cells) (at + i) c)) e
-    ∙ ap (withCells d (d .next) (d .count))
-    (ap (set (paste (d .cells) at (copyCells (d .next) s n) i) (at + i)) (ap (λ (m : ℕ). record { id = m; shape = s }) g ∙ sym (copies-at (d .next) s n i c k))
-    ∙ paste-suc (d .cells) at (copyCells (d .next) s n) i c h (omega arith)
-    ∙ ap (paste (d .cells) at (copyCells (d .next) s n)) (sym (add-one i)))
-
-pub cells-done : (d res : Drawing) (s : Shape) (n i id : ℕ) → res ≡ withCells d (d .next) (d .count) (paste (d .cells) (d .count) (copyCells (d .next) s n) i) → i ≡ n → id ≡ d .next + i
-    → withCells res id (d .count + n) (res .cells) ≡ withCopies d s n
-cells-done d res s n i id e f g =
-    ap₂ (λ (q : Drawing) (k : ℕ). withCells q k (d .count + n) (q .cells)) e (g ∙ ap (λ (m : ℕ). d .next + m) f)
-    ∙ ap (λ (m : ℕ). withCells d (d .next + n) (d .count + n) (paste (d .cells) (d .count) (copyCells (d .next) s n) m)) f
+    let l = copies-length next s n in
+    ap₂ (λ (q : List Cell) (w : Cell). set q (at + i) w) e (ap (λ (m : ℕ). record { id = m; shape = s }) g ∙ sym (copies-at next s n i c k))
+    ∙ paste-suc cells at (copyCells next s n) i c h (omega arith)
+    ∙ ap (paste cells at (copyCells next s n)) (sym (add-one i))
 
 -- ---- the copies of a figure
 pub copy-heads : (i : ℕ) (x : Figure) (n : ℕ) → copyCells i (shapeOf x) n ≡ map headOf (numbered i (replicate n x))

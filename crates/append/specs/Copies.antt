@@ -1,11 +1,8 @@
 -- Copies of a cell, as they stand in the arrays. Definitions only.
-use Prim.Native.Nat.{ℕ, zero, suc, _+_}
+use Prim.Native.Nat.{ℕ, zero, suc}
 use mathlib.Core.List.{List, [], _∷_, _++_}
-use lib.Seq.{paste}
 use Rattle.store.specs.declared.Shape.{Shape}
 use Rattle.store.specs.declared.Cell.{Cell}
-use Rattle.store.specs.declared.Drawing.{Drawing}
-use Rattle.store.specs.Edits.{withCells}
 
 -- a list n times
 abbrev pub repeated : {A : Type 0} → ℕ → List A → List A
@@ -16,7 +13,3 @@ repeated (suc n) l = l ++ repeated n l
 abbrev pub copyCells : ℕ → Shape → ℕ → List Cell
 copyCells i s zero = []
 copyCells i s (suc n) = record { id = i; shape = s } ∷ copyCells (suc i) s n
-
--- d with n cells more
-abbrev pub withCopies : Drawing → Shape → ℕ → Drawing
-withCopies d s n = withCells d (d .next + n) (d .count + n) (paste (d .cells) (d .count) (copyCells (d .next) s n) n)

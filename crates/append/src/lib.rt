@@ -9,7 +9,7 @@ ghost use Rattle.store.specs.View.{sheetOf, Fits, cyclesOf, widthSum, bendTotal
 ghost use Rattle.store.specs.Edits.{appended};
 ghost use Rattle.append.specs.Appends.{Room, appendedAll, figureAt, withCell, withMoreBends};
 ghost use Rattle.append.specs.Runs.{run, runsOf, InRange, beforeSecond, runsLength, inRun, runPlace, runBend};
-ghost use Rattle.append.specs.Copies.{repeated, withCopies};
+ghost use Rattle.append.specs.Copies.{repeated, copyCells};
 ghost use Rattle.append.specs.Requirements.{RunsRoom, BytesRoom, FaceRoom, CopiesRoom};
 use coordinate::Position;
 use store::Cell;
@@ -299,43 +299,44 @@ pub fn bends_before(d: Drawing, row: usize) -> usize
     sum
 }
 
-// The k bends from `first` on, put n times after the bends of d.
-fn fill_copies(d: Drawing, first: usize, k: usize, n: usize) -> Drawing
-    requires { ⌜ Fits d ⌝ }
-    requires { ⌜ first + k ≤ 2048 ⌝ }
-    requires { ⌜ bendTotal d + n * k ≤ 2048 ⌝ }
-    ensures { λ r. ⌜ r ≡ withMoreBends d (repeated n (run first k (d .bends))) ⌝ }
+// The k bends from `first` on, put n times from `base` on; they stand before `base`.
+fn fill_copies(
+    bends: [Position; 2048],
+    base: usize,
+    first: usize,
+    k: usize,
+    n: usize,
+) -> [Position; 2048]
+    requires { ⌜ first + k ≤ base ⌝ }
+    requires { ⌜ base + n * k ≤ 2048 ⌝ }
+    ensures { λ r. ⌜ r ≡ paste bends base (repeated n (run first k bends)) (n * k) ⌝ }
 {
-    let base = store::bend_total(d);
     let t = n * k;
-    let mut out = d;
+    let mut out = bends;
     let mut j: usize = 0;
     while j < t {
-        let p = d.bends[first + j % k];
-        out.bends[base + j] = p;
+        let p = out[first + j % k];
+        out[base + j] = p;
         j = j + 1;
     }
     out
 }
 
-// Cells of one shape at the next n ids, their places being filled already.
-fn put_copies(d: Drawing, s: Shape, n: usize) -> Drawing
-    requires { ⌜ d .count + n ≤ 256 ⌝ }
-    requires { ⌜ d .next + n ≤ idsEnd ⌝ }
-    ensures { λ r. ⌜ r ≡ withCopies d s n ⌝ }
+// Cells of one shape with n ids from `next` on, put from `base` on.
+fn put_copies(cells: [Cell; 256], base: usize, next: u32, s: Shape, n: usize) -> [Cell; 256]
+    requires { ⌜ base + n ≤ 256 ⌝ }
+    requires { ⌜ next + n ≤ idsEnd ⌝ }
+    ensures { λ r. ⌜ r ≡ paste cells base (copyCells next s n) n ⌝ }
 {
-    let mut out = d;
-    let base = d.count;
-    let mut id = d.next;
+    let mut out = cells;
+    let mut id = next;
     let mut i: usize = 0;
     while i < n {
         let c = Cell { id: id, shape: s };
-        out.cells[base + i] = c;
+        out[base + i] = c;
         id = id + 1;
         i = i + 1;
     }
-    out.count = base + n;
-    out.next = id;
     out
 }
 
@@ -346,10 +347,20 @@ pub fn append_copies(d: Drawing, row: usize, n: usize) -> Drawing
     ensures { λ r. ⌜ Fits r ⌝ }
 {
     let cells = d.cells;
+    let bends = d.bends;
+    let m = d.count;
+    let id = d.next;
     let c = cells[row];
     let s = c.shape;
     let k = store::wide(store::bend_count(s));
     let first = bends_before(d, row);
-    let out = fill_copies(d, first, k, n);
-    put_copies(out, s, n)
+    let base = store::bend_total(d);
+    let bs = fill_copies(bends, base, first, k, n);
+    let cs = put_copies(cells, m, id, s, n);
+    let mut out = d;
+    out.bends = bs;
+    out.cells = cs;
+    out.count = m + n;
+    out.next = id + n as u32;
+    out
 }

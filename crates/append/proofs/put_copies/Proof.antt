@@ -1,35 +1,33 @@
 -- `append::put_copies` meets its contract. Assumes nothing.
 use borrow.Author.Needs.{needs}
 use Prim.Native.Nat.{_≤_, _-_, _+_}
-use mathlib.Core.Path.{_≡_, ap}
+use mathlib.Core.Path.{_≡_}
 use native.Mathlib.Omega.{arith}
 use lib.Seq.{paste, paste-zero}
-use Rattle.store.specs.Edits.{withCells}
-use Rattle.store.proofs.Sizes.{sizes}
 use Rattle.append.specs.Copies.{copyCells}
-use Rattle.append.proofs.CopyLists.{cells-more, cells-done}
+use Rattle.append.proofs.CopyLists.{cells-more}
 use Rattle.append.proofs.put_copies.Statement.{statement}
 use Rattle.append.proofs.put_copies.Tie as tie
 
 abbrev Inv-loop : tie.InvT-loop
-Inv-loop s n out₀ base id₀ i₀ out id i = (i ≤ n) × (id ≡ id₀ + i) × (out ≡ withCells out₀ (out₀ .next) (out₀ .count) (paste (out₀ .cells) base (copyCells (out₀ .next) s n) i))
+Inv-loop base next s n out₀ id₀ i₀ out id i = (i ≤ n) × (id ≡ next + i) × (out ≡ paste out₀ base (copyCells next s n) i)
 
 abbrev μ-loop : tie.MeasureT-loop
-μ-loop s n out₀ base id₀ i₀ out id i = n - i
+μ-loop base next s n out₀ id₀ i₀ out id i = n - i
 
 loop-holds : tie.Need-loop-holds Inv-loop μ-loop
 loop-holds c =
     let a = c .args in
-    (omega arith, omega arith, ap (withCells (a .d) (a .d .next) (a .d .count)) (paste-zero (a .d .cells) (a .d .count) (copyCells (a .d .next) (a .s) (a .n))))
+    (omega arith, omega arith, paste-zero (a .cells) (a .base) (copyCells (a .next) (a .s) (a .n)))
 
-add-c : tie.Need-add-c Inv-loop μ-loop
-add-c c = search needs
+add-out : tie.Need-add-out Inv-loop μ-loop
+add-out c = search needs
 
-mul-c : tie.Need-mul-c Inv-loop μ-loop
-mul-c c = search needs
+mul-out : tie.Need-mul-out Inv-loop μ-loop
+mul-out c = search needs
 
-element-set-from-c : tie.Need-element-set-from-c Inv-loop μ-loop
-element-set-from-c c = search needs
+array-set-from-out : tie.Need-array-set-from-out Inv-loop μ-loop
+array-set-from-out c = search needs
 
 add-id : tie.Need-add-id Inv-loop μ-loop
 add-id c = search needs
@@ -45,20 +43,17 @@ loop-again c =
     let lp = c .before in
     let st = lp .before in
     let a = st .args in
-    let z = sizes (a .d) _ (st .good .0) .cells in (
+    let z = st .good .0 .1 .0 .1 in (
       omega arith,
       omega arith,
-      cells-more (a .d) (lp .loop .out) (a .d .count) (a .s) (a .n) (lp .loop .i) (lp .loop .id) (lp .loop .inv .2) (omega arith) (omega arith) (lp .loop .inv .1),
+      cells-more (a .cells) (lp .loop .out) (a .base) (a .next) (a .s) (a .n) (lp .loop .i) (lp .loop .id) (lp .loop .inv .2) (omega arith) (omega arith) (lp .loop .inv .1),
     )
-
-add-out : tie.Need-add-out Inv-loop μ-loop
-add-out c = search needs
 
 returns : tie.Need-returns Inv-loop μ-loop
 returns c =
     let lp = c .before in
-    let a = lp .before .args in
-    cells-done (a .d) (lp .loop .out) (a .s) (a .n) (lp .loop .i) (lp .loop .id) (lp .loop .inv .2) (omega arith) (lp .loop .inv .1)
+    let e : lp .loop .i ≡ lp .before .args .n = omega arith in
+    rw e at (lp .loop .inv .2)
 
 pub put-copies-spec : {M : Type 1} → statement M
 put-copies-spec =
@@ -67,12 +62,11 @@ put-copies-spec =
     Inv-loop
     μ-loop
     loop-holds
-    add-c
-    mul-c
-    element-set-from-c
+    add-out
+    mul-out
+    array-set-from-out
     add-id
     add-i
     loop-less
     loop-again
-    add-out
     returns)
