@@ -24,11 +24,12 @@ fn place_of(d: Drawing, ix: Index, f: u32, c: usize) -> Place
     requires { ⌜ Has d ix f c ⌝ }
     ensures { λ r. ⌜ Found d f c r ⌝ }
 {
+    let cy = d.cycles;
     let t = outline::face_spans(d, ix, f);
-    let at = outline::cycle_place(&d.cycles, t, c);
+    let at = outline::cycle_place(&cy, t, c);
     let k = t.cycles;
     let i = k.first + c;
-    let m = store::wide(d.cycles[i]);
+    let m = store::wide(cy[i]);
     Place {
         spans: t,
         cycle: c,
@@ -71,10 +72,12 @@ fn joined(d: Drawing, ix: Index, e: u32, u: Use, w: Use) -> Listed
     requires { ⌜ Case d ix e (twoFaces (useAt e u) (useAt e w)) ⌝ }
     ensures { λ r. ⌜ Built (joinedCycles (cellAt (sheetOf d)) (useAt e u) (useAt e w)) (r .counts) (r .used) (r .steps) ⌝ }
 {
+    let cy = d.cycles;
+    let st = d.steps;
     let p = place_of(d, ix, u.face, u.cycle);
     let q = place_of(d, ix, w.face, w.cycle);
     let v = head_of(ix, d.count, e, u.back);
-    uncut_cycles::merged_cycles(&d.cycles, &d.steps, p, u.step, q, w.step, v)
+    uncut_cycles::merged_cycles(&cy, &st, p, u.step, q, w.step, v)
 }
 
 fn join_faces(d: Drawing, ix: Index, e: u32, u: Use, w: Use) -> Drawing
@@ -105,10 +108,12 @@ fn parted(d: Drawing, ix: Index, e: u32, u: Use, w: Use) -> Listed
     requires { ⌜ Case d ix e (oneCycle (useAt e u) (useAt e w)) ⌝ }
     ensures { λ r. ⌜ Built (partedCycles (cellAt (sheetOf d)) (useAt e u) (useAt e w)) (r .counts) (r .used) (r .steps) ⌝ }
 {
+    let cy = d.cycles;
+    let st = d.steps;
     let p = place_of(d, ix, u.face, u.cycle);
     let here = head_of(ix, d.count, e, u.back);
     let last = head_of(ix, d.count, e, w.back);
-    uncut_cycles::parted_cycles(&d.cycles, &d.steps, p, u.step, w.step, here, last)
+    uncut_cycles::parted_cycles(&cy, &st, p, u.step, w.step, here, last)
 }
 
 fn part_cycle(d: Drawing, ix: Index, e: u32, u: Use, w: Use) -> Drawing
@@ -126,10 +131,11 @@ pub fn one_cycle(d: Drawing, e: u32, u: Use, w: Use) -> Answer
     requires { ⌜ uncutCase (sheetOf d) e ≡ oneCycle (useAt e u) (useAt e w) ⌝ }
     ensures { λ r. ⌜ Answers d (uncut e) r ⌝ }
 {
+    let cy = d.cycles;
     let ix = store::index_of(d);
     let next = d.next;
     let n = d.count;
-    let t = answer::totals_of(&ix.bends, &ix.cycles, n, &d.cycles);
+    let t = answer::totals_of(&ix.bends, &ix.cycles, n, &cy);
     let more = Totals {
         cells: 0,
         cycles: 1,
@@ -156,9 +162,11 @@ fn ringless(d: Drawing, ix: Index, e: u32, u: Use, w: Use) -> Listed
     requires { ⌜ Case d ix e (rings (useAt e u) (useAt e w)) ⌝ }
     ensures { λ r. ⌜ Built (ringlessCycles (cellAt (sheetOf d)) (useAt e u) (useAt e w)) (r .counts) (r .used) (r .steps) ⌝ }
 {
+    let cy = d.cycles;
+    let st = d.steps;
     let p = place_of(d, ix, u.face, u.cycle);
     let q = place_of(d, ix, w.face, w.cycle);
-    uncut_cycles::ringed_cycles(&d.cycles, &d.steps, p, q)
+    uncut_cycles::ringed_cycles(&cy, &st, p, q)
 }
 
 fn drop_rings(d: Drawing, ix: Index, e: u32, u: Use, w: Use) -> Drawing

@@ -111,16 +111,18 @@ fn without_lone(d: Drawing, ix: Index, v: u32) -> Drawing
     ensures { λ r. ⌜ sheetOf r ≡ uncutResult (sheetOf d) v lonely ⌝ }
     ensures { λ r. ⌜ Fits r ⌝ }
 {
+    let cy = d.cycles;
+    let st = d.steps;
     let n = d.count;
     let ids = ix.ids;
     let counts = ix.cycles;
     let m = cycles::place_sum(0, &counts, 0, n);
-    let j = lone_place(&d.cycles, m, &d.steps, v);
+    let j = lone_place(&cy, m, &st, v);
     let h = row_holding(&counts, n, j);
     let row = h.row;
     let f = ids[row];
     let t = outline::face_spans(d, ix, f);
-    let l = all_but(&d.cycles, &d.steps, t, h.place);
+    let l = all_but(&cy, &st, t, h.place);
     let a = store::find(&ids, n, v);
     reface::reface(d, v, a, v, a, f, l)
 }

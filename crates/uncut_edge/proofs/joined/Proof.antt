@@ -6,38 +6,39 @@ use Rattle.uncut_edge.proofs.joined.Tie as tie
 
 place-of-requires : tie.Need-place-of-requires
 place-of-requires c κs =
-    let a = c .args in
-    joined-first (a .t1) (sizes (a .t1) _ (c .good .0)) (a .ix) (a .e) (a .u) (a .w) (c .pre)
+    let st = c .before .before in
+    let a = st .args in
+    joined-first (a .d) (sizes (a .d) _ (st .good .0)) (a .ix) (a .e) (a .u) (a .w) (st .pre)
 
 place-of-requires-2 : tie.Need-place-of-requires-2
 place-of-requires-2 c κs =
-    let st = c .before in
+    let st = c .before .before .before in
     let a = st .args in
-    joined-second (a .t1) (sizes (a .t1) _ (st .good .0)) (a .ix) (a .e) (a .u) (a .w) (st .pre)
+    joined-second (a .d) (sizes (a .d) _ (st .good .0)) (a .ix) (a .e) (a .u) (a .w) (st .pre)
 
 head-of-requires : tie.Need-head-of-requires
 head-of-requires c κs =
-    let st = c .before .before in
+    let st = c .before .before .before .before in
     let a = st .args in
-    joined-rows (a .t1) (sizes (a .t1) _ (st .good .0)) (a .ix) (a .e) (a .u) (a .w) (st .pre)
+    joined-rows (a .d) (sizes (a .d) _ (st .good .0)) (a .ix) (a .e) (a .u) (a .w) (st .pre)
 
 merged-cycles-requires : tie.Need-merged-cycles-requires
 merged-cycles-requires c κs =
-    let h = c .before .before .before in
+    let h = c .before .before in
     let q = h .before in
     let p = q .before in
-    let st = p .before in
+    let st = p .before .before .before in
     let a = st .args in
-    joined-asks (a .t1) (sizes (a .t1) _ (st .good .0)) (a .ix) (a .e) (a .u) (a .w) (st .pre) (p .place-of .result) (q .place-of2 .result) (p .place-of .ensures) (q .place-of2 .ensures) (h .head-of .result) (h .head-of .ensures)
+    joined-asks (a .d) (sizes (a .d) _ (st .good .0)) (a .ix) (a .e) (a .u) (a .w) (st .pre) (p .place-of .result) (q .place-of2 .result) (p .place-of .ensures) (q .place-of2 .ensures) (h .head-of .result) (h .head-of .ensures)
 
 returns : tie.Need-returns
 returns c =
-    let h = c .before .before .before .before in
+    let h = c .before .before .before in
     let q = h .before in
     let p = q .before in
-    let st = p .before in
+    let st = p .before .before .before in
     let a = st .args in
-    joined-built (a .t1) (sizes (a .t1) _ (st .good .0)) (a .ix) (a .e) (a .u) (a .w) (st .pre) (p .place-of .result) (q .place-of2 .result) (p .place-of .ensures) (q .place-of2 .ensures) (h .head-of .result) (h .head-of .ensures) (c .merged-cycles .ensures)
+    joined-built (a .d) (sizes (a .d) _ (st .good .0)) (a .ix) (a .e) (a .u) (a .w) (st .pre) (p .place-of .result) (q .place-of2 .result) (p .place-of .ensures) (q .place-of2 .ensures) (h .head-of .result) (h .head-of .ensures) (c .merged-cycles .ensures)
 
 pub joined-spec : {M : Type 1} → statement M
 joined-spec = tie.close (tie.spec place-of-requires place-of-requires-2 head-of-requires merged-cycles-requires returns)

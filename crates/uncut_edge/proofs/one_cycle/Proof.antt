@@ -10,20 +10,20 @@ use Rattle.uncut_edge.proofs.one_cycle.Statement.{statement}
 use Rattle.uncut_edge.proofs.one_cycle.Tie as tie
 
 index-of-requires : tie.Need-index-of-requires
-index-of-requires c κs = sound-fits (c .args .t1) (c .pre .0) .cells
+index-of-requires c κs = sound-fits (c .before .args .d) (c .before .pre .0) .cells
 
 totals-of-requires : tie.Need-totals-of-requires
 totals-of-requires c κs =
-    let x = c .before .before .before .before .before in
-    let st = x .before in
-    let d = st .args .t1 in
+    let x = c .before .before .before .before in
+    let st = x .before .before in
+    let d = st .args .d in
     summed d (sizes d _ (st .good .0)) (sound-fits d (st .pre .0)) (x .index-of .result) (x .index-of .ensures)
 
 late-no-requires : tie.Need-late-no-requires
 late-no-requires c κs =
-    let x = c .before .before .before .before .before .before in
-    let st = x .before in
-    let d = st .args .t1 in
+    let x = c .before .before .before .before .before in
+    let st = x .before .before in
+    let d = st .args .d in
     let z = sizes d _ (st .good .0) in
     (next-in d (st .pre .0), (lit≤ tt, (rw (c .totals-of .ensures) (totals-small d z (sound-fits d (st .pre .0)) (x .index-of .result) (x .index-of .ensures)), record { cells = lit≤ tt; cycles = lit≤ tt; steps = lit≤ tt; bends = lit≤ tt }, record { cells = lit≤ tt; cycles = lit≤ tt; steps = lit≤ tt; bends = lit≤ tt })))
 
@@ -35,30 +35,30 @@ returns c =
     let i = c .before in
     let l = i .before in
     let t = l .before in
-    let x = t .before .before .before .before .before .before in
-    let st = x .before in
+    let x = t .before .before .before .before .before in
+    let st = x .before .before in
     let a = st .args in
-    one-refuses (a .t1) (sizes (a .t1) _ (st .good .0)) (st .pre .0) (x .index-of .result) (x .index-of .ensures) (a .e) (a .u) (a .w) (st .pre .1) (t .totals-of .result) (t .totals-of .ensures) (l .late-no .result) (l .late-no .ensures) (i .if1 .taken) _ (c .refused .ensures)
+    one-refuses (a .d) (sizes (a .d) _ (st .good .0)) (st .pre .0) (x .index-of .result) (x .index-of .ensures) (a .e) (a .u) (a .w) (st .pre .1) (t .totals-of .result) (t .totals-of .ensures) (l .late-no .result) (l .late-no .ensures) (i .if1 .taken) _ (c .refused .ensures)
 
 part-cycle-requires : tie.Need-part-cycle-requires
 part-cycle-requires c κs =
     let l = c .before in
     let t = l .before in
-    let x = t .before .before .before .before .before .before in
-    let st = x .before in
+    let x = t .before .before .before .before .before in
+    let st = x .before .before in
     let a = st .args in
-    one-case (a .t1) (sizes (a .t1) _ (st .good .0)) (st .pre .0) (x .index-of .result) (x .index-of .ensures) (a .e) (a .u) (a .w) (st .pre .1) (t .totals-of .result) (t .totals-of .ensures) (l .late-no .result) (l .late-no .ensures) (c .if1 .left)
+    one-case (a .d) (sizes (a .d) _ (st .good .0)) (st .pre .0) (x .index-of .result) (x .index-of .ensures) (a .e) (a .u) (a .w) (st .pre .1) (t .totals-of .result) (t .totals-of .ensures) (l .late-no .result) (l .late-no .ensures) (c .if1 .left)
 
 done-requires : tie.Need-done-requires
 done-requires c κs =
     let i = c .before in
     let l = i .before in
     let t = l .before in
-    let x = t .before .before .before .before .before .before in
-    let st = x .before in
+    let x = t .before .before .before .before .before in
+    let st = x .before .before in
     let a = st .args in
     let o = c .part-cycle in
-    one-counts (a .t1) (sizes (a .t1) _ (st .good .0)) (st .pre .0) (x .index-of .result) (x .index-of .ensures) (a .e) (a .u) (a .w) (st .pre .1) (t .totals-of .result) (t .totals-of .ensures) (l .late-no .result) (l .late-no .ensures) (i .if1 .left) (o .result) (sizes (o .result) _ (o .ok)) (o .ensures .1) (o .ensures .0)
+    one-counts (a .d) (sizes (a .d) _ (st .good .0)) (st .pre .0) (x .index-of .result) (x .index-of .ensures) (a .e) (a .u) (a .w) (st .pre .1) (t .totals-of .result) (t .totals-of .ensures) (l .late-no .result) (l .late-no .ensures) (i .if1 .left) (o .result) (sizes (o .result) _ (o .ok)) (o .ensures .1) (o .ensures .0)
 
 returns-2 : tie.Need-returns-2
 returns-2 c =
@@ -66,11 +66,11 @@ returns-2 c =
     let i = y .before in
     let l = i .before in
     let t = l .before in
-    let x = t .before .before .before .before .before .before in
-    let st = x .before in
+    let x = t .before .before .before .before .before in
+    let st = x .before .before in
     let a = st .args in
     let o = y .part-cycle in
-    one-answers (a .t1) (sizes (a .t1) _ (st .good .0)) (st .pre .0) (x .index-of .result) (x .index-of .ensures) (a .e) (a .u) (a .w) (st .pre .1) (t .totals-of .result) (t .totals-of .ensures) (l .late-no .result) (l .late-no .ensures) (i .if1 .left) (o .result) (sizes (o .result) _ (o .ok)) (o .ensures .1) (o .ensures .0) _ (c .done .ensures)
+    one-answers (a .d) (sizes (a .d) _ (st .good .0)) (st .pre .0) (x .index-of .result) (x .index-of .ensures) (a .e) (a .u) (a .w) (st .pre .1) (t .totals-of .result) (t .totals-of .ensures) (l .late-no .result) (l .late-no .ensures) (i .if1 .left) (o .result) (sizes (o .result) _ (o .ok)) (o .ensures .1) (o .ensures .0) _ (c .done .ensures)
 
 pub one-cycle-spec : {M : Type 1} → statement M
 one-cycle-spec =

@@ -6,38 +6,39 @@ use Rattle.uncut_edge.proofs.parted.Tie as tie
 
 place-of-requires : tie.Need-place-of-requires
 place-of-requires c κs =
-    let a = c .args in
-    parted-has (a .t1) (sizes (a .t1) _ (c .good .0)) (a .ix) (a .e) (a .u) (a .w) (c .pre)
+    let st = c .before .before in
+    let a = st .args in
+    parted-has (a .d) (sizes (a .d) _ (st .good .0)) (a .ix) (a .e) (a .u) (a .w) (st .pre)
 
 head-of-requires : tie.Need-head-of-requires
 head-of-requires c κs =
-    let st = c .before in
+    let st = c .before .before .before in
     let a = st .args in
-    parted-rows (a .t1) (sizes (a .t1) _ (st .good .0)) (a .ix) (a .e) (a .u) (a .w) (st .pre)
+    parted-rows (a .d) (sizes (a .d) _ (st .good .0)) (a .ix) (a .e) (a .u) (a .w) (st .pre)
 
 head-of-requires-2 : tie.Need-head-of-requires-2
 head-of-requires-2 c κs =
-    let st = c .before .before in
+    let st = c .before .before .before .before in
     let a = st .args in
-    parted-rows (a .t1) (sizes (a .t1) _ (st .good .0)) (a .ix) (a .e) (a .u) (a .w) (st .pre)
+    parted-rows (a .d) (sizes (a .d) _ (st .good .0)) (a .ix) (a .e) (a .u) (a .w) (st .pre)
 
 parted-cycles-requires : tie.Need-parted-cycles-requires
 parted-cycles-requires c κs =
-    let y = c .before .before .before in
+    let y = c .before .before in
     let h = y .before in
     let p = h .before in
-    let st = p .before in
+    let st = p .before .before .before in
     let a = st .args in
-    parted-asks (a .t1) (sizes (a .t1) _ (st .good .0)) (a .ix) (a .e) (a .u) (a .w) (st .pre) (p .place-of .result) (p .place-of .ensures) (h .head-of .result) (y .head-of2 .result) (h .head-of .ensures) (y .head-of2 .ensures)
+    parted-asks (a .d) (sizes (a .d) _ (st .good .0)) (a .ix) (a .e) (a .u) (a .w) (st .pre) (p .place-of .result) (p .place-of .ensures) (h .head-of .result) (y .head-of2 .result) (h .head-of .ensures) (y .head-of2 .ensures)
 
 returns : tie.Need-returns
 returns c =
-    let y = c .before .before .before .before in
+    let y = c .before .before .before in
     let h = y .before in
     let p = h .before in
-    let st = p .before in
+    let st = p .before .before .before in
     let a = st .args in
-    parted-built (a .t1) (sizes (a .t1) _ (st .good .0)) (a .ix) (a .e) (a .u) (a .w) (st .pre) (p .place-of .result) (p .place-of .ensures) (h .head-of .result) (y .head-of2 .result) (h .head-of .ensures) (y .head-of2 .ensures) (c .parted-cycles .ensures)
+    parted-built (a .d) (sizes (a .d) _ (st .good .0)) (a .ix) (a .e) (a .u) (a .w) (st .pre) (p .place-of .result) (p .place-of .ensures) (h .head-of .result) (y .head-of2 .result) (h .head-of .ensures) (y .head-of2 .ensures) (c .parted-cycles .ensures)
 
 pub parted-spec : {M : Type 1} → statement M
 parted-spec = tie.close (tie.spec place-of-requires head-of-requires head-of-requires-2 parted-cycles-requires returns)

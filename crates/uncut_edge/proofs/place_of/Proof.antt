@@ -11,34 +11,34 @@ face-spans-requires c κs = search needs
 
 cycle-place-requires : tie.Need-cycle-place-requires
 cycle-place-requires c κs =
-    let f = c .before .before in
-    let st = f .before in
+    let f = c .before in
+    let st = f .before .before in
     let a = st .args in
-    place-asks (a .t1) (a .ix) (a .f) (a .c) (st .pre) (f .face-spans .result) (f .face-spans .ensures)
+    place-asks (a .d) (a .ix) (a .f) (a .c) (st .pre) (f .face-spans .result) (f .face-spans .ensures)
 
 add-i : tie.Need-add-i
 add-i c =
-    let f = c .before .before .before .before .before in
-    let st = f .before in
+    let f = c .before .before .before .before in
+    let st = f .before .before in
     let a = st .args in
-    let h = index-in (a .t1) (a .ix) (a .f) (a .c) (st .pre) (f .face-spans .result) (f .face-spans .ensures) in
+    let h = index-in (a .d) (a .ix) (a .f) (a .c) (st .pre) (f .face-spans .result) (f .face-spans .ensures) in
     omega arith
 
 mul-wide : tie.Need-mul-wide
 mul-wide c =
-    let f = c .before .before .before .before .before in
-    let st = f .before in
+    let f = c .before .before .before .before in
+    let st = f .before .before in
     let a = st .args in
-    let h = index-in (a .t1) (a .ix) (a .f) (a .c) (st .pre) (f .face-spans .result) (f .face-spans .ensures) in
+    let h = index-in (a .d) (a .ix) (a .f) (a .c) (st .pre) (f .face-spans .result) (f .face-spans .ensures) in
     record { fits = omega arith }
 
-element-copy-out-wide : tie.Need-element-copy-out-wide
-element-copy-out-wide c =
-    let f = c .before .before .before .before .before in
-    let st = f .before in
+array-read-wide : tie.Need-array-read-wide
+array-read-wide c =
+    let f = c .before .before .before .before in
+    let st = f .before .before in
     let a = st .args in
-    let h = index-in (a .t1) (a .ix) (a .f) (a .c) (st .pre) (f .face-spans .result) (f .face-spans .ensures) in
-    let z = sizes (a .t1) _ (st .good .0) in
+    let h = index-in (a .d) (a .ix) (a .f) (a .c) (st .pre) (f .face-spans .result) (f .face-spans .ensures) in
+    let z = sizes (a .d) _ (st .good .0) in
     omega (arith, z .cycles)
 
 wide-requires : tie.Need-wide-requires
@@ -46,11 +46,11 @@ wide-requires c κs = search needs
 
 returns : tie.Need-returns
 returns c =
-    let p = c .before .before .before .before in
-    let f = p .before .before .before in
-    let st = f .before in
+    let p = c .before .before .before in
+    let f = p .before .before in
+    let st = f .before .before in
     let a = st .args in
-    found (a .t1) (a .ix) (a .f) (a .c) (st .pre) (f .face-spans .result) (f .face-spans .ensures) (p .cycle-place .result) (c .wide .result) (p .cycle-place .ensures) (c .wide .ensures)
+    found (a .d) (a .ix) (a .f) (a .c) (st .pre) (f .face-spans .result) (f .face-spans .ensures) (p .cycle-place .result) (c .wide .result) (p .cycle-place .ensures) (c .wide .ensures)
 
 pub place-of-spec : {M : Type 1} → statement M
 place-of-spec =
@@ -60,6 +60,6 @@ place-of-spec =
     cycle-place-requires
     add-i
     mul-wide
-    element-copy-out-wide
+    array-read-wide
     wide-requires
     returns)

@@ -15,29 +15,29 @@ slice-aggregate-place-sum c = search needs
 
 place-sum-requires : tie.Need-place-sum-requires
 place-sum-requires c κs =
-    let st = c .before .before .before in
-    let d = st .args .t1 in
+    let st = c .before .before .before .before .before in
+    let d = st .args .d in
     counting d (sizes d _ (st .good .0)) (st .pre .0) (st .args .v) (st .pre .1 .1) (st .args .ix) (st .pre .1 .0)
 
 lone-place-requires : tie.Need-lone-place-requires
 lone-place-requires c κs =
-    let ps = c .before .before .before in
-    let st = ps .before .before .before .before in
-    let d = st .args .t1 in
+    let ps = c .before .before in
+    let st = ps .before .before .before .before .before .before in
+    let d = st .args .d in
     seeking d (sizes d _ (st .good .0)) (st .pre .0) (st .args .v) (st .pre .1 .1) (st .args .ix) (st .pre .1 .0) (ps .place-sum .result) (ps .place-sum .ensures)
 
 row-holding-requires : tie.Need-row-holding-requires
 row-holding-requires c κs =
-    let ps = c .before .before .before .before .before in
-    let st = ps .before .before .before .before in
-    (st .pre .1 .0 .sizes .5, sound-fits (st .args .t1) (st .pre .0) .cells)
+    let ps = c .before .before .before .before in
+    let st = ps .before .before .before .before .before .before in
+    (st .pre .1 .0 .sizes .5, sound-fits (st .args .d) (st .pre .0) .cells)
 
 mul-f : tie.Need-mul-f
 mul-f c =
     let lp = c .before .before in
-    let ps = lp .before .before .before .before in
-    let st = ps .before .before .before .before in
-    let d = st .args .t1 in
+    let ps = lp .before .before .before in
+    let st = ps .before .before .before .before .before .before in
+    let d = st .args .d in
     let z = sizes d _ (st .good .0) in
     let o = here d z (st .pre .0) (st .args .v) (st .pre .1 .1) (st .args .ix) (st .pre .1 .0) (ps .place-sum .result) (ps .place-sum .ensures) (lp .lone-place .result) (lp .lone-place .ensures) (c .row-holding .result) (c .row-holding .ensures) in
     let h = row-below d z (st .pre .0) (st .args .v) (st .pre .1 .1) (st .args .ix) (st .pre .1 .0) (c .row-holding .result) o in
@@ -46,9 +46,9 @@ mul-f c =
 array-read-f : tie.Need-array-read-f
 array-read-f c =
     let lp = c .before .before in
-    let ps = lp .before .before .before .before in
-    let st = ps .before .before .before .before in
-    let d = st .args .t1 in
+    let ps = lp .before .before .before in
+    let st = ps .before .before .before .before .before .before in
+    let d = st .args .d in
     let z = sizes d _ (st .good .0) in
     let o = here d z (st .pre .0) (st .args .v) (st .pre .1 .1) (st .args .ix) (st .pre .1 .0) (ps .place-sum .result) (ps .place-sum .ensures) (lp .lone-place .result) (lp .lone-place .ensures) (c .row-holding .result) (c .row-holding .ensures) in
     let h = row-below d z (st .pre .0) (st .args .v) (st .pre .1 .1) (st .args .ix) (st .pre .1 .0) (c .row-holding .result) o in
@@ -57,21 +57,21 @@ array-read-f c =
 face-spans-requires : tie.Need-face-spans-requires
 face-spans-requires c κs =
     let lp = c .before .before in
-    let ps = lp .before .before .before .before in
-    let st = ps .before .before .before .before in
-    let d = st .args .t1 in
+    let ps = lp .before .before .before in
+    let st = ps .before .before .before .before .before .before in
+    let d = st .args .d in
     let z = sizes d _ (st .good .0) in
     let o = here d z (st .pre .0) (st .args .v) (st .pre .1 .1) (st .args .ix) (st .pre .1 .0) (ps .place-sum .result) (ps .place-sum .ensures) (lp .lone-place .result) (lp .lone-place .ensures) (c .row-holding .result) (c .row-holding .ensures) in
     named d z (st .pre .0) (st .args .v) (st .pre .1 .1) (st .args .ix) (st .pre .1 .0) (c .row-holding .result) o _ refl
 
 all-but-requires : tie.Need-all-but-requires
 all-but-requires c κs =
-    let fs = c .before .before .before in
+    let fs = c .before .before in
     let rh = fs .before in
     let lp = rh .before .before in
-    let ps = lp .before .before .before .before in
-    let st = ps .before .before .before .before in
-    let d = st .args .t1 in
+    let ps = lp .before .before .before in
+    let st = ps .before .before .before .before .before .before in
+    let d = st .args .d in
     let z = sizes d _ (st .good .0) in
     let o = here d z (st .pre .0) (st .args .v) (st .pre .1 .1) (st .args .ix) (st .pre .1 .0) (ps .place-sum .result) (ps .place-sum .ensures) (lp .lone-place .result) (lp .lone-place .ensures) (rh .row-holding .result) (rh .row-holding .ensures) in
     (fs .face-spans .ensures .within, place-below d z (st .pre .0) (st .args .v) (st .pre .1 .1) (st .args .ix) (st .pre .1 .0) (rh .row-holding .result) o _ refl (fs .face-spans .result) (fs .face-spans .ensures))
@@ -79,19 +79,19 @@ all-but-requires c κs =
 find-requires : tie.Need-find-requires
 find-requires c κs =
     let st = c .before .before .before .before .before .before .before .before .before .before .before .before .before .before .before .before in
-    let d = st .args .t1 in
+    let d = st .args .d in
     (sound-fits d (st .pre .0) .cells, (st .pre .1 .0 .sizes .0, looks d (sizes d _ (st .good .0)) (st .args .ix) (st .pre .1 .0) (st .pre .0) .rising))
 
 reface-requires : tie.Need-reface-requires
 reface-requires c κs =
     let ab = c .before .before in
-    let fs = ab .before .before .before .before in
+    let fs = ab .before .before .before in
     let rh = fs .before in
     let lp = rh .before .before in
-    let ps = lp .before .before .before .before in
-    let st = ps .before .before .before .before in
+    let ps = lp .before .before .before in
+    let st = ps .before .before .before .before .before .before in
     let a = st .args in
-    let d = a .t1 in
+    let d = a .d in
     let z = sizes d _ (st .good .0) in
     let w = st .pre .0 in
     let x = st .pre .1 .0 in
@@ -113,13 +113,13 @@ reface-requires c κs =
 returns : tie.Need-returns
 returns c =
     let ab = c .before .before .before in
-    let fs = ab .before .before .before .before in
+    let fs = ab .before .before .before in
     let rh = fs .before in
     let lp = rh .before .before in
-    let ps = lp .before .before .before .before in
-    let st = ps .before .before .before .before in
+    let ps = lp .before .before .before in
+    let st = ps .before .before .before .before .before .before in
     let a = st .args in
-    let d = a .t1 in
+    let d = a .d in
     let z = sizes d _ (st .good .0) in
     let w = st .pre .0 in
     let x = st .pre .1 .0 in
