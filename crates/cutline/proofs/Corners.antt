@@ -11,7 +11,7 @@ use lib.Seq.{length-take-le, getD-take, getD-drop}
 use Rattle.number.specs.Numbers.{readNumber}
 use Rattle.number.proofs.Counted.{times-length}
 use Rattle.complex.specs.Lists.{isEmpty, holds, places}
-use Rattle.complex.specs.Cells.{Halfedge, Cycle, lone, path, Look, cellAt, isOpen, cyclesOf}
+use Rattle.complex.specs.Cells.{Halfedge, Cycle, Look, cellAt, isOpen, cyclesOf}
 use Rattle.complex.specs.Cut.{noCycle, noStep, cornerExists, cutCorners}
 use Rattle.complex.specs.Sizes.{aloneIn}
 use Rattle.complex.proofs.Bools.{truth, both}
@@ -59,11 +59,14 @@ alone-is : (m : ℕ) (st : List ℕ) → aloneIn (cycleOf m st) ≡ cond (eqb m 
 alone-is zero st = refl
 alone-is (suc m) st = sym (ap (λ (b : Bool). cond b 1 0) (ne-eqb (suc m) 0 (λ e. omega arith)))
 
-pub alone-small : (k : Cycle) → aloneIn k ≤ 1
-alone-small (lone v) = omega arith
-alone-small (path hs) = omega arith
-
 -- ---- of spans in two arrays; i is c
+pub lone-small : (cycles : List ℕ) (t : Spans) (c : ℕ) → loneAt cycles t c ≤ 1
+lone-small cycles t c = go (eqb (getD cycles (t .cycles .first + c) 0) 0)
+  where
+    go : (b : Bool) → cond b 1 0 ≤ 1
+    go true = omega arith
+    go false = omega arith
+
 pub is-lone : (cycles : List ℕ) (t : Spans) (c i : ℕ) → i ≡ c → (b : Bool) → eqb (getD cycles (t .cycles .first + i) 0) 0 ≡ b → cond b 1 0 ≡ loneAt cycles t c
 is-lone cycles t c i e b eb = ap (λ (q : Bool). cond q 1 0) (sym eb) ∙ ap (loneAt cycles t) e
 

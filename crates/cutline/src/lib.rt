@@ -61,6 +61,21 @@ fn lone_step(cycles: &[u32; 512], t: Spans, c: u32) -> usize
     0
 }
 
+// What goes where two cycles become one: a cycle, and a step for each that is a lone vertex.
+fn bridge_less(cycles: &[u32; 512], t: Spans, c1: u32, c2: u32) -> Totals
+    requires { ⌜ t .cycles .first + c1 < 512 ⌝ }
+    requires { ⌜ t .cycles .first + c2 < 512 ⌝ }
+    ensures { λ r. ⌜ r ≡ record { cells = 0; cycles = 1; steps = loneAt (now (cycles .entry)) t c1 + loneAt (now (cycles .entry)) t c2; bends = 0 } ⌝ }
+{
+    let alone = lone_step(cycles, t, c1) + lone_step(cycles, t, c2);
+    Totals {
+        cells: 0,
+        cycles: 1,
+        steps: alone,
+        bends: 0,
+    }
+}
+
 // Whether the moved cycles rise strictly below k and are without c1; where c1 and c2 differ, whether there are none.
 fn moved_fit(script: &[u8], place: usize, moved: u32, k: u32, c1: u32, c2: u32) -> bool
     requires { ⌜ Stand readNumber (now script) place moved ⌝ }
@@ -177,13 +192,7 @@ fn cut_two_cycles(
         steps: 2,
         bends: store::wide(bends),
     };
-    let alone = lone_step(&cy, at, c1) + lone_step(&cy, at, c2);
-    let less = Totals {
-        cells: 0,
-        cycles: 1,
-        steps: alone,
-        bends: 0,
-    };
+    let less = bridge_less(&cy, at, c1, c2);
     let no = answer::late_no(d.next, 1, t, more, less);
     if no != 0 {
         return answer::refused(d, no);

@@ -17,7 +17,7 @@ use Rattle.sound.proofs.Meaning.{sound-fits}
 use Rattle.answer.proofs.Laws.{summed, totals-small}
 use Rattle.command.specs.Lists.{numbersRead}
 use Rattle.outline.proofs.Late.{Asked, next-in, refuses, counts-done, answers}
-use Rattle.cutline.proofs.Corners.{cycles-there, lone-asks, lone-told, alone-small}
+use Rattle.cutline.proofs.Corners.{cycles-there, lone-asks, lone-told, lone-small}
 use Rattle.cutline.proofs.Passing.{one-asked, halves, cut-is}
 use Rattle.cutline.proofs.cut_one_cycle.Statement.{statement}
 use Rattle.cutline.proofs.cut_one_cycle.Tie as tie
@@ -63,13 +63,14 @@ alone c =
 late-no-requires : tie.Need-late-no-requires
 late-no-requires c κs =
     let v = c .before .before in
-    let t = v .before .before in
+    let fs = v .before in
+    let t = fs .before in
     let st = t .before .before .before .before .before .before .before in
     let a = st .args in
     let d = a .d in
     let w = st .pre .0 in
-    let l = alone-small (getD (cyclesOf (cellAt (sheetOf d) (a .f))) (a .c) noCycle) in
-    (next-in d (w .sound), (lit≤ tt, (rw (t .totals-of .ensures) (totals-small d (sizes d _ (st .good .0)) (sound-fits d (w .sound)) (a .t2) (w .named .index)), record { cells = lit≤ tt; cycles = lit≤ tt; steps = lit≤ tt; bends = omega (arith, v .wide .ensures, st .fits .bends) }, record { cells = lit≤ tt; cycles = lit≤ tt; steps = omega (arith, alone c); bends = lit≤ tt })))
+    let l = lone-small (d .cycles) (fs .face-spans .result) (a .c) in
+    (next-in d (w .sound), (lit≤ tt, (rw (t .totals-of .ensures) (totals-small d (sizes d _ (st .good .0)) (sound-fits d (w .sound)) (a .t2) (w .named .index)), record { cells = lit≤ tt; cycles = lit≤ tt; steps = lit≤ tt; bends = omega (arith, v .wide .ensures, st .fits .bends) }, record { cells = lit≤ tt; cycles = lit≤ tt; steps = omega (arith, c .lone-step .ensures); bends = lit≤ tt })))
 
 refused-requires : tie.Need-refused-requires
 refused-requires c κs = search needs

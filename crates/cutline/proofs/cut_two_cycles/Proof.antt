@@ -1,22 +1,24 @@
 -- `cut_two_cycles` meets its contract: questions 7 and 8, then the cut. Assumes nothing.
 use borrow.Author.Needs.{needs}
 use native.Mathlib.Omega.{arith}
-use Prim.Native.Nat.{_+_, _<_, _≤_}
-use mathlib.Core.Path.{_≡_}
+use Prim.Native.Nat.{_<_}
+use mathlib.Core.Path.{refl, ap, _∙_}
 use lib.Dec.{lit≤}
-use lib.ListN.{length, getD}
+use lib.ListN.{length}
 use Rattle.bends.specs.Bends.{positionsAt}
 use Rattle.complex.specs.Cells.{cellAt, cyclesOf}
 use Rattle.complex.specs.Decode.{cutFaceOpen}
-use Rattle.complex.specs.Cut.{noCycle}
-use Rattle.complex.specs.Sizes.{aloneIn}
+use Rattle.complex.specs.Sizes.{sized, moreLess, changedBy}
 use Rattle.store.specs.View.{sheetOf}
 use Rattle.store.proofs.Sizes.{sizes}
 use Rattle.sound.proofs.Meaning.{sound-fits}
+use Rattle.answer.specs.declared.Totals.{Totals}
+use Rattle.answer.specs.Late.{sizesBy, lateNo}
 use Rattle.answer.proofs.Laws.{summed, totals-small}
 use Rattle.command.specs.Lists.{numbersRead}
 use Rattle.outline.proofs.Late.{Asked, next-in, refuses, counts-done, answers}
-use Rattle.cutline.proofs.Corners.{cycles-there, lone-asks, lone-told, alone-small}
+use Rattle.cutline.specs.Corners.{loneAt}
+use Rattle.cutline.proofs.Corners.{cycles-there, lone-asks, lone-told, lone-small}
 use Rattle.cutline.proofs.Passing.{two-asked, bridged, cut-is}
 use Rattle.cutline.proofs.cut_two_cycles.Statement.{statement}
 use Rattle.cutline.proofs.cut_two_cycles.Tie as tie
@@ -42,62 +44,27 @@ there c =
     let s = sheetOf (a .d) in
     cycles-there (cellAt s) (cyclesOf (cellAt s (a .f))) (a .c1) (a .s1) (a .c2) (a .s2) (numbersRead (a .script .now) (a .place) (a .moved)) (st .pre .0 .corners)
 
-lone-step-requires : tie.Need-lone-step-requires
-lone-step-requires c κs =
+bridge-less-requires : tie.Need-bridge-less-requires
+bridge-less-requires c κs =
     let fs = c .before .before in
     let t = fs .before in
     let st = t .before .before .before .before .before .before .before in
     let a = st .args in
-    lone-asks (a .d) (sizes (a .d) _ (st .good .0)) (a .t2) (a .f) (st .pre .0 .named) (fs .face-spans .result) (fs .face-spans .ensures) (a .c1) (there t .0)
-
-lone-step-requires-2 : tie.Need-lone-step-requires-2
-lone-step-requires-2 c κs =
-    let fs = c .before .before .before .before in
-    let t = fs .before in
-    let st = t .before .before .before .before .before .before .before in
-    let a = st .args in
-    lone-asks (a .d) (sizes (a .d) _ (st .good .0)) (a .t2) (a .f) (st .pre .0 .named) (fs .face-spans .result) (fs .face-spans .ensures) (a .c2) (there t .1)
-
--- whether each cycle is a lone vertex
-alone-first : (c : tie.After-lone-step) → let a = c .before .before .before .before .before .before .before .before .before .before .before .args in c .lone-step .result ≡ aloneIn (getD (cyclesOf (cellAt (sheetOf (a .d)) (a .f))) (a .c1) noCycle)
-alone-first c =
-    let fs = c .before .before .before in
-    let t = fs .before in
-    let st = t .before .before .before .before .before .before .before in
-    let a = st .args in
-    lone-told (a .d) (sizes (a .d) _ (st .good .0)) (a .t2) (a .f) (st .pre .0 .named) (fs .face-spans .result) (fs .face-spans .ensures) (a .c1) (there t .0) (c .lone-step .result) (c .lone-step .ensures)
-
-alone-second : (c : tie.After-lone-step2) → let a = c .before .before .before .before .before .before .before .before .before .before .before .before .before .args in c .lone-step2 .result ≡ aloneIn (getD (cyclesOf (cellAt (sheetOf (a .d)) (a .f))) (a .c2) noCycle)
-alone-second c =
-    let fs = c .before .before .before .before .before in
-    let t = fs .before in
-    let st = t .before .before .before .before .before .before .before in
-    let a = st .args in
-    lone-told (a .d) (sizes (a .d) _ (st .good .0)) (a .t2) (a .f) (st .pre .0 .named) (fs .face-spans .result) (fs .face-spans .ensures) (a .c2) (there t .1) (c .lone-step2 .result) (c .lone-step2 .ensures)
-
--- at most two lone vertices
-few : (c : tie.After-lone-step2) → c .before .before .lone-step .result + c .lone-step2 .result ≤ 2
-few c =
-    let o = c .before .before in
-    let a = o .before .before .before .before .before .before .before .before .before .before .before .args in
-    let ks = cyclesOf (cellAt (sheetOf (a .d)) (a .f)) in
-    let l = alone-small (getD ks (a .c1) noCycle) in
-    let m = alone-small (getD ks (a .c2) noCycle) in
-    omega (arith, alone-first o, alone-second c)
-
-add-alone : tie.Need-add-alone
-add-alone c = let h = few c in search needs
+    let asks = lone-asks (a .d) (sizes (a .d) _ (st .good .0)) (a .t2) (a .f) (st .pre .0 .named) (fs .face-spans .result) (fs .face-spans .ensures) in
+    (asks (a .c1) (there t .0), asks (a .c2) (there t .1))
 
 late-no-requires : tie.Need-late-no-requires
 late-no-requires c κs =
-    let v = c .before .before .before .before in
-    let t = v .before .before in
+    let v = c .before .before in
+    let fs = v .before in
+    let t = fs .before in
     let st = t .before .before .before .before .before .before .before in
     let a = st .args in
     let d = a .d in
     let w = st .pre .0 in
-    let h = few c in
-    (next-in d (w .sound), (lit≤ tt, (rw (t .totals-of .ensures) (totals-small d (sizes d _ (st .good .0)) (sound-fits d (w .sound)) (a .t2) (w .named .index)), record { cells = lit≤ tt; cycles = lit≤ tt; steps = lit≤ tt; bends = omega (arith, v .wide .ensures, st .fits .bends) }, record { cells = lit≤ tt; cycles = lit≤ tt; steps = omega arith; bends = lit≤ tt })))
+    let l = lone-small (d .cycles) (fs .face-spans .result) (a .c1) in
+    let m = lone-small (d .cycles) (fs .face-spans .result) (a .c2) in
+    (next-in d (w .sound), (lit≤ tt, (rw (t .totals-of .ensures) (totals-small d (sizes d _ (st .good .0)) (sound-fits d (w .sound)) (a .t2) (w .named .index)), record { cells = lit≤ tt; cycles = lit≤ tt; steps = lit≤ tt; bends = omega (arith, v .wide .ensures, st .fits .bends) }, rw (c .bridge-less .ensures) (record { cells = lit≤ tt; cycles = lit≤ tt; steps = omega arith; bends = lit≤ tt }))))
 
 refused-requires : tie.Need-refused-requires
 refused-requires c κs = search needs
@@ -105,37 +72,43 @@ refused-requires c κs = search needs
 -- what is known where `late_no` has answered
 known :
     (c : tie.After-late-no) →
-    let st = c .before .before .before .before .before .before .before .before .before .before .before .before .before .before in
+    let st = c .before .before .before .before .before .before .before .before .before .before .before .before in
     let a = st .args in
     Asked (a .d) (sizes (a .d) _ (st .good .0)) (st .pre .0 .sound) (cutFaceOpen (a .f) (a .c1) (a .s1) (a .c2) (a .s2) (positionsAt (a .script .now) (a .first) (a .bends)) (numbersRead (a .script .now) (a .place) (a .moved))) (c .late-no .result)
 known c =
-    let p = c .before in
-    let o = p .before .before in
+    let o = c .before in
     let v = o .before .before in
-    let t = v .before .before in
+    let fs = v .before in
+    let t = fs .before in
     let st = t .before .before .before .before .before .before .before in
     let a = st .args in
-    two-asked (a .d) (sizes (a .d) _ (st .good .0)) (a .t2) (a .script .now) (a .f) (a .c1) (a .s1) (a .c2) (a .s2) (a .bends) (a .first) (a .moved) (a .place) (st .pre .0) (st .pre .1 .1)
-    (t .totals-of .result) (t .totals-of .ensures) (v .wide .result) (v .wide .ensures) (c .late-no .result) (st .pre .1 .0) (o .lone-step .result) (p .lone-step2 .result) (alone-first o) (alone-second p) (c .late-no .ensures)
+    let d = a .d in
+    let z = sizes d _ (st .good .0) in
+    let told = lone-told d z (a .t2) (a .f) (st .pre .0 .named) (fs .face-spans .result) (fs .face-spans .ensures) in
+    let n = loneAt (d .cycles) (fs .face-spans .result) (a .c1) in
+    let m = loneAt (d .cycles) (fs .face-spans .result) (a .c2) in
+    two-asked d z (a .t2) (a .script .now) (a .f) (a .c1) (a .s1) (a .c2) (a .s2) (a .bends) (a .first) (a .moved) (a .place) (st .pre .0) (st .pre .1 .1)
+    (t .totals-of .result) (t .totals-of .ensures) (v .wide .result) (v .wide .ensures) (c .late-no .result) (st .pre .1 .0) n m (told (a .c1) (there t .0) n refl) (told (a .c2) (there t .1) m refl)
+    (c .late-no .ensures ∙ ap (λ (l : Totals). lateNo (d .next) 1 (changedBy (sizesBy (t .totals-of .result)) (moreLess (sized 1 0 2 (v .wide .result)) (sizesBy l)))) (o .bridge-less .ensures))
 
 returns : tie.Need-returns
 returns c =
     let l = c .before .before in
-    let st = l .before .before .before .before .before .before .before .before .before .before .before .before .before .before in
+    let st = l .before .before .before .before .before .before .before .before .before .before .before .before in
     let a = st .args in
     refuses (a .d) (sizes (a .d) _ (st .good .0)) (st .pre .0 .sound) (cutFaceOpen (a .f) (a .c1) (a .s1) (a .c2) (a .s2) (positionsAt (a .script .now) (a .first) (a .bends)) (numbersRead (a .script .now) (a .place) (a .moved))) (l .late-no .result) (known l) (c .before .if1 .taken) _ (c .refused .ensures)
 
 bridge-cycles-requires : tie.Need-bridge-cycles-requires
 bridge-cycles-requires c κs =
     let l = c .before in
-    let st = l .before .before .before .before .before .before .before .before .before .before .before .before .before .before in
+    let st = l .before .before .before .before .before .before .before .before .before .before .before .before in
     let a = st .args in
     bridged (a .d) (sizes (a .d) _ (st .good .0)) (a .t2) (a .script .now) (a .f) (a .bends) (a .first) (a .moved) (a .place) (a .c1) (a .s1) (a .c2) (a .s2) (st .pre .0) (st .pre .1 .0) (l .late-no .result) (known l) (c .if1 .left)
 
 done-requires : tie.Need-done-requires
 done-requires c κs =
     let l = c .before .before in
-    let st = l .before .before .before .before .before .before .before .before .before .before .before .before .before .before in
+    let st = l .before .before .before .before .before .before .before .before .before .before .before .before in
     let a = st .args in
     let bs = positionsAt (a .script .now) (a .first) (a .bends) in
     let ms = numbersRead (a .script .now) (a .place) (a .moved) in
@@ -147,7 +120,7 @@ returns-2 : tie.Need-returns-2
 returns-2 c =
     let y = c .before in
     let l = y .before .before in
-    let st = l .before .before .before .before .before .before .before .before .before .before .before .before .before .before in
+    let st = l .before .before .before .before .before .before .before .before .before .before .before .before in
     let a = st .args in
     let bs = positionsAt (a .script .now) (a .first) (a .bends) in
     let ms = numbersRead (a .script .now) (a .place) (a .moved) in
@@ -162,9 +135,7 @@ cut-two-cycles-spec =
     totals-of-requires
     face-spans-requires
     wide-requires
-    lone-step-requires
-    lone-step-requires-2
-    add-alone
+    bridge-less-requires
     late-no-requires
     refused-requires
     returns
