@@ -72,8 +72,8 @@ fn cut_at(d: Drawing, ix: Index, f: u32, p: Position) -> Drawing
     ensures { λ r. ⌜ sheetOf r ≡ faceCutAt (sheetOf d) f p ⌝ }
     ensures { λ r. ⌜ Fits r ⌝ }
 {
-    let t = outline::face_spans(d, ix, f);
     let cy = d.cycles;
+    let t = outline::face_spans(&cy, d.count, ix, f);
     let st = d.steps;
     let l = and_lone(&cy, &st, t, d.next);
     let out = outline::with_cycles(d, ix, f, l);
@@ -248,8 +248,8 @@ fn cut_round(
     ensures { λ r. ⌜ sheetOf r ≡ faceCutRound (sheetOf d) f (positionsAt (now (script .entry)) first bends) (numbersRead (now (script .entry)) place moved) ⌝ }
     ensures { λ r. ⌜ Fits r ⌝ }
 {
-    let t = outline::face_spans(d, ix, f);
     let cy = d.cycles;
+    let t = outline::face_spans(&cy, d.count, ix, f);
     let st = d.steps;
     let q = round_parts(&cy, &st, t, script, moved, place, d.next);
     let old = q.old;

@@ -107,8 +107,8 @@ fn corners_exist(
     requires { ⌜ Stand readNumber (now script) place moved ⌝ }
     ensures { λ r. ⌜ r ≡ cutCorners (cellAt (sheetOf d)) (cyclesOf (cellAt (sheetOf d) f)) c1 s1 c2 s2 (numbersRead (now (script .entry)) place moved) ⌝ }
 {
-    let t = outline::face_spans(d, ix, f);
     let cy = d.cycles;
+    let t = outline::face_spans(&cy, d.count, ix, f);
     let st = d.steps;
     if !corner_on(&cy, &st, d.count, ix, t, c1, s1) {
         return false;
@@ -142,7 +142,7 @@ fn cut_one_cycle(
 {
     let cy = d.cycles;
     let t = answer::totals_of(&ix.bends, &ix.cycles, d.count, &cy);
-    let at = outline::face_spans(d, ix, f);
+    let at = outline::face_spans(&cy, d.count, ix, f);
     let more = Totals {
         cells: 2,
         cycles: 1,
@@ -185,7 +185,7 @@ fn cut_two_cycles(
 {
     let cy = d.cycles;
     let t = answer::totals_of(&ix.bends, &ix.cycles, d.count, &cy);
-    let at = outline::face_spans(d, ix, f);
+    let at = outline::face_spans(&cy, d.count, ix, f);
     let more = Totals {
         cells: 1,
         cycles: 0,

@@ -12,7 +12,7 @@ ghost use Rattle.store.specs.Edits.{kept, appended};
 ghost use Rattle.store.specs.Index.{valueAt};
 ghost use Rattle.cycles.specs.Building.{Building, Built, built, more};
 ghost use Rattle.append.specs.Appends.{Room};
-ghost use Rattle.outline.specs.Faces.{Named, Within, Spanned, cyclesAt, recycled, Roomy, Rows};
+ghost use Rattle.outline.specs.Faces.{Named, NamedIn, Within, SpannedIn, cyclesAt, recycled, Roomy, Rows};
 ghost use Rattle.outline.specs.Arcs.{arcOf, Arc, Pasted, ArcRoom, CopyRoom, Placed, cornerIn, cornerVertex};
 use cycles::Spans;
 use cycles::Used;
@@ -37,17 +37,15 @@ pub fn is_face(ix: Index, n: usize, f: u32) -> bool
     k == 3
 }
 
-// Where the cycles of a face stand.
-pub fn face_spans(d: Drawing, ix: Index, f: u32) -> Spans
-    requires { ⌜ Named d ix f ⌝ }
-    ensures { λ r. ⌜ Spanned d f r ⌝ }
+// Where the cycles of a face stand, in a drawing with these cycles and n cells.
+pub fn face_spans(cycles: &[u32; 512], n: usize, ix: Index, f: u32) -> Spans
+    requires { ⌜ NamedIn (now cycles) n ix f ⌝ }
+    ensures { λ r. ⌜ SpannedIn (now (cycles .entry)) n ix f r ⌝ }
 {
     let ids = ix.ids;
     let at = ix.cycles;
-    let n = d.count;
     let row = store::find(&ids, n, f);
-    let cy = d.cycles;
-    cycles::spans_of(&at, n, row, &cy)
+    cycles::spans_of(&at, n, row, cycles)
 }
 
 // The face gets other cycles.

@@ -179,8 +179,8 @@ pub fn split_face(
     ensures { λ r. ⌜ sheetOf r ≡ faceCutAlong (sheetOf d) f c s1 c s2 (positionsAt (now (script .entry)) first bends) (numbersRead (now (script .entry)) place moved) ⌝ }
     ensures { λ r. ⌜ Fits r ⌝ }
 {
-    let t = outline::face_spans(d, ix, f);
     let cy = d.cycles;
+    let t = outline::face_spans(&cy, d.count, ix, f);
     let st = d.steps;
     let p = place_of(&cy, t, c);
     let q = halves(&cy, &st, t, script, moved, place, c, p, s1, s2, d.next);
@@ -263,8 +263,8 @@ pub fn bridge_cycles(
     ensures { λ r. ⌜ sheetOf r ≡ faceCutAlong (sheetOf d) f c1 s1 c2 s2 (positionsAt (now (script .entry)) first bends) (numbersRead (now (script .entry)) place moved) ⌝ }
     ensures { λ r. ⌜ Fits r ⌝ }
 {
-    let t = outline::face_spans(d, ix, f);
     let cy = d.cycles;
+    let t = outline::face_spans(&cy, d.count, ix, f);
     let st = d.steps;
     let p = place_of(&cy, t, c1);
     let q = place_of(&cy, t, c2);

@@ -1,6 +1,6 @@
 -- Where a cycle of a face stands in the arrays, and the rows of cells that go. Assumes nothing.
 use Prim.Native.Nat.{ℕ, zero, suc, _+_, _<_, _≤_}
-use mathlib.Core.Path.{_≡_, refl, ap, ap₂, sym, _∙_}
+use mathlib.Core.Path.{_≡_, refl, ap, ap₂, sym, subst, _∙_}
 use mathlib.Core.Bool.{Bool, true, false, cond, false≢true}
 use mathlib.Core.List.{List}
 use native.Mathlib.Omega.{arith}
@@ -19,13 +19,13 @@ use Rattle.cycles.specs.declared.Used.{Used}
 use Rattle.cycles.specs.declared.Spans.{Spans}
 use Rattle.cycles.proofs.Building.{cycle-at}
 use Rattle.dropping.proofs.Dropped.{live-below, row-among}
-use Rattle.outline.specs.Faces.{Spanned}
+use Rattle.outline.specs.Faces.{NamedIn, Spanned, SpannedIn}
 use Rattle.outline.proofs.Lists.{at-length}
 use Rattle.reface.specs.Needs.{Refaced}
 use Rattle.uncut_cycles.specs.declared.Place.{Place}
 use Rattle.uncut_cycles.specs.Paths.{stepsAt}
 use Rattle.uncut_cycles.proofs.Places.{cycle-is}
-use Rattle.uncut_edge.specs.Needs.{headIn, Has, Found, Going}
+use Rattle.uncut_edge.specs.Needs.{headIn, Has, HasIn, Found, FoundIn, Going}
 
 some-steps : (n : ℕ) (st : List ℕ) → 1 ≤ length (stepsOf (cycleOf n st)) → 1 ≤ n
 some-steps zero st h = absurd (omega arith)
@@ -39,10 +39,10 @@ module _ (d : Drawing) (ix : Index) (f c : ℕ) (h : Has d ix f c) (t : Spans) (
       let m = ap length (s .list) in
       omega (arith, h .cycle)
 
-  pub index-in : t .cycles .first + c < 512
+  index-in : t .cycles .first + c < 512
   index-in = let b = below in omega (arith, s .within .inCycles)
 
-  pub place-asks : (length (d .cycles) ≡ 512) × ((t .cycles .first + c ≤ 512) × (t .steps .first + widthSum (take c (drop (t .cycles .first) (d .cycles))) ≤ 2048))
+  place-asks : (length (d .cycles) ≡ 512) × ((t .cycles .first + c ≤ 512) × (t .steps .first + widthSum (take c (drop (t .cycles .first) (d .cycles))) ≤ 2048))
   place-asks =
       let w = s .within in
       let b = below in
@@ -63,8 +63,38 @@ module _ (d : Drawing) (ix : Index) (f c : ℕ) (h : Has d ix f c) (t : Spans) (
         in
         some-steps m st (let x = ap (λ (k : Cycle). length (stepsOf k)) e in omega (arith, h .some))
 
-    pub found : Found d f c (record { spans = t; cycle = c; count = m; at = at })
+    found : Found d f c (record { spans = t; cycle = c; count = m; at = at })
     found = record { lies = record { within = s .within; cycle = below; number = sym em; place = sym ea; some = counted }; cycle = refl; list = s .list }
+
+-- ---- of the cycles and the count of a drawing
+pub in-drawing : (d : Drawing) → Sizes d → (ix : Index) (f c : ℕ) → Has d ix f c → HasIn (d .cycles) (d .count) ix f c
+in-drawing d z ix f c h = record { drawing = d; sizes = z; has = h; sameCycles = refl; sameCount = refl }
+
+module _ (cycles : List ℕ) (n : ℕ) (ix : Index) (f c : ℕ) (h : HasIn cycles n ix f c) where
+  pub spans-asks : NamedIn cycles n ix f
+  spans-asks = record { drawing = h .drawing; sizes = h .sizes; named = h .has .named; sameCycles = h .sameCycles; sameCount = h .sameCount }
+
+  module _ (t : Spans) (s : SpannedIn cycles n ix f t) where
+    spans-are : Spanned (h .drawing) f t
+    spans-are = s .every (h .drawing) (h .sizes) (h .has .named) (h .sameCycles) (h .sameCount)
+
+    pub index-within : t .cycles .first + c < 512
+    index-within = index-in (h .drawing) ix f c (h .has) t spans-are
+
+    pub place-asks-in : (length cycles ≡ 512) × ((t .cycles .first + c ≤ 512) × (t .steps .first + widthSum (take c (drop (t .cycles .first) cycles)) ≤ 2048))
+    place-asks-in =
+        subst (λ (l : List ℕ). (length l ≡ 512) × ((t .cycles .first + c ≤ 512) × (t .steps .first + widthSum (take c (drop (t .cycles .first) l)) ≤ 2048))) (h .sameCycles)
+        (place-asks (h .drawing) ix f c (h .has) t spans-are)
+
+    pub found-in : (at m : ℕ) → at ≡ t .steps .first + widthSum (take c (drop (t .cycles .first) cycles)) → m ≡ getD cycles (t .cycles .first + c) 0
+        → FoundIn cycles n ix f c (record { spans = t; cycle = c; count = m; at = at })
+    found-in at m ea em =
+        record {
+          every = λ d z g e k.
+              found d ix f c g t (s .every d z (g .named) e k) at m
+              (ea ∙ ap (λ (l : List ℕ). t .steps .first + widthSum (take c (drop (t .cycles .first) l))) (sym e))
+              (em ∙ ap (λ (l : List ℕ). getD l (t .cycles .first + c) 0) (sym e));
+        }
 
 -- its steps
 pub found-steps : (d : Drawing) (f c : ℕ) (p : Place) → Found d f c p → stepsAt (d .steps) p ≡ stepsOf (getD (cyclesOf (cellAt (sheetOf d) f)) c noCycle)

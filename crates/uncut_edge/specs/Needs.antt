@@ -14,6 +14,7 @@ use Rattle.complex.specs.Uncut.{Uncut, uncutCase, uncutResult, pathOr, followin
 use Rattle.store.specs.declared.Drawing.{Drawing}
 use Rattle.store.specs.declared.Index.{Index}
 use Rattle.store.specs.Index.{Indexes, valueAt}
+use Rattle.store.specs.Sizes.{Sizes}
 use Rattle.store.specs.View.{sheetOf}
 use Rattle.sound.specs.Soundness.{soundDrawing}
 use Rattle.cycles.specs.declared.Used.{Used as Taken}
@@ -62,6 +63,18 @@ pub record Found (d : Drawing) (f c : ℕ) (p : Place) : Type 0 where
   pub lies : Lies (d .cycles) (d .steps) p
   pub cycle : p .cycle ≡ c
   pub list : listAt (d .cycles) (d .steps) p ≡ cyclesOf (cellAt (sheetOf d) f)
+
+-- the face f has a cycle c in a drawing with these cycles and n cells
+pub record HasIn (cycles : List ℕ) (n : ℕ) (ix : Index) (f c : ℕ) : Type 0 where
+  pub drawing : Drawing
+  pub sizes : Sizes drawing
+  pub has : Has drawing ix f c
+  pub sameCycles : drawing .cycles ≡ cycles
+  pub sameCount : drawing .count ≡ n
+
+-- it stands at p in every drawing with these cycles and n cells
+pub record FoundIn (cycles : List ℕ) (n : ℕ) (ix : Index) (f c : ℕ) (p : Place) : Type 0 where
+  pub every : (d : Drawing) → Sizes d → Has d ix f c → d .cycles ≡ cycles → d .count ≡ n → Found d f c p
 
 -- the cells i and j go; the face f stays, and there is room for the cycles of a list
 pub record Going (d : Drawing) (ix : Index) (i j f : ℕ) (counts : List ℕ) (u : Taken) (steps : List ℕ) : Type 0 where

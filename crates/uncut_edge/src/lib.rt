@@ -10,7 +10,7 @@ ghost use Rattle.sound.specs.Soundness.{soundDrawing};
 ghost use Rattle.cycles.specs.Building.{Built, built};
 ghost use Rattle.outline.specs.Faces.{Rows};
 ghost use Rattle.answer.specs.Answers.{Answers};
-ghost use Rattle.uncut_edge.specs.Needs.{useAt, headIn, joinedCycles, partedCycles, ringlessCycles, Case, Has, Found, Going};
+ghost use Rattle.uncut_edge.specs.Needs.{useAt, headIn, joinedCycles, partedCycles, ringlessCycles, Case, HasIn, FoundIn, Going};
 use answer::Answer;
 use answer::Totals;
 use outline::Listed;
@@ -19,17 +19,16 @@ use store::Index;
 use uncut_case::Use;
 use uncut_cycles::Place;
 
-// Where the cycle c of a face stands.
-fn place_of(d: Drawing, ix: Index, f: u32, c: usize) -> Place
-    requires { ⌜ Has d ix f c ⌝ }
-    ensures { λ r. ⌜ Found d f c r ⌝ }
+// Where the cycle c of a face stands, in a drawing with these cycles and n cells.
+fn place_of(cycles: &[u32; 512], n: usize, ix: Index, f: u32, c: usize) -> Place
+    requires { ⌜ HasIn (now cycles) n ix f c ⌝ }
+    ensures { λ r. ⌜ FoundIn (now (cycles .entry)) n ix f c r ⌝ }
 {
-    let cy = d.cycles;
-    let t = outline::face_spans(d, ix, f);
-    let at = outline::cycle_place(&cy, t, c);
+    let t = outline::face_spans(cycles, n, ix, f);
+    let at = outline::cycle_place(cycles, t, c);
     let k = t.cycles;
     let i = k.first + c;
-    let m = store::wide(cy[i]);
+    let m = store::wide(cycles[i]);
     Place {
         spans: t,
         cycle: c,
@@ -74,8 +73,8 @@ fn joined(d: Drawing, ix: Index, e: u32, u: Use, w: Use) -> Listed
 {
     let cy = d.cycles;
     let st = d.steps;
-    let p = place_of(d, ix, u.face, u.cycle);
-    let q = place_of(d, ix, w.face, w.cycle);
+    let p = place_of(&cy, d.count, ix, u.face, u.cycle);
+    let q = place_of(&cy, d.count, ix, w.face, w.cycle);
     let v = head_of(ix, d.count, e, u.back);
     uncut_cycles::merged_cycles(&cy, &st, p, u.step, q, w.step, v)
 }
@@ -110,7 +109,7 @@ fn parted(d: Drawing, ix: Index, e: u32, u: Use, w: Use) -> Listed
 {
     let cy = d.cycles;
     let st = d.steps;
-    let p = place_of(d, ix, u.face, u.cycle);
+    let p = place_of(&cy, d.count, ix, u.face, u.cycle);
     let here = head_of(ix, d.count, e, u.back);
     let last = head_of(ix, d.count, e, w.back);
     uncut_cycles::parted_cycles(&cy, &st, p, u.step, w.step, here, last)
@@ -164,8 +163,8 @@ fn ringless(d: Drawing, ix: Index, e: u32, u: Use, w: Use) -> Listed
 {
     let cy = d.cycles;
     let st = d.steps;
-    let p = place_of(d, ix, u.face, u.cycle);
-    let q = place_of(d, ix, w.face, w.cycle);
+    let p = place_of(&cy, d.count, ix, u.face, u.cycle);
+    let q = place_of(&cy, d.count, ix, w.face, w.cycle);
     uncut_cycles::ringed_cycles(&cy, &st, p, q)
 }
 

@@ -121,7 +121,7 @@ fn without_lone(d: Drawing, ix: Index, v: u32) -> Drawing
     let h = row_holding(&counts, n, j);
     let row = h.row;
     let f = ids[row];
-    let t = outline::face_spans(d, ix, f);
+    let t = outline::face_spans(&cy, n, ix, f);
     let l = all_but(&cy, &st, t, h.place);
     let a = store::find(&ids, n, v);
     reface::reface(d, v, a, v, a, f, l)

@@ -16,6 +16,7 @@ use Rattle.answer.specs.declared.Totals.{Totals}
 use Rattle.answer.specs.Late.{sizesBy, lateNo}
 use Rattle.answer.proofs.Laws.{summed, totals-small}
 use Rattle.command.specs.Lists.{numbersRead}
+use Rattle.outline.proofs.Rows.{in-drawing}
 use Rattle.outline.proofs.Late.{Asked, next-in, refuses, counts-done, answers}
 use Rattle.cutline.specs.Corners.{loneAt}
 use Rattle.cutline.proofs.Corners.{cycles-there, lone-asks, lone-told, lone-small}
@@ -31,7 +32,10 @@ totals-of-requires c κs =
     summed (a .d) (sizes (a .d) _ (st .good .0)) (sound-fits (a .d) (w .sound)) (a .t2) (w .named .index)
 
 face-spans-requires : tie.Need-face-spans-requires
-face-spans-requires c κs = search needs
+face-spans-requires c κs =
+    let st = c .before .before .before .before .before .before .before .before in
+    let a = st .args in
+    in-drawing (a .d) (sizes (a .d) _ (st .good .0)) (a .t2) (a .f) (st .pre .0 .named)
 
 wide-requires : tie.Need-wide-requires
 wide-requires c κs = search needs
@@ -47,17 +51,19 @@ there c =
 bridge-less-requires : tie.Need-bridge-less-requires
 bridge-less-requires c κs =
     let fs = c .before .before in
-    let t = fs .before in
+    let t = fs .before .before in
     let st = t .before .before .before .before .before .before .before in
     let a = st .args in
-    let asks = lone-asks (a .d) (sizes (a .d) _ (st .good .0)) (a .t2) (a .f) (st .pre .0 .named) (fs .face-spans .result) (fs .face-spans .ensures) in
+    let z = sizes (a .d) _ (st .good .0) in
+    let sp = fs .face-spans .ensures .every (a .d) z (st .pre .0 .named) refl refl in
+    let asks = lone-asks (a .d) z (a .t2) (a .f) (st .pre .0 .named) (fs .face-spans .result) sp in
     (asks (a .c1) (there t .0), asks (a .c2) (there t .1))
 
 late-no-requires : tie.Need-late-no-requires
 late-no-requires c κs =
     let v = c .before .before in
     let fs = v .before in
-    let t = fs .before in
+    let t = fs .before .before in
     let st = t .before .before .before .before .before .before .before in
     let a = st .args in
     let d = a .d in
@@ -72,19 +78,20 @@ refused-requires c κs = search needs
 -- what is known where `late_no` has answered
 known :
     (c : tie.After-late-no) →
-    let st = c .before .before .before .before .before .before .before .before .before .before .before .before in
+    let st = c .before .before .before .before .before .before .before .before .before .before .before .before .before in
     let a = st .args in
     Asked (a .d) (sizes (a .d) _ (st .good .0)) (st .pre .0 .sound) (cutFaceOpen (a .f) (a .c1) (a .s1) (a .c2) (a .s2) (positionsAt (a .script .now) (a .first) (a .bends)) (numbersRead (a .script .now) (a .place) (a .moved))) (c .late-no .result)
 known c =
     let o = c .before in
     let v = o .before .before in
     let fs = v .before in
-    let t = fs .before in
+    let t = fs .before .before in
     let st = t .before .before .before .before .before .before .before in
     let a = st .args in
     let d = a .d in
     let z = sizes d _ (st .good .0) in
-    let told = lone-told d z (a .t2) (a .f) (st .pre .0 .named) (fs .face-spans .result) (fs .face-spans .ensures) in
+    let sp = fs .face-spans .ensures .every d z (st .pre .0 .named) refl refl in
+    let told = lone-told d z (a .t2) (a .f) (st .pre .0 .named) (fs .face-spans .result) sp in
     let n = loneAt (d .cycles) (fs .face-spans .result) (a .c1) in
     let m = loneAt (d .cycles) (fs .face-spans .result) (a .c2) in
     two-asked d z (a .t2) (a .script .now) (a .f) (a .c1) (a .s1) (a .c2) (a .s2) (a .bends) (a .first) (a .moved) (a .place) (st .pre .0) (st .pre .1 .1)
@@ -94,21 +101,21 @@ known c =
 returns : tie.Need-returns
 returns c =
     let l = c .before .before in
-    let st = l .before .before .before .before .before .before .before .before .before .before .before .before in
+    let st = l .before .before .before .before .before .before .before .before .before .before .before .before .before in
     let a = st .args in
     refuses (a .d) (sizes (a .d) _ (st .good .0)) (st .pre .0 .sound) (cutFaceOpen (a .f) (a .c1) (a .s1) (a .c2) (a .s2) (positionsAt (a .script .now) (a .first) (a .bends)) (numbersRead (a .script .now) (a .place) (a .moved))) (l .late-no .result) (known l) (c .before .if1 .taken) _ (c .refused .ensures)
 
 bridge-cycles-requires : tie.Need-bridge-cycles-requires
 bridge-cycles-requires c κs =
     let l = c .before in
-    let st = l .before .before .before .before .before .before .before .before .before .before .before .before in
+    let st = l .before .before .before .before .before .before .before .before .before .before .before .before .before in
     let a = st .args in
     bridged (a .d) (sizes (a .d) _ (st .good .0)) (a .t2) (a .script .now) (a .f) (a .bends) (a .first) (a .moved) (a .place) (a .c1) (a .s1) (a .c2) (a .s2) (st .pre .0) (st .pre .1 .0) (l .late-no .result) (known l) (c .if1 .left)
 
 done-requires : tie.Need-done-requires
 done-requires c κs =
     let l = c .before .before in
-    let st = l .before .before .before .before .before .before .before .before .before .before .before .before in
+    let st = l .before .before .before .before .before .before .before .before .before .before .before .before .before in
     let a = st .args in
     let bs = positionsAt (a .script .now) (a .first) (a .bends) in
     let ms = numbersRead (a .script .now) (a .place) (a .moved) in
@@ -120,7 +127,7 @@ returns-2 : tie.Need-returns-2
 returns-2 c =
     let y = c .before in
     let l = y .before .before in
-    let st = l .before .before .before .before .before .before .before .before .before .before .before .before in
+    let st = l .before .before .before .before .before .before .before .before .before .before .before .before .before in
     let a = st .args in
     let bs = positionsAt (a .script .now) (a .first) (a .bends) in
     let ms = numbersRead (a .script .now) (a .place) (a .moved) in

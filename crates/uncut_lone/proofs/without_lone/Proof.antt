@@ -5,6 +5,7 @@ use mathlib.Core.Path.{refl, sym, _∙_}
 use Rattle.store.proofs.Sizes.{sizes}
 use Rattle.sound.proofs.Meaning.{sound-fits, looks}
 use Rattle.cycles.specs.Building.{built}
+use Rattle.outline.proofs.Rows.{in-drawing}
 use Rattle.dropping.proofs.Dropped.{live-below, row-among}
 use Rattle.uncut_lone.proofs.Going.{live, counting, seeking, here, row-below, a-face, it-stays, named, place-below, refaced, roomed}
 use Rattle.uncut_lone.proofs.without_lone.Statement.{statement}
@@ -56,29 +57,31 @@ array-read-f c =
 
 face-spans-requires : tie.Need-face-spans-requires
 face-spans-requires c κs =
-    let lp = c .before .before in
-    let ps = lp .before .before .before in
-    let st = ps .before .before .before .before .before .before in
-    let d = st .args .d in
-    let z = sizes d _ (st .good .0) in
-    let o = here d z (st .pre .0) (st .args .v) (st .pre .1 .1) (st .args .ix) (st .pre .1 .0) (ps .place-sum .result) (ps .place-sum .ensures) (lp .lone-place .result) (lp .lone-place .ensures) (c .row-holding .result) (c .row-holding .ensures) in
-    named d z (st .pre .0) (st .args .v) (st .pre .1 .1) (st .args .ix) (st .pre .1 .0) (c .row-holding .result) o _ refl
-
-all-but-requires : tie.Need-all-but-requires
-all-but-requires c κs =
-    let fs = c .before .before in
-    let rh = fs .before in
+    let rh = c .before in
     let lp = rh .before .before in
     let ps = lp .before .before .before in
     let st = ps .before .before .before .before .before .before in
     let d = st .args .d in
     let z = sizes d _ (st .good .0) in
     let o = here d z (st .pre .0) (st .args .v) (st .pre .1 .1) (st .args .ix) (st .pre .1 .0) (ps .place-sum .result) (ps .place-sum .ensures) (lp .lone-place .result) (lp .lone-place .ensures) (rh .row-holding .result) (rh .row-holding .ensures) in
-    (fs .face-spans .ensures .within, place-below d z (st .pre .0) (st .args .v) (st .pre .1 .1) (st .args .ix) (st .pre .1 .0) (rh .row-holding .result) o _ refl (fs .face-spans .result) (fs .face-spans .ensures))
+    in-drawing d z (st .args .ix) _ (named d z (st .pre .0) (st .args .v) (st .pre .1 .1) (st .args .ix) (st .pre .1 .0) (rh .row-holding .result) o _ refl)
+
+all-but-requires : tie.Need-all-but-requires
+all-but-requires c κs =
+    let fs = c .before .before in
+    let rh = fs .before .before in
+    let lp = rh .before .before in
+    let ps = lp .before .before .before in
+    let st = ps .before .before .before .before .before .before in
+    let d = st .args .d in
+    let z = sizes d _ (st .good .0) in
+    let o = here d z (st .pre .0) (st .args .v) (st .pre .1 .1) (st .args .ix) (st .pre .1 .0) (ps .place-sum .result) (ps .place-sum .ensures) (lp .lone-place .result) (lp .lone-place .ensures) (rh .row-holding .result) (rh .row-holding .ensures) in
+    let sp = fs .face-spans .ensures .every d z (named d z (st .pre .0) (st .args .v) (st .pre .1 .1) (st .args .ix) (st .pre .1 .0) (rh .row-holding .result) o _ refl) refl refl in
+    (sp .within, place-below d z (st .pre .0) (st .args .v) (st .pre .1 .1) (st .args .ix) (st .pre .1 .0) (rh .row-holding .result) o _ refl (fs .face-spans .result) sp)
 
 find-requires : tie.Need-find-requires
 find-requires c κs =
-    let st = c .before .before .before .before .before .before .before .before .before .before .before .before .before .before .before .before in
+    let st = c .before .before .before .before .before .before .before .before .before .before .before .before .before .before .before .before .before in
     let d = st .args .d in
     (sound-fits d (st .pre .0) .cells, (st .pre .1 .0 .sizes .0, looks d (sizes d _ (st .good .0)) (st .args .ix) (st .pre .1 .0) (st .pre .0) .rising))
 
@@ -86,7 +89,7 @@ reface-requires : tie.Need-reface-requires
 reface-requires c κs =
     let ab = c .before .before in
     let fs = ab .before .before .before in
-    let rh = fs .before in
+    let rh = fs .before .before in
     let lp = rh .before .before in
     let ps = lp .before .before .before in
     let st = ps .before .before .before .before .before .before in
@@ -98,8 +101,9 @@ reface-requires c κs =
     let e = st .pre .1 .1 in
     let h = rh .row-holding .result in
     let o = here d z w (a .v) e (a .ix) x (ps .place-sum .result) (ps .place-sum .ensures) (lp .lone-place .result) (lp .lone-place .ensures) h (rh .row-holding .ensures) in
+    let sp = fs .face-spans .ensures .every d z (named d z w (a .v) e (a .ix) x h o _ refl) refl refl in
     let l = ab .all-but .result in
-    let q = refaced d z w (a .v) e (a .ix) x h o _ refl (fs .face-spans .result) (fs .face-spans .ensures) (built (l .counts) (l .used) (l .steps)) (ab .all-but .ensures .list) in
+    let q = refaced d z w (a .v) e (a .ix) x h o _ refl (fs .face-spans .result) sp (built (l .counts) (l .used) (l .steps)) (ab .all-but .ensures .list) in
     let b = live-below d z w (a .ix) x (a .v) (c .find .result) (c .find .ensures) (live d z w (a .v) e) in
     let r = row-among d z w (a .ix) x (a .v) (c .find .result) (c .find .ensures) (live d z w (a .v) e) in
     record {
@@ -114,7 +118,7 @@ returns : tie.Need-returns
 returns c =
     let ab = c .before .before .before in
     let fs = ab .before .before .before in
-    let rh = fs .before in
+    let rh = fs .before .before in
     let lp = rh .before .before in
     let ps = lp .before .before .before in
     let st = ps .before .before .before .before .before .before in
@@ -126,8 +130,9 @@ returns c =
     let e = st .pre .1 .1 in
     let h = rh .row-holding .result in
     let o = here d z w (a .v) e (a .ix) x (ps .place-sum .result) (ps .place-sum .ensures) (lp .lone-place .result) (lp .lone-place .ensures) h (rh .row-holding .ensures) in
+    let sp = fs .face-spans .ensures .every d z (named d z w (a .v) e (a .ix) x h o _ refl) refl refl in
     let l = ab .all-but .result in
-    let q = refaced d z w (a .v) e (a .ix) x h o _ refl (fs .face-spans .result) (fs .face-spans .ensures) (built (l .counts) (l .used) (l .steps)) (ab .all-but .ensures .list) in
+    let q = refaced d z w (a .v) e (a .ix) x h o _ refl (fs .face-spans .result) sp (built (l .counts) (l .used) (l .steps)) (ab .all-but .ensures .list) in
     (c .reface .ensures .0 ∙ sym q, c .reface .ensures .1)
 
 pub without-lone-spec : {M : Type 1} → statement M
