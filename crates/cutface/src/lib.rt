@@ -11,6 +11,7 @@ ghost use Rattle.complex.specs.Cells.{lone, path, vertex, cellAt};
 ghost use Rattle.complex.specs.Cells as cells;
 ghost use Rattle.complex.specs.Decode.{cutFaceVertex, cutFaceClosed};
 ghost use Rattle.complex.specs.Cut.{faceCutAt, faceCutRound};
+ghost use Rattle.complex.specs.Sizes.{sized, nothing, moreLess, changedBy};
 ghost use Rattle.store.specs.View.{sheetOf, Fits, halfedgeOf};
 ghost use Rattle.store.specs.Edits.{kept};
 ghost use Rattle.sound.specs.Soundness.{soundDrawing};
@@ -18,6 +19,7 @@ ghost use Rattle.cycles.specs.Building.{Built};
 ghost use Rattle.append.specs.Appends.{RoomIn};
 ghost use Rattle.command.specs.Lists.{Stand, numbersRead};
 ghost use Rattle.answer.specs.Answers.{Answers};
+ghost use Rattle.answer.specs.Late.{sizesBy, lateNo, Small};
 ghost use Rattle.outline.specs.Faces.{Named, Within, cyclesAt, recycled, Rows};
 ghost use Rattle.cutface.specs.Rounds.{stayed, left, RoundCut, roundNo};
 use answer::Answer;
@@ -280,6 +282,28 @@ fn round_no(ix: Index, n: usize, script: &[u8], f: u32, bends: u32, moved: u32, 
     0
 }
 
+// Questions 7 and 8 of 0D: an edge with its bends, a face, two cycles of one step.
+fn round_late(next: u32, t: Totals, bends: usize) -> u32
+    requires { ⌜ next ≤ 65536 ⌝ }
+    requires { ⌜ Small t ⌝ }
+    requires { ⌜ bends ≤ 4294967296 ⌝ }
+    ensures { λ r. ⌜ r ≡ lateNo next 2 (changedBy (sizesBy t) (moreLess (sized 2 2 2 bends) nothing)) ⌝ }
+{
+    let more = Totals {
+        cells: 2,
+        cycles: 2,
+        steps: 2,
+        bends: bends,
+    };
+    let less = Totals {
+        cells: 0,
+        cycles: 0,
+        steps: 0,
+        bends: 0,
+    };
+    answer::late_no(next, 2, t, more, less)
+}
+
 pub fn cut_face_closed(
     d: Drawing,
     script: &[u8],
@@ -306,19 +330,7 @@ pub fn cut_face_closed(
     }
     let cy = d.cycles;
     let t = answer::totals_of(&ix.bends, &ix.cycles, n, &cy);
-    let more = Totals {
-        cells: 2,
-        cycles: 2,
-        steps: 2,
-        bends: store::wide(bends),
-    };
-    let less = Totals {
-        cells: 0,
-        cycles: 0,
-        steps: 0,
-        bends: 0,
-    };
-    let no = answer::late_no(next, 2, t, more, less);
+    let no = round_late(next, t, store::wide(bends));
     if no != 0 {
         return answer::refused(d, no);
     }

@@ -5,7 +5,7 @@ use native.Mathlib.Omega.{arith}
 use Prim.Native.Nat.{ℕ}
 use mathlib.Core.Path.{_≡_, sym, _∙_}
 use mathlib.Core.List.{List}
-use lib.Dec.{T, lit≤}
+use lib.Dec.{T}
 use Rattle.bends.specs.Bends.{positionsAt}
 use Rattle.bends.proofs.Laws.{positions-length}
 use Rattle.complex.specs.Edits.{everyId}
@@ -83,19 +83,19 @@ totals-of-requires c κs =
 wide-requires : tie.Need-wide-requires
 wide-requires c κs = search needs
 
-late-no-requires : tie.Need-late-no-requires
-late-no-requires c κs =
+round-late-requires : tie.Need-round-late-requires
+round-late-requires c κs =
     let t = c .before in
     let x = t .before .before .before .before .before .before .before .before in
     let st = x .before .before .before .before in
     let d = st .args .d in
     let z = sizes d _ (st .good .0) in
-    (next-in d (st .pre .0), (lit≤ tt, (rw (t .totals-of .ensures) (totals-small d z (sound-fits d (st .pre .0)) (x .index-of .result) (x .index-of .ensures)), record { cells = lit≤ tt; cycles = lit≤ tt; steps = lit≤ tt; bends = omega (arith, c .wide .ensures, st .fits .bends) }, record { cells = lit≤ tt; cycles = lit≤ tt; steps = lit≤ tt; bends = lit≤ tt })))
+    (next-in d (st .pre .0), (rw (t .totals-of .ensures) (totals-small d z (sound-fits d (st .pre .0)) (x .index-of .result) (x .index-of .ensures)), omega (arith, c .wide .ensures, st .fits .bends)))
 
 refused-requires-3 : tie.Need-refused-requires-3
 refused-requires-3 c κs = search needs
 
--- what is known where `late_no` has answered
+-- what is known where `round_late` has answered
 abbrev asked : (d : Drawing) (z : Sizes d) (w : T (soundDrawing d)) (s : List ℕ) (f bends first moved place : ℕ) → Passed (sheetOf d) (cutFaceClosed f (positionsAt s first bends) (numbersRead s place moved)) → (ix : Index) (x : Indexes d ix)
     (t : Totals) → t ≡ totalsIn d z (sound-fits d w) ix x → (m : ℕ) → m ≡ bends
     → (r : ℕ) → r ≡ lateNo (d .next) 2 (changedBy (sizesBy t) (moreLess (sized 2 2 2 m) nothing)) → Asked d z w (cutFaceClosed f (positionsAt s first bends) (numbersRead s place moved)) r
@@ -131,9 +131,9 @@ returns-3 c =
     let s = a .script .now in
     let b = sym (i .bends-within .ensures) ∙ not-false _ (x .before .if1 .left) in
     let y = round-passes d z w (x .index-of .result) (x .index-of .ensures) s (a .f) (a .bends) (a .first) (numbersRead s (a .place) (a .moved)) (n .round-no .result) (n .round-no .ensures) b (e .if2 .left) in
-    let k = asked d z w s (a .f) (a .bends) (a .first) (a .moved) (a .place) (y .1 .1) (x .index-of .result) (x .index-of .ensures) (t .totals-of .result) (t .totals-of .ensures) (v .wide .result) (v .wide .ensures) (l .late-no .result) (l .late-no .ensures) in
+    let k = asked d z w s (a .f) (a .bends) (a .first) (a .moved) (a .place) (y .1 .1) (x .index-of .result) (x .index-of .ensures) (t .totals-of .result) (t .totals-of .ensures) (v .wide .result) (v .wide .ensures) (l .round-late .result) (l .round-late .ensures) in
     let q = cutFaceClosed (a .f) (positionsAt s (a .first) (a .bends)) (numbersRead s (a .place) (a .moved)) in
-    refuses d z w q (l .late-no .result) k (c .before .if3 .taken) _ (c .refused3 .ensures)
+    refuses d z w q (l .round-late .result) k (c .before .if3 .taken) _ (c .refused3 .ensures)
 
 cut-round-requires : tie.Need-cut-round-requires
 cut-round-requires c κs =
@@ -152,9 +152,9 @@ cut-round-requires c κs =
     let s = a .script .now in
     let b = sym (i .bends-within .ensures) ∙ not-false _ (x .before .if1 .left) in
     let y = round-passes d z w (x .index-of .result) (x .index-of .ensures) s (a .f) (a .bends) (a .first) (numbersRead s (a .place) (a .moved)) (n .round-no .result) (n .round-no .ensures) b (e .if2 .left) in
-    let k = asked d z w s (a .f) (a .bends) (a .first) (a .moved) (a .place) (y .1 .1) (x .index-of .result) (x .index-of .ensures) (t .totals-of .result) (t .totals-of .ensures) (v .wide .result) (v .wide .ensures) (l .late-no .result) (l .late-no .ensures) in
+    let k = asked d z w s (a .f) (a .bends) (a .first) (a .moved) (a .place) (y .1 .1) (x .index-of .result) (x .index-of .ensures) (t .totals-of .result) (t .totals-of .ensures) (v .wide .result) (v .wide .ensures) (l .round-late .result) (l .round-late .ensures) in
     let q = cutFaceClosed (a .f) (positionsAt s (a .first) (a .bends)) (numbersRead s (a .place) (a .moved)) in
-    let o = spare d z w q (l .late-no .result) k (c .if3 .left) in
+    let o = spare d z w q (l .round-late .result) k (c .if3 .left) in
     record {
       named = named-in d z w (x .index-of .result) (x .index-of .ensures) (a .f) (y .0);
       sound = w;
@@ -163,7 +163,7 @@ cut-round-requires c κs =
       rise = y .1 .0;
       cycleRoom = omega (arith, o .0);
       stepRoom = omega (arith, o .1);
-      room = room d z w q (l .late-no .result) k (c .if3 .left) everyId _ _ (round-result (sheetOf d) (a .f) (positionsAt s (a .first) (a .bends)) (numbersRead s (a .place) (a .moved)));
+      room = room d z w q (l .round-late .result) k (c .if3 .left) everyId _ _ (round-result (sheetOf d) (a .f) (positionsAt s (a .first) (a .bends)) (numbersRead s (a .place) (a .moved)));
     }
 
 done-requires : tie.Need-done-requires
@@ -183,10 +183,10 @@ done-requires c κs =
     let s = a .script .now in
     let b = sym (i .bends-within .ensures) ∙ not-false _ (x .before .if1 .left) in
     let y = round-passes d z w (x .index-of .result) (x .index-of .ensures) s (a .f) (a .bends) (a .first) (numbersRead s (a .place) (a .moved)) (n .round-no .result) (n .round-no .ensures) b (e .if2 .left) in
-    let k = asked d z w s (a .f) (a .bends) (a .first) (a .moved) (a .place) (y .1 .1) (x .index-of .result) (x .index-of .ensures) (t .totals-of .result) (t .totals-of .ensures) (v .wide .result) (v .wide .ensures) (l .late-no .result) (l .late-no .ensures) in
+    let k = asked d z w s (a .f) (a .bends) (a .first) (a .moved) (a .place) (y .1 .1) (x .index-of .result) (x .index-of .ensures) (t .totals-of .result) (t .totals-of .ensures) (v .wide .result) (v .wide .ensures) (l .round-late .result) (l .round-late .ensures) in
     let q = cutFaceClosed (a .f) (positionsAt s (a .first) (a .bends)) (numbersRead s (a .place) (a .moved)) in
     let o = c .cut-round in
-    counts-done d z w q (l .late-no .result) k (c .before .if3 .left) (o .result) (sizes (o .result) _ (o .ok)) (o .ensures .1) (o .ensures .0 ∙ sym (round-cut (sheetOf d) (a .f) (positionsAt s (a .first) (a .bends)) (numbersRead s (a .place) (a .moved))))
+    counts-done d z w q (l .round-late .result) k (c .before .if3 .left) (o .result) (sizes (o .result) _ (o .ok)) (o .ensures .1) (o .ensures .0 ∙ sym (round-cut (sheetOf d) (a .f) (positionsAt s (a .first) (a .bends)) (numbersRead s (a .place) (a .moved))))
 
 returns-4 : tie.Need-returns-4
 returns-4 c =
@@ -205,10 +205,10 @@ returns-4 c =
     let s = a .script .now in
     let b = sym (i .bends-within .ensures) ∙ not-false _ (x .before .if1 .left) in
     let y = round-passes d z w (x .index-of .result) (x .index-of .ensures) s (a .f) (a .bends) (a .first) (numbersRead s (a .place) (a .moved)) (n .round-no .result) (n .round-no .ensures) b (e .if2 .left) in
-    let k = asked d z w s (a .f) (a .bends) (a .first) (a .moved) (a .place) (y .1 .1) (x .index-of .result) (x .index-of .ensures) (t .totals-of .result) (t .totals-of .ensures) (v .wide .result) (v .wide .ensures) (l .late-no .result) (l .late-no .ensures) in
+    let k = asked d z w s (a .f) (a .bends) (a .first) (a .moved) (a .place) (y .1 .1) (x .index-of .result) (x .index-of .ensures) (t .totals-of .result) (t .totals-of .ensures) (v .wide .result) (v .wide .ensures) (l .round-late .result) (l .round-late .ensures) in
     let q = cutFaceClosed (a .f) (positionsAt s (a .first) (a .bends)) (numbersRead s (a .place) (a .moved)) in
     let o = c .before .cut-round in
-    answers d z w q (l .late-no .result) k (c .before .before .if3 .left) (o .result) (sizes (o .result) _ (o .ok)) (o .ensures .1) (o .ensures .0 ∙ sym (round-cut (sheetOf d) (a .f) (positionsAt s (a .first) (a .bends)) (numbersRead s (a .place) (a .moved)))) _ (c .done .ensures)
+    answers d z w q (l .round-late .result) k (c .before .before .if3 .left) (o .result) (sizes (o .result) _ (o .ok)) (o .ensures .1) (o .ensures .0 ∙ sym (round-cut (sheetOf d) (a .f) (positionsAt s (a .first) (a .bends)) (numbersRead s (a .place) (a .moved)))) _ (c .done .ensures)
 
 pub cut-face-closed-spec : {M : Type 1} → statement M
 cut-face-closed-spec =
@@ -223,7 +223,7 @@ cut-face-closed-spec =
     returns-2
     totals-of-requires
     wide-requires
-    late-no-requires
+    round-late-requires
     refused-requires-3
     returns-3
     cut-round-requires
