@@ -1,6 +1,7 @@
 //! The core's functions as they are: numbers and slices. A drawing is its file; a no is the number of its question.
 
-// Each pointer comes with the length of its slice. What is written overlaps nothing else that is lent.
+// Each pointer comes with the length of its slice. What is written overlaps nothing else that is lent. Every call writes its
+// second results, also with a no: they start at values that no call gives.
 extern "C" {
     fn dz_open(file: *const u8, file_length: usize) -> u32;
     fn dz_star(
@@ -44,7 +45,7 @@ pub fn open(file: &[u8]) -> u32 {
 
 /// The star of a cell, in the buffer's first places: number and count. Asks 10, 4, 9; 9 gives the count too.
 pub fn star(file: &[u8], id: u32, buffer: &mut [u32]) -> (u32, usize) {
-    let mut count = 0;
+    let mut count = u32::MAX;
     // SAFETY: every pointer comes with the length of the slice that it is taken from, or points to one local.
     let number = unsafe { dz_star(file.as_ptr(), file.len(), id, buffer.as_mut_ptr(), buffer.len(), &mut count) };
     (number, count as usize)
@@ -52,7 +53,7 @@ pub fn star(file: &[u8], id: u32, buffer: &mut [u32]) -> (u32, usize) {
 
 /// The Euler number: number and value. Asks 10.
 pub fn euler(file: &[u8]) -> (u32, i32) {
-    let mut value = 0;
+    let mut value = i32::MIN;
     // SAFETY: pointer and length of one slice, and a local.
     let number = unsafe { dz_euler(file.as_ptr(), file.len(), &mut value) };
     (number, value)
@@ -60,7 +61,7 @@ pub fn euler(file: &[u8]) -> (u32, i32) {
 
 /// The file read and written again, in the buffer's first places: number and count. Asks 10, 9; 9 gives the count too.
 pub fn write(file: &[u8], buffer: &mut [u8]) -> (u32, usize) {
-    let mut count = 0;
+    let mut count = u32::MAX;
     // SAFETY: every pointer comes with the length of the slice that it is taken from, or points to one local.
     let number = unsafe { dz_write(file.as_ptr(), file.len(), buffer.as_mut_ptr(), buffer.len(), &mut count) };
     (number, count as usize)
@@ -79,7 +80,7 @@ pub struct Ran {
 /// Runs a script on the drawing of a file. The five numbers of each command go to the lines, the file at the end to the
 /// first places of `out`.
 pub fn run(file: &[u8], script: &[u8], lines: &mut [u32], out: &mut [u8]) -> Ran {
-    let (mut commands, mut bytes) = (0, 0);
+    let (mut commands, mut bytes) = (u32::MAX, u32::MAX);
     // SAFETY: every pointer comes with the length of the slice that it is taken from, or points to one local.
     let number = unsafe {
         dz_run(

@@ -1,26 +1,6 @@
 //! The C functions themselves: a no leaves the lent buffers as they were, and counts 0 save what 9 gives.
 
-// links the archive
-use dazolbei::Sheet;
-
-extern "C" {
-    fn dz_star(file: *const u8, n: usize, id: u32, buffer: *mut u32, m: usize, count: *mut u32) -> u32;
-    fn dz_euler(file: *const u8, n: usize, value: *mut i32) -> u32;
-    fn dz_write(file: *const u8, n: usize, buffer: *mut u8, m: usize, count: *mut u32) -> u32;
-    fn dz_run(
-        file: *const u8,
-        n: usize,
-        script: *const u8,
-        m: usize,
-        lines: *mut u32,
-        k: usize,
-        out: *mut u8,
-        l: usize,
-        commands: *mut u32,
-        bytes: *mut u32,
-    ) -> u32;
-    fn dz_repeat(file: *const u8, n: usize, what: u32, id: u32, bytes: *const u8, m: usize, rounds: u32) -> u32;
-}
+use dazolbei::{raw, Sheet};
 
 /// Vertex 1 at zero and the loop 2 at it.
 fn file() -> Vec<u8> {
@@ -34,9 +14,9 @@ fn file() -> Vec<u8> {
 
 const NO_FILE: [u8; 1] = [0x01];
 
-fn star(file: &[u8], id: u32, places: usize) -> (u32, u32, Vec<u32>) {
-    let (mut buffer, mut count) = (vec![77; places], 77);
-    let number = unsafe { dz_star(file.as_ptr(), file.len(), id, buffer.as_mut_ptr(), places, &mut count) };
+fn star(file: &[u8], id: u32, places: usize) -> (u32, usize, Vec<u32>) {
+    let mut buffer = vec![77; places];
+    let (number, count) = raw::star(file, id, &mut buffer);
     (number, count, buffer)
 }
 
@@ -52,18 +32,13 @@ fn stars() {
 
 #[test]
 fn euler() {
-    let file = file();
-    let mut value = 77;
-    assert_eq!(unsafe { dz_euler(file.as_ptr(), file.len(), &mut value) }, 0);
-    assert_eq!(value, 0);
-    value = 77;
-    assert_eq!(unsafe { dz_euler(NO_FILE.as_ptr(), 1, &mut value) }, 10);
-    assert_eq!(value, 0);
+    assert_eq!(raw::euler(&file()), (0, 0));
+    assert_eq!(raw::euler(&NO_FILE), (10, 0));
 }
 
-fn write(file: &[u8], places: usize) -> (u32, u32, Vec<u8>) {
-    let (mut buffer, mut count) = (vec![77; places], 77);
-    let number = unsafe { dz_write(file.as_ptr(), file.len(), buffer.as_mut_ptr(), places, &mut count) };
+fn write(file: &[u8], places: usize) -> (u32, usize, Vec<u8>) {
+    let mut buffer = vec![77; places];
+    let (number, count) = raw::write(file, &mut buffer);
     (number, count, buffer)
 }
 
@@ -71,31 +46,18 @@ fn write(file: &[u8], places: usize) -> (u32, u32, Vec<u8>) {
 fn writes() {
     let file = file();
     let n = file.len();
-    assert_eq!(write(&file, n), (0, n as u32, file.clone()));
-    assert_eq!(write(&file, n + 2), (0, n as u32, [&file[..], &[77, 77]].concat()));
-    assert_eq!(write(&file, n - 1), (9, n as u32, vec![77; n - 1]));
+    assert_eq!(write(&file, n), (0, n, file.clone()));
+    assert_eq!(write(&file, n + 2), (0, n, [&file[..], &[77, 77]].concat()));
+    assert_eq!(write(&file, n - 1), (9, n, vec![77; n - 1]));
     assert_eq!(write(&NO_FILE, 4), (10, 0, vec![77; 4]));
 }
 
-type Ran = (u32, u32, u32, Vec<u32>, Vec<u8>);
+type Ran = (u32, usize, usize, Vec<u32>, Vec<u8>);
 
 fn run(file: &[u8], script: &[u8], lines: usize, out: usize) -> Ran {
-    let (mut lines, mut out, mut commands, mut bytes) = (vec![77; lines], vec![77; out], 77, 77);
-    let number = unsafe {
-        dz_run(
-            file.as_ptr(),
-            file.len(),
-            script.as_ptr(),
-            script.len(),
-            lines.as_mut_ptr(),
-            lines.len(),
-            out.as_mut_ptr(),
-            out.len(),
-            &mut commands,
-            &mut bytes,
-        )
-    };
-    (number, commands, bytes, lines, out)
+    let (mut lines, mut out) = (vec![77; lines], vec![77; out]);
+    let ran = raw::run(file, script, &mut lines, &mut out);
+    (ran.number, ran.commands, ran.bytes, lines, out)
 }
 
 #[test]
@@ -116,9 +78,7 @@ fn runs() {
 #[test]
 fn rounds() {
     let file = file();
-    let repeat = |what, id, bytes: &[u8], rounds| unsafe {
-        dz_repeat(file.as_ptr(), file.len(), what, id, bytes.as_ptr(), bytes.len(), rounds)
-    };
+    let repeat = |what, id, bytes: &[u8], rounds| raw::repeat(&file, what, id, bytes, rounds);
     for rounds in [1, 2, 3] {
         assert_eq!(repeat(0, 0, &[0x06, 0x01], rounds), 0);
         assert_eq!(repeat(0, 0, &[0x06, 0x05], rounds), 4);
@@ -132,5 +92,5 @@ fn rounds() {
         assert_eq!(repeat(5, 0, &[], rounds), 5);
     }
     assert_eq!(repeat(1, 3, &[], 0), 0);
-    assert_eq!(unsafe { dz_repeat(NO_FILE.as_ptr(), 1, 2, 0, NO_FILE.as_ptr(), 0, 1) }, 10);
+    assert_eq!(raw::repeat(&NO_FILE, 2, 0, &[], 1), 10);
 }
