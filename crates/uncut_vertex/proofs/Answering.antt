@@ -1,10 +1,11 @@
 -- 0E at a vertex with two ends: its rows in an index, questions 7 and 8, what the results need. Assumes nothing.
-use Prim.Native.Nat.{ℕ, _+_, _<_, _≤_}
+use Prim.Native.Nat.{ℕ, zero, suc, _+_, _<_, _≤_}
 use native.Mathlib.Omega.{arith}
 use mathlib.Core.Path.{_≡_, refl, sym, ap, ap₂, _∙_, subst}
 use mathlib.Core.Bool.{Bool, true, false, cond}
-use mathlib.Core.List.{[], _∷_}
+use mathlib.Core.List.{List, [], _∷_, map}
 use lib.ListN.{length, getD, take}
+use lib.Seq.{take-take}
 use lib.Dec.{T, leb}
 use Rattle.coordinate.specs.declared.Position.{Position}
 use Rattle.complex.specs.Lists.{total}
@@ -16,16 +17,20 @@ use Rattle.complex.specs.Decode.{uncut}
 use Rattle.complex.specs.Sizes.{sized, moreLess, changedBy, newByUncut, uncutChange}
 use Rattle.complex.specs.Uncut.{Uncut, loop, joint, inOne, joined, uncutCase, uncutResult, allowed}
 use Rattle.complex.proofs.Bools.{true-of}
+use Rattle.store.specs.declared.Cell.{Cell}
 use Rattle.store.specs.declared.Drawing.{Drawing}
 use Rattle.store.specs.declared.Index.{Index}
 use Rattle.store.specs.Index.{Indexes, rowOf}
 use Rattle.store.specs.Sizes.{Sizes}
-use Rattle.store.specs.View.{sheetOf, cyclesOf, bendSum}
+use Rattle.store.specs.View.{sheetOf, cyclesOf, bendCount, bendSum}
+use Rattle.store.specs.Places.{bendsIn}
+use Rattle.store.specs.Edits.{placesOf}
+use Rattle.store.proofs.Lists.{places-sum}
 use Rattle.sound.specs.Soundness.{soundDrawing}
 use Rattle.sound.proofs.Meaning.{sound-fits, looks}
 use Rattle.append.specs.declared.Runs.{Runs}
 use Rattle.append.specs.Runs.{runsOf, InRange}
-use Rattle.append.specs.Appends.{remade, RoomIn}
+use Rattle.append.specs.Appends.{remade, RoomIn, figureAt}
 use Rattle.append.proofs.Copied.{row-range}
 use Rattle.answer.specs.declared.Totals.{Totals}
 use Rattle.answer.specs.Late.{sizesBy, lateNo}
@@ -60,6 +65,11 @@ asked d z w v k h a ix x t more less et ec r er =
       says = er;
     }
 
+take-map : {A B : Type 0} (f : A → B) (n : ℕ) (l : List A) → take n (map f l) ≡ map f (take n l)
+take-map f zero l = refl
+take-map f (suc n) [] = refl
+take-map {A} {B} f (suc n) (x ∷ l) = ap (λ (r : List B). f x ∷ r) (take-map f n l)
+
 -- ---- rows in an index
 module _ (d : Drawing) (z : Sizes d) (w : T (soundDrawing d)) (ix : Index) (x : Indexes d ix) where
   pub paired : (i a j b : ℕ) → a ≡ rowOf i (take (d .count) (ix .ids)) → isLive (cellAt (sheetOf d) i) ≡ true → b ≡ rowOf j (take (d .count) (ix .ids)) → isLive (cellAt (sheetOf d) j) ≡ true → Pair d i a j b
@@ -76,17 +86,30 @@ module _ (d : Drawing) (z : Sizes d) (w : T (soundDrawing d)) (ix : Index) (x : 
   pub placed : (v a : ℕ) → a ≡ rowOf v (take (d .count) (ix .ids)) → isLive (cellAt (sheetOf d) v) ≡ true → (p : Position) → p ≡ placeOf (getD (d .cells) a noCell .shape) → positionOf (cellAt (sheetOf d) v) ≡ p
   placed v a ea l p ep = sym (ep ∙ vertex-place d z w v a (row-among d z w ix x v a ea l) l)
 
+  -- where the bends of a cell begin, and how many they are
+  began : (e row : ℕ) → row ≡ rowOf e (take (d .count) (ix .ids)) → isLive (cellAt (sheetOf d) e) ≡ true → (first : ℕ) → first ≡ total (placesOf 0) (take row (ix .bends)) → first ≡ bendSum (take row (d .cells))
+  began e row er l first ef =
+      let h = live-below d z w ix x e row er l in
+      let n : Cell → ℕ = λ c. bendCount (c .shape) in
+      ef
+      ∙ ap (total (placesOf 0))
+      (sym (take-take row (d .count) (ix .bends) (omega arith)) ∙ ap (take row) (x .bends) ∙ take-map n row (take (d .count) (d .cells)) ∙ ap (map n) (take-take row (d .count) (d .cells) (omega arith)))
+      ∙ places-sum n (take row (d .cells))
+
+  counted : (e row : ℕ) → row ≡ rowOf e (take (d .count) (ix .ids)) → isLive (cellAt (sheetOf d) e) ≡ true → (m : ℕ) → m ≡ getD (ix .bends) row 0 → m ≡ length (bendsIn (figureAt (sheetOf d) row))
+  counted e row er l m em = em ∙ own-count d z w ix x e row er l ∙ ap length (sym (pair-bends d z e row e row (paired e row e row er l er l)))
+
   -- an edge as it leaves a vertex
   pub sided : (e row : ℕ) → row ≡ rowOf e (take (d .count) (ix .ids)) → isLive (cellAt (sheetOf d) e) ≡ true → (back : Bool) (far first m : ℕ)
-      → far ≡ cond back (getD (ix .starts) row 0) (getD (ix .ends) row 0) → first ≡ bendSum (take row (d .cells)) → m ≡ getD (ix .bends) row 0 → Sided d e back (record { row = row; far = far; first = first; count = m })
+      → far ≡ cond back (getD (ix .starts) row 0) (getD (ix .ends) row 0) → first ≡ total (placesOf 0) (take row (ix .bends)) → m ≡ getD (ix .bends) row 0 → Sided d e back (record { row = row; far = far; first = first; count = m })
   sided e row er l back far first m ef eb em =
       let k = looks d z ix x w in
       record {
         row = row-among d z w ix x e row er l;
         rowIn = live-below d z w ix x e row er l;
         far = ef ∙ ap₂ (cond back) (read-row d z w ix x e row er l (ix .starts) ∙ k .starts e) (read-row d z w ix x e row er l (ix .ends) ∙ k .ends e);
-        first = eb;
-        count = em ∙ own-count d z w ix x e row er l ∙ ap length (sym (pair-bends d z e row e row (paired e row e row er l er l)));
+        first = began e row er l first eb;
+        count = counted e row er l m em;
       }
 
 -- ---- both ends of the edge e
@@ -98,8 +121,9 @@ module _ (d : Drawing) (z : Sizes d) (w : T (soundDrawing d)) (v e : ℕ) (h : u
   pub loop-live : AtLoop (sheetOf d) v e
   loop-live = loop-told (sheetOf d) (sound-in d w) v e h
 
-  pub looped-needs : (r : ℕ) → Asked d z w (uncut v) r → r ≡ 0 → (ix : Index) → Indexes d ix → (a b : ℕ) → a ≡ rowOf v (take (d .count) (ix .ids)) → b ≡ rowOf e (take (d .count) (ix .ids)) → (p : Position) → p ≡ placeOf (getD (d .cells) a noCell .shape) → Looped d v a e b p
-  looped-needs r k y ix x a b ea eb p ep =
+  pub looped-needs : (r : ℕ) → Asked d z w (uncut v) r → r ≡ 0 → (ix : Index) → Indexes d ix → (a b : ℕ) → a ≡ rowOf v (take (d .count) (ix .ids)) → b ≡ rowOf e (take (d .count) (ix .ids)) → (p : Position) → p ≡ placeOf (getD (d .cells) a noCell .shape)
+      → (first m : ℕ) → first ≡ total (placesOf 0) (take b (ix .bends)) → m ≡ getD (ix .bends) b 0 → Looped d v a e b p first m
+  looped-needs r k y ix x a b ea eb p ep first m ef em =
       let s = sheetOf d in
       let lv = loop-live .vertexLive in
       let le = loop-live .edgeLive in
@@ -109,6 +133,8 @@ module _ (d : Drawing) (z : Sizes d) (w : T (soundDrawing d)) (v e : ℕ) (h : u
         pair = paired d z w ix x v a e b ea lv eb le;
         small = omega (arith, live-id s (sound-in d w) e le);
         place = q;
+        begin = began d z w ix x e b eb le first ef;
+        count = counted d z w ix x e b eb le m em;
         room =
             subst (λ (o : Position). RoomIn (remade (both v e) f s) (closedEdge (o ∷ bendsOf (cellAt s e)) ∷ [])) q
             (room d z w (uncut v) r k y (both v e) f (closedEdge (positionOf (cellAt s v) ∷ bendsOf (cellAt s e)) ∷ []) (uncut-result s v (loop e) h));

@@ -63,20 +63,21 @@ pair-bends d z i a j b p =
 abbrev pub loopRuns : Position → ℕ → ℕ → Runs
 loopRuns p first m = record { first = 0; count = 0; turned = false; middle = true; at = p; first2 = first; count2 = m; turned2 = false }
 
-module _ (d : Drawing) (z : Sizes d) (v a e b : ℕ) (p : Position) (w : Looped d v a e b p)
-    (first m : ℕ) (ef : first ≡ bendSum (take b (d .cells))) (em : m ≡ length (bendsIn (figureAt (sheetOf d) b)))
+module _ (d : Drawing) (z : Sizes d) (v a e b : ℕ) (p : Position) (first m : ℕ) (w : Looped d v a e b p first m)
     (mid : Drawing) (zm : Sizes mid) (fm : Fits mid) (eo : sheetOf mid ≡ remade (both v e) (rewired sameVertex (inPlaceOf e (sheetOf d .next) false)) (sheetOf d)) where
   loop-bends : runsOf (d .bends) (loopRuns p first m) ≡ p ∷ bendsOf (cellAt (sheetOf d) e)
   loop-bends =
       let f = sound-fits d (w .pair .sound) in
       ap (λ (l : List Position). p ∷ l)
-      (ap₂ (λ (x y : ℕ). run x y (d .bends)) ef em ∙ row-bends d z f b (w .pair .secondIn) ∙ pair-bends d z v a e b (w .pair))
+      (ap₂ (λ (x y : ℕ). run x y (d .bends)) (w .begin) (w .count) ∙ row-bends d z f b (w .pair .secondIn) ∙ pair-bends d z v a e b (w .pair))
 
   pub loop-room : RunsRoom mid (loopRuns p first m) (closedEdge (runsOf (d .bends) (loopRuns p first m)))
   loop-room =
       let f = sound-fits d (w .pair .sound) in
       let x = closedEdge (p ∷ bendsOf (cellAt (sheetOf d) e)) in
       let r = row-range d z f b (w .pair .secondIn) in
+      let i = w .begin in
+      let n = w .count in
       record {
         room = subst (λ (l : List Position). Room mid (closedEdge l)) (sym loop-bends) (room-first mid zm fm x [] (subst (λ (t : Sheet). RoomIn t (x ∷ [])) (sym eo) (w .room)));
         range = record { one = omega arith; two = omega arith };

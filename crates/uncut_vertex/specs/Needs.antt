@@ -34,11 +34,13 @@ pub record Triple (d : Drawing) (i a j b k c : ℕ) : Type 0 where
 abbrev pub allBut : ℕ → ℕ → ℕ → ℕ → Bool
 allBut i j k n = others i n && both j k n
 
--- the vertex v at p, in row a, becomes the first bend of the edge e, in row b
-pub record Looped (d : Drawing) (v a e b : ℕ) (p : Position) : Type 0 where
+-- the vertex v at p, in row a, becomes the first bend of the edge e, in row b, whose m bends begin at first
+pub record Looped (d : Drawing) (v a e b : ℕ) (p : Position) (first m : ℕ) : Type 0 where
   pub pair : Pair d v a e b
   pub small : e < 2147483648
   pub place : positionOf (cellAt (sheetOf d) v) ≡ p
+  pub begin : first ≡ bendSum (take b (d .cells))
+  pub count : m ≡ length (bendsIn (figureAt (sheetOf d) b))
   pub room : RoomIn (remade (both v e) (rewired sameVertex (inPlaceOf e (sheetOf d .next) false)) (sheetOf d)) (closedEdge (p ∷ bendsOf (cellAt (sheetOf d) e)) ∷ [])
 
 -- the edges x and y, in rows b and c, become one through the vertex v, in row a: from start to end, with the bends of r

@@ -43,18 +43,23 @@ fn swap_out(d: Drawing, v: u32, a: usize, e: u32, b: usize) -> Drawing
     keep::keep(mid, dead)
 }
 
-// The vertex v at p becomes the first bend of the edge e, both of whose ends were there; a and b are their rows.
-pub fn join_loop(d: Drawing, v: u32, a: usize, e: u32, b: usize, p: Position) -> Drawing
-    requires { ⌜ Looped d v a e b p ⌝ }
+// The vertex v at p becomes the first bend of the edge e, both of whose ends were there; a and b are their rows, and the m
+// bends of e begin at first.
+pub fn join_loop(
+    d: Drawing,
+    v: u32,
+    a: usize,
+    e: u32,
+    b: usize,
+    p: Position,
+    first: usize,
+    m: usize,
+) -> Drawing
+    requires { ⌜ Looped d v a e b p first m ⌝ }
     ensures { λ r. ⌜ sheetOf r ≡ uncutResult (sheetOf d) v (loop e) ⌝ }
     ensures { λ r. ⌜ Fits r ⌝ }
 {
-    let cells = d.cells;
     let bends = d.bends;
-    let first = append::bends_before(d, b);
-    let c = cells[b];
-    let s = c.shape;
-    let m = store::wide(store::bend_count(s));
     let mid = swap_out(d, v, a, e, b);
     let r = Runs {
         first: 0,
@@ -174,7 +179,10 @@ pub fn looped(d: Drawing, v: u32, e: u32) -> Answer
     let a = store::find(&ids, n, v);
     let b = store::find(&ids, n, e);
     let p = place_at(d, a);
-    answer::done(next, n, join_loop(d, v, a, e, b, p))
+    let counts = ix.bends;
+    let first = cycles::bend_start(&counts, b);
+    let m = store::wide(counts[b]);
+    answer::done(next, n, join_loop(d, v, a, e, b, p, first, m))
 }
 
 // An edge as it leaves a vertex: its row, the vertex where it leads, and where its bends stand.
@@ -208,7 +216,7 @@ fn side_of(d: Drawing, ix: Index, e: u32, back: bool) -> Side
     let counts = ix.bends;
     let row = store::find(&ids, n, e);
     let far = either(back, starts[row], ends[row]);
-    let first = append::bends_before(d, row);
+    let first = cycles::bend_start(&counts, row);
     let m = store::wide(counts[row]);
     Side {
         row: row,

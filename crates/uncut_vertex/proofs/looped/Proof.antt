@@ -1,5 +1,6 @@
 -- `looped` meets its contract: questions 7 and 8, then the closed edge. Assumes nothing.
 use borrow.Author.Needs.{needs}
+use native.Mathlib.Omega.{arith}
 use mathlib.Core.Path.{sym, _∙_}
 use lib.Dec.{lit≤}
 use Rattle.complex.specs.Decode.{uncut}
@@ -8,7 +9,7 @@ use Rattle.store.specs.View.{sheetOf}
 use Rattle.store.proofs.Sizes.{sizes}
 use Rattle.sound.proofs.Meaning.{sound-fits}
 use Rattle.answer.proofs.Laws.{summed, totals-small}
-use Rattle.cut.proofs.Found.{find-asks, row-below}
+use Rattle.cut.proofs.Found.{find-asks, row-below, base-asks}
 use Rattle.outline.proofs.Late.{next-in, refuses, counts-done, answers}
 use Rattle.uncut_case.proofs.Passing.{uncut-result}
 use Rattle.uncut_vertex.proofs.Answering.{loop-live, loop-asked, looped-needs}
@@ -71,9 +72,47 @@ place-at-requires c κs =
     let z = sizes d _ (st .good .0) in
     row-below d z (st .pre .0) (i .index-of .result) (i .index-of .ensures) (a .v) (fd .find .result) (fd .find .ensures) (loop-live d z (st .pre .0) (a .v) (a .e) (st .pre .1) .vertexLive)
 
+slice-aggregate-bend-start : tie.Need-slice-aggregate-bend-start
+slice-aggregate-bend-start c = search needs
+
+bend-start-requires : tie.Need-bend-start-requires
+bend-start-requires c κs =
+    let f2 = c .before .before .before in
+    let i = f2 .before .before .before .before .before .before .before .before .before .before .before .before in
+    let st = i .before .before in
+    let a = st .args in
+    let d = a .d in
+    let z = sizes d _ (st .good .0) in
+    base-asks d z (st .pre .0) (i .index-of .result) (i .index-of .ensures) (a .e) (f2 .find2 .result) (f2 .find2 .ensures) (loop-live d z (st .pre .0) (a .v) (a .e) (st .pre .1) .edgeLive)
+
+mul-wide : tie.Need-mul-wide
+mul-wide c =
+    let f2 = c .before .before .before .before in
+    let i = f2 .before .before .before .before .before .before .before .before .before .before .before .before in
+    let st = i .before .before in
+    let a = st .args in
+    let d = a .d in
+    let z = sizes d _ (st .good .0) in
+    omega (arith, row-below d z (st .pre .0) (i .index-of .result) (i .index-of .ensures) (a .e) (f2 .find2 .result) (f2 .find2 .ensures) (loop-live d z (st .pre .0) (a .v) (a .e) (st .pre .1) .edgeLive))
+
+array-read-wide : tie.Need-array-read-wide
+array-read-wide c =
+    let f2 = c .before .before .before .before in
+    let i = f2 .before .before .before .before .before .before .before .before .before .before .before .before in
+    let st = i .before .before in
+    let a = st .args in
+    let d = a .d in
+    let z = sizes d _ (st .good .0) in
+    row-below d z (st .pre .0) (i .index-of .result) (i .index-of .ensures) (a .e) (f2 .find2 .result) (f2 .find2 .ensures) (loop-live d z (st .pre .0) (a .v) (a .e) (st .pre .1) .edgeLive)
+
+wide-requires : tie.Need-wide-requires
+wide-requires c κs = search needs
+
 join-loop-requires : tie.Need-join-loop-requires
 join-loop-requires c κs =
-    let f2 = c .before in
+    let bs = c .before in
+    let pl = bs .before .before .before in
+    let f2 = pl .before in
     let fd = f2 .before .before in
     let y = fd .before .before .before in
     let l = y .before in
@@ -84,11 +123,11 @@ join-loop-requires c κs =
     let d = a .d in
     let z = sizes d _ (st .good .0) in
     let k = loop-asked d z (st .pre .0) (a .v) (a .e) (st .pre .1) (i .index-of .result) (i .index-of .ensures) (t .totals-of .result) (t .totals-of .ensures) (l .bend-no .result) (l .bend-no .ensures) in
-    looped-needs d z (st .pre .0) (a .v) (a .e) (st .pre .1) (l .bend-no .result) k (y .if1 .left) (i .index-of .result) (i .index-of .ensures) (fd .find .result) (f2 .find2 .result) (fd .find .ensures) (f2 .find2 .ensures) (c .place-at .result) (c .place-at .ensures)
+    looped-needs d z (st .pre .0) (a .v) (a .e) (st .pre .1) (l .bend-no .result) k (y .if1 .left) (i .index-of .result) (i .index-of .ensures) (fd .find .result) (f2 .find2 .result) (fd .find .ensures) (f2 .find2 .ensures) (pl .place-at .result) (pl .place-at .ensures) (bs .bend-start .result) (c .wide .result) (bs .bend-start .ensures) (c .wide .ensures)
 
 done-requires : tie.Need-done-requires
 done-requires c κs =
-    let fd = c .before .before .before .before in
+    let fd = c .before .before .before .before .before .before .before .before in
     let y = fd .before .before .before in
     let l = y .before in
     let t = l .before in
@@ -104,7 +143,7 @@ done-requires c κs =
 returns-2 : tie.Need-returns-2
 returns-2 c =
     let oc = c .before in
-    let fd = oc .before .before .before .before in
+    let fd = oc .before .before .before .before .before .before .before .before in
     let y = fd .before .before .before in
     let l = y .before in
     let t = l .before in
@@ -129,6 +168,11 @@ looped-spec =
     find-requires
     find-requires-2
     place-at-requires
+    slice-aggregate-bend-start
+    bend-start-requires
+    mul-wide
+    array-read-wide
+    wide-requires
     join-loop-requires
     done-requires
     returns-2)

@@ -2,9 +2,7 @@
 use borrow.Author.Needs.{needs}
 use native.Mathlib.Omega.{arith}
 use Rattle.store.proofs.Sizes.{sizes}
-use Rattle.sound.proofs.Meaning.{sound-fits}
-use Rattle.dropping.proofs.Dropped.{live-below}
-use Rattle.cut.proofs.Found.{find-asks, row-below}
+use Rattle.cut.proofs.Found.{find-asks, row-below, base-asks}
 use Rattle.uncut_vertex.proofs.Answering.{sided}
 use Rattle.uncut_vertex.proofs.side_of.Statement.{statement}
 use Rattle.uncut_vertex.proofs.side_of.Tie as tie
@@ -42,23 +40,26 @@ array-read-either-2 c =
 either-requires : tie.Need-either-requires
 either-requires c κs = search needs
 
-bends-before-requires : tie.Need-bends-before-requires
-bends-before-requires c κs =
-    let fd = c .before in
+slice-aggregate-bend-start : tie.Need-slice-aggregate-bend-start
+slice-aggregate-bend-start c = search needs
+
+bend-start-requires : tie.Need-bend-start-requires
+bend-start-requires c κs =
+    let fd = c .before .before in
     let st = fd .before .before .before .before .before .before in
     let a = st .args in
-    (sound-fits (a .d) (st .pre .0), omega (arith, live-below (a .d) (sizes (a .d) _ (st .good .0)) (st .pre .0) (a .ix) (st .pre .1 .0) (a .e) (fd .find .result) (fd .find .ensures) (st .pre .1 .1)))
+    base-asks (a .d) (sizes (a .d) _ (st .good .0)) (st .pre .0) (a .ix) (st .pre .1 .0) (a .e) (fd .find .result) (fd .find .ensures) (st .pre .1 .1)
 
 mul-wide : tie.Need-mul-wide
 mul-wide c =
-    let fd = c .before .before in
+    let fd = c .before .before .before in
     let st = fd .before .before .before .before .before .before in
     let a = st .args in
     omega (arith, row-below (a .d) (sizes (a .d) _ (st .good .0)) (st .pre .0) (a .ix) (st .pre .1 .0) (a .e) (fd .find .result) (fd .find .ensures) (st .pre .1 .1))
 
 array-read-wide : tie.Need-array-read-wide
 array-read-wide c =
-    let fd = c .before .before in
+    let fd = c .before .before .before in
     let st = fd .before .before .before .before .before .before in
     let a = st .args in
     row-below (a .d) (sizes (a .d) _ (st .good .0)) (st .pre .0) (a .ix) (st .pre .1 .0) (a .e) (fd .find .result) (fd .find .ensures) (st .pre .1 .1)
@@ -68,10 +69,10 @@ wide-requires c κs = search needs
 
 returns : tie.Need-returns
 returns c =
-    let fd = c .before .before .before in
+    let fd = c .before .before .before .before in
     let st = fd .before .before .before .before .before .before in
     let a = st .args in
-    sided (a .d) (sizes (a .d) _ (st .good .0)) (st .pre .0) (a .ix) (st .pre .1 .0) (a .e) (fd .find .result) (fd .find .ensures) (st .pre .1 .1) (a .back) _ _ _ (c .before .before .either .ensures) (c .before .bends-before .ensures) (c .wide .ensures)
+    sided (a .d) (sizes (a .d) _ (st .good .0)) (st .pre .0) (a .ix) (st .pre .1 .0) (a .e) (fd .find .result) (fd .find .ensures) (st .pre .1 .1) (a .back) _ _ _ (c .before .before .before .either .ensures) (c .before .bend-start .ensures) (c .wide .ensures)
 
 pub side-of-spec : {M : Type 1} → statement M
 side-of-spec =
@@ -83,7 +84,8 @@ side-of-spec =
     mul-either-2
     array-read-either-2
     either-requires
-    bends-before-requires
+    slice-aggregate-bend-start
+    bend-start-requires
     mul-wide
     array-read-wide
     wide-requires
