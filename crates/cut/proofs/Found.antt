@@ -75,7 +75,8 @@ module _ (d : Drawing) (z : Sizes d) (w : T (soundDrawing d)) (ix : Index) (x : 
   pub own-count : getD (ix .bends) row 0 ≡ length (bendsOf (cellAt (sheetOf d) e))
   own-count = read-row (ix .bends) ∙ looks d z ix x w .bends e
 
-  own-base : total (placesOf 0) (take row (ix .bends)) ≡ bendSum (take row (d .cells))
+  -- where its bends begin
+  pub own-base : total (placesOf 0) (take row (ix .bends)) ≡ bendSum (take row (d .cells))
   own-base =
       let h = live-below d z w ix x e row er l in
       let n : Cell → ℕ = λ c. bendCount (c .shape) in

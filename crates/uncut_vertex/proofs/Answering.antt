@@ -1,11 +1,10 @@
 -- 0E at a vertex with two ends: its rows in an index, questions 7 and 8, what the results need. Assumes nothing.
-use Prim.Native.Nat.{ℕ, zero, suc, _+_, _<_, _≤_}
+use Prim.Native.Nat.{ℕ, _+_, _<_, _≤_}
 use native.Mathlib.Omega.{arith}
 use mathlib.Core.Path.{_≡_, refl, sym, ap, ap₂, _∙_, subst}
 use mathlib.Core.Bool.{Bool, true, false, cond}
-use mathlib.Core.List.{List, [], _∷_, map}
+use mathlib.Core.List.{[], _∷_}
 use lib.ListN.{length, getD, take}
-use lib.Seq.{take-take}
 use lib.Dec.{T, leb}
 use Rattle.coordinate.specs.declared.Position.{Position}
 use Rattle.complex.specs.Lists.{total}
@@ -17,15 +16,13 @@ use Rattle.complex.specs.Decode.{uncut}
 use Rattle.complex.specs.Sizes.{sized, moreLess, changedBy, newByUncut, uncutChange}
 use Rattle.complex.specs.Uncut.{Uncut, loop, joint, inOne, joined, uncutCase, uncutResult, allowed}
 use Rattle.complex.proofs.Bools.{true-of}
-use Rattle.store.specs.declared.Cell.{Cell}
 use Rattle.store.specs.declared.Drawing.{Drawing}
 use Rattle.store.specs.declared.Index.{Index}
 use Rattle.store.specs.Index.{Indexes, rowOf}
 use Rattle.store.specs.Sizes.{Sizes}
-use Rattle.store.specs.View.{sheetOf, cyclesOf, bendCount, bendSum}
+use Rattle.store.specs.View.{sheetOf, cyclesOf, bendSum}
 use Rattle.store.specs.Places.{bendsIn}
 use Rattle.store.specs.Edits.{placesOf}
-use Rattle.store.proofs.Lists.{places-sum}
 use Rattle.sound.specs.Soundness.{soundDrawing}
 use Rattle.sound.proofs.Meaning.{sound-fits, looks}
 use Rattle.append.specs.declared.Runs.{Runs}
@@ -37,7 +34,7 @@ use Rattle.answer.specs.Late.{sizesBy, lateNo}
 use Rattle.answer.proofs.Laws.{totalsIn}
 use Rattle.dropping.proofs.Dropped.{live-below, row-among, live-id}
 use Rattle.cut.specs.Cuts.{placeOf, noCell}
-use Rattle.cut.proofs.Found.{row-below, own-count, read-row}
+use Rattle.cut.proofs.Found.{row-below, own-count, own-base, read-row}
 use Rattle.cut.proofs.Opened.{vertex-place}
 use Rattle.cut.proofs.OpenAnswer.{uses-are}
 use Rattle.outline.proofs.Late.{sound-in, Asked, room}
@@ -65,11 +62,6 @@ asked d z w v k h a ix x t more less et ec r er =
       says = er;
     }
 
-take-map : {A B : Type 0} (f : A → B) (n : ℕ) (l : List A) → take n (map f l) ≡ map f (take n l)
-take-map f zero l = refl
-take-map f (suc n) [] = refl
-take-map {A} {B} f (suc n) (x ∷ l) = ap (λ (r : List B). f x ∷ r) (take-map f n l)
-
 -- ---- rows in an index
 module _ (d : Drawing) (z : Sizes d) (w : T (soundDrawing d)) (ix : Index) (x : Indexes d ix) where
   pub paired : (i a j b : ℕ) → a ≡ rowOf i (take (d .count) (ix .ids)) → isLive (cellAt (sheetOf d) i) ≡ true → b ≡ rowOf j (take (d .count) (ix .ids)) → isLive (cellAt (sheetOf d) j) ≡ true → Pair d i a j b
@@ -88,13 +80,7 @@ module _ (d : Drawing) (z : Sizes d) (w : T (soundDrawing d)) (ix : Index) (x : 
 
   -- where the bends of a cell begin, and how many they are
   began : (e row : ℕ) → row ≡ rowOf e (take (d .count) (ix .ids)) → isLive (cellAt (sheetOf d) e) ≡ true → (first : ℕ) → first ≡ total (placesOf 0) (take row (ix .bends)) → first ≡ bendSum (take row (d .cells))
-  began e row er l first ef =
-      let h = live-below d z w ix x e row er l in
-      let n : Cell → ℕ = λ c. bendCount (c .shape) in
-      ef
-      ∙ ap (total (placesOf 0))
-      (sym (take-take row (d .count) (ix .bends) (omega arith)) ∙ ap (take row) (x .bends) ∙ take-map n row (take (d .count) (d .cells)) ∙ ap (map n) (take-take row (d .count) (d .cells) (omega arith)))
-      ∙ places-sum n (take row (d .cells))
+  began e row er l first ef = ef ∙ own-base d z w ix x e row er l
 
   counted : (e row : ℕ) → row ≡ rowOf e (take (d .count) (ix .ids)) → isLive (cellAt (sheetOf d) e) ≡ true → (m : ℕ) → m ≡ getD (ix .bends) row 0 → m ≡ length (bendsIn (figureAt (sheetOf d) row))
   counted e row er l m em = em ∙ own-count d z w ix x e row er l ∙ ap length (sym (pair-bends d z e row e row (paired e row e row er l er l)))
