@@ -13,20 +13,13 @@ use Rattle.complex.proofs.UnglueVertex.{Every}
 use Rattle.complex.proofs.UncutEdge.{every-more, Real, own-cells, uses-real}
 use Rattle.complex.proofs.Keep.{Sound}
 use Rattle.uncut_case.specs.declared.AtEdge.{AtEdge}
-use Rattle.uncut_case.specs.declared.AtEdge.the-variants.{Refused as Neither, TwoFaces, OneCycle, Rings}
 use Rattle.uncut_case.specs.declared.AtVertex.{AtVertex}
-use Rattle.uncut_case.specs.declared.AtVertex.the-variants.{Refused, Lonely, Loop, Joint}
 use Rattle.uncut_case.specs.Found.{useOf}
 use Rattle.uncut_case.specs.Cases.{vertexCase, edgeCase}
 use Rattle.uncut_edge.specs.Needs.{useAt}
+use Rattle.uncut.specs.Decided.{vertexOf, edgeOf}
 
 -- ---- a vertex
-abbrev pub vertexOf : AtVertex → Uncut
-vertexOf Refused = refused
-vertexOf Lonely = lonely
-vertexOf (Loop e) = loop e
-vertexOf (Joint a p b q) = joint (record { edge = a; backward = p }) (record { edge = b; backward = q })
-
 vertex-back : (ts : List Passage) (n : ℕ) (l : List Halfedge) → uncutVertex ts n l ≡ vertexOf (vertexCase (uncutVertex ts n l))
 vertex-back ts n [] = go (eqb n 1)
   where
@@ -59,12 +52,6 @@ vertex-told s v k c e =
     figure-vertex cs v (cellAt s v) k ∙ vertex-back (passagesAt cs v) (usesBy (loneUse v) cs) (endsAt cs v) ∙ ap vertexOf (sym e)
 
 -- ---- an edge
-abbrev pub edgeOf : ℕ → AtEdge → Uncut
-edgeOf e Neither = refused
-edgeOf e (TwoFaces u w) = twoFaces (useAt e u) (useAt e w)
-edgeOf e (OneCycle u w) = oneCycle (useAt e u) (useAt e w)
-edgeOf e (Rings u w) = rings (useAt e u) (useAt e w)
-
 abbrev Own : ℕ → Used → Type 0
 Own e u = u .halfedge .edge ≡ e
 

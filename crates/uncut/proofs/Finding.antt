@@ -1,11 +1,11 @@
 -- The case that the code finds in a drawing's arrays, and a no to questions 4 and 6. Assumes nothing.
-use Prim.Native.Nat.{ℕ, _+_, _≤_}
+use Prim.Native.Nat.{ℕ, zero, suc, _+_, _≤_, _<_}
 use mathlib.Core.Path.{_≡_, refl, ap, ap₂, sym, _∙_}
 use mathlib.Core.Bool.{Bool, true, false, _||_, cond}
 use native.Mathlib.Omega.{arith}
 use lib.Dec.{T, eqb}
 use lib.ListN.{length, take}
-use borrow.Author.Tests.{ne-eqb}
+use borrow.Author.Tests.{eq-eqb, ne-eqb}
 use Rattle.complex.specs.Lists.{total}
 use Rattle.complex.specs.Cells.{cellAt, isVertex, isOpen, isClosed, isEdge, isVertexOrEdge}
 use Rattle.complex.specs.Decode.{uncut}
@@ -35,7 +35,8 @@ use Rattle.uncut_case.specs.Cases.{endsCase, openCase, closedCase}
 use Rattle.uncut_case.proofs.Deciding.{open-case, closed-case}
 use Rattle.uncut_case.proofs.Meaning.{rowsIn, rowed-is, vertex-total, uses-are}
 use Rattle.uncut_case.proofs.Passing.{uncut-no-4, uncut-no-6}
-use Rattle.uncut.proofs.Cases.{vertexOf, vertex-told, edgeOf, open-told, closed-told}
+use Rattle.uncut.specs.Decided.{vertexOf, edgeOf}
+use Rattle.uncut.proofs.Cases.{vertex-told, open-told, closed-told}
 
 module _ (d : Drawing) (z : Sizes d) (w : T (soundDrawing d)) (ix : Index) (x : Indexes d ix) where
   total-is : total (placesOf 0) (take (d .count) (ix .cycles)) ≡ cycleTotal d
@@ -83,9 +84,30 @@ module _ (d : Drawing) (w : T (soundDrawing d)) (i : ℕ) where
   pub refuses-6 : isVertexOrEdge (cellAt (sheetOf d) i) ≡ true → uncutCase (sheetOf d) i ≡ refused → (r : Answer) → r ≡ refusal d 6 → Answers d (uncut i) r
   refuses-6 k e r q = answers-no d (sound-fits d w) (uncut i) 6 r q (uncut-no-6 (sheetOf d) i k (ap allowed e))
 
-  pub refuses-4 : (ix : Index) → Looks d ix → (k : ℕ) → k ≡ told 4 d ix (ix .kinds) i → (k ≡ 0 → ⊥) → (k ≡ 1 → ⊥) → (k ≡ 2 → ⊥) → (r : Answer) → r ≡ refusal d 4 → Answers d (uncut i) r
-  refuses-4 ix L k e n0 n1 n2 r q =
-      answers-no d (sound-fits d w) (uncut i) 4 r q
-      (uncut-no-4 (sheetOf d) i
-      (ap₂ _||_ (sym (vertex-at L i) ∙ ap (λ (n : ℕ). eqb n 0) (sym e) ∙ ne-eqb k 0 n0)
-      (ap₂ _||_ (sym (open-at L i) ∙ ap (λ (n : ℕ). eqb n 1) (sym e) ∙ ne-eqb k 1 n1) (sym (closed-at L i) ∙ ap (λ (n : ℕ). eqb n 2) (sym e) ∙ ne-eqb k 2 n2))))
+  pub refuses-4 : isVertexOrEdge (cellAt (sheetOf d) i) ≡ false → (r : Answer) → r ≡ refusal d 4 → Answers d (uncut i) r
+  refuses-4 e r q = answers-no d (sound-fits d w) (uncut i) 4 r q (uncut-no-4 (sheetOf d) i e)
+
+-- ---- the kind of the cell i, by its number k
+edge-number : (k : ℕ) → (k ≡ 0 → ⊥) → k ≤ 2 → eqb k 1 || eqb k 2 ≡ true
+edge-number zero n h = absurd (n refl)
+edge-number (suc zero) n h = refl
+edge-number (suc (suc zero)) n h = refl
+edge-number (suc (suc (suc k))) n h = absurd (omega (arith, h))
+
+module _ (d : Drawing) (ix : Index) (L : Looks d ix) (i k : ℕ) (e : k ≡ told 4 d ix (ix .kinds) i) where
+  open-is : eqb k 1 ≡ isOpen (cellAt (sheetOf d) i)
+  open-is = ap (λ (n : ℕ). eqb n 1) e ∙ open-at L i
+
+  pub closed-is : eqb k 2 ≡ isClosed (cellAt (sheetOf d) i)
+  closed-is = ap (λ (n : ℕ). eqb n 2) e ∙ closed-at L i
+
+  pub is-vertex : k ≡ 0 → isVertex (cellAt (sheetOf d) i) ≡ true
+  is-vertex q = sym (vertex-at L i) ∙ eq-eqb _ 0 (sym e ∙ q)
+
+  pub is-edge : (k ≡ 0 → ⊥) → k ≤ 2 → isEdge (cellAt (sheetOf d) i) ≡ true
+  is-edge n h = sym (ap₂ _||_ open-is closed-is) ∙ edge-number k n h
+
+  pub is-neither : 2 < k → isVertexOrEdge (cellAt (sheetOf d) i) ≡ false
+  is-neither h =
+      ap₂ _||_ (sym (vertex-at L i) ∙ ap (λ (n : ℕ). eqb n 0) (sym e) ∙ ne-eqb k 0 (λ q. omega (arith, h, q)))
+      (ap₂ _||_ (sym open-is ∙ ne-eqb k 1 (λ q. omega (arith, h, q))) (sym closed-is ∙ ne-eqb k 2 (λ q. omega (arith, h, q))))

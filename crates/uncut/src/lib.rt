@@ -1,37 +1,71 @@
 ghost use mathlib.Core.Path.{_≡_};
 ghost use mathlib.Core.Bool.{true, cond};
 ghost use lib.Dec.{T};
-ghost use Rattle.complex.specs.Cells.{cellAt, isVertex, isClosed, isEdge};
+ghost use Rattle.complex.specs.Cells.{cellAt, isVertex, isEdge};
 ghost use Rattle.complex.specs.Decode.{uncut as uncutting};
-ghost use Rattle.store.specs.Index.{Indexes};
+ghost use Rattle.complex.specs.Uncut.{uncutCase};
 ghost use Rattle.store.specs.View.{sheetOf};
 ghost use Rattle.sound.specs.Soundness.{soundDrawing};
 ghost use Rattle.answer.specs.Answers.{Answers};
 ghost use Rattle.uncut_case.specs.Cases.{openCase, closedCase};
+ghost use Rattle.uncut.specs.Decided.{vertexOf, edgeOf, Decided};
 use answer::Answer;
 use store::Drawing;
-use store::Index;
 use uncut_case::AtEdge;
 use uncut_case::AtVertex;
 use uncut_case::Uses;
 
-// 0E at a vertex.
-fn at_vertex(d: Drawing, ix: Index, v: u32) -> Answer
-    requires { ⌜ T (soundDrawing d) ⌝ }
-    requires { ⌜ Indexes d ix ⌝ }
-    requires { ⌜ isVertex (cellAt (sheetOf d) v) ≡ true ⌝ }
-    ensures { λ r. ⌜ Answers d (uncutting v) r ⌝ }
+// What stands at a cell: no vertex and no edge, or the case there.
+enum Case {
+    Dead,
+    Vertex(AtVertex),
+    Edge(AtEdge),
+}
+
+fn edge_case(closed: bool, x: Uses) -> AtEdge
+    ensures { λ r. ⌜ r ≡ cond closed (closedCase x) (openCase x) ⌝ }
 {
+    if closed {
+        return uncut_case::closed_case(x);
+    }
+    uncut_case::open_case(x)
+}
+
+// The case of 0E at the cell i.
+fn case_in(d: Drawing, i: u32) -> Case
+    requires { ⌜ T (soundDrawing d) ⌝ }
+    ensures { λ r. ⌜ Decided (sheetOf d) i r ⌝ }
+{
+    let ix = store::index_of(d);
     let n = d.count;
     let ids = ix.ids;
     let kinds = ix.kinds;
-    let starts = ix.starts;
-    let ends = ix.ends;
     let counts = ix.cycles;
     let cy = d.cycles;
     let st = d.steps;
-    let m = cycles::place_sum(0, &counts, 0, n);
-    let c = uncut_case::at_vertex(&ids, &kinds, &starts, &ends, n, &cy, m, &st, v);
+    let k = store::value_at(4, &ids, &kinds, n, i);
+    if k == 0 {
+        let starts = ix.starts;
+        let ends = ix.ends;
+        let m = cycles::place_sum(0, &counts, 0, n);
+        let v = uncut_case::at_vertex(&ids, &kinds, &starts, &ends, n, &cy, m, &st, i);
+        return Case::Vertex(v);
+    }
+    if 2 < k {
+        return Case::Dead;
+    }
+    let x = uncut_case::uses_of(&ids, &counts, n, &cy, &st, i);
+    let e = edge_case(k == 2, x);
+    Case::Edge(e)
+}
+
+// 0E at a vertex.
+fn at_vertex(d: Drawing, v: u32, c: AtVertex) -> Answer
+    requires { ⌜ T (soundDrawing d) ⌝ }
+    requires { ⌜ isVertex (cellAt (sheetOf d) v) ≡ true ⌝ }
+    requires { ⌜ uncutCase (sheetOf d) v ≡ vertexOf c ⌝ }
+    ensures { λ r. ⌜ Answers d (uncutting v) r ⌝ }
+{
     match c {
         AtVertex::Refused => answer::refused(d, 6),
         AtVertex::Lonely => uncut_lone::lonely(d, v),
@@ -45,30 +79,13 @@ fn at_vertex(d: Drawing, ix: Index, v: u32) -> Answer
     }
 }
 
-fn edge_case(closed: bool, x: Uses) -> AtEdge
-    ensures { λ r. ⌜ r ≡ cond closed (closedCase x) (openCase x) ⌝ }
-{
-    if closed {
-        return uncut_case::closed_case(x);
-    }
-    uncut_case::open_case(x)
-}
-
 // 0E at an edge, closed or open.
-fn at_edge(d: Drawing, ix: Index, closed: bool, e: u32) -> Answer
+fn at_edge(d: Drawing, e: u32, c: AtEdge) -> Answer
     requires { ⌜ T (soundDrawing d) ⌝ }
-    requires { ⌜ Indexes d ix ⌝ }
-    requires { ⌜ isClosed (cellAt (sheetOf d) e) ≡ closed ⌝ }
     requires { ⌜ isEdge (cellAt (sheetOf d) e) ≡ true ⌝ }
+    requires { ⌜ uncutCase (sheetOf d) e ≡ edgeOf e c ⌝ }
     ensures { λ r. ⌜ Answers d (uncutting e) r ⌝ }
 {
-    let n = d.count;
-    let ids = ix.ids;
-    let counts = ix.cycles;
-    let cy = d.cycles;
-    let st = d.steps;
-    let x = uncut_case::uses_of(&ids, &counts, n, &cy, &st, e);
-    let c = edge_case(closed, x);
     match c {
         AtEdge::Refused => answer::refused(d, 6),
         AtEdge::TwoFaces(u, w) => uncut_edge::two_faces(d, e, u, w),
@@ -82,19 +99,10 @@ pub fn uncut(d: Drawing, i: u32) -> Answer
     requires { ⌜ T (soundDrawing d) ⌝ }
     ensures { λ r. ⌜ Answers d (uncutting i) r ⌝ }
 {
-    let ix = store::index_of(d);
-    let n = d.count;
-    let ids = ix.ids;
-    let kinds = ix.kinds;
-    let k = store::value_at(4, &ids, &kinds, n, i);
-    if k == 0 {
-        return at_vertex(d, ix, i);
+    let c = case_in(d, i);
+    match c {
+        Case::Dead => answer::refused(d, 4),
+        Case::Vertex(x) => at_vertex(d, i, x),
+        Case::Edge(x) => at_edge(d, i, x),
     }
-    if k == 1 {
-        return at_edge(d, ix, false, i);
-    }
-    if k == 2 {
-        return at_edge(d, ix, true, i);
-    }
-    answer::refused(d, 4)
 }

@@ -4,22 +4,10 @@ use mathlib.Core.Path.{ap, _∙_}
 use mathlib.Core.Bool.{_||_}
 use Rattle.complex.specs.Cells.{cellAt, isVertex}
 use Rattle.store.specs.View.{sheetOf}
-use Rattle.store.proofs.Sizes.{sizes}
-use Rattle.sound.proofs.Meaning.{sound-fits}
-use Rattle.uncut_case.proofs.Meaning.{faces-are}
-use Rattle.uncut.proofs.Cases.{edgeOf}
-use Rattle.uncut.proofs.Finding.{edge-found, or-true, refuses-6}
+use Rattle.uncut.specs.Decided.{edgeOf}
+use Rattle.uncut.proofs.Finding.{or-true, refuses-6}
 use Rattle.uncut.proofs.at_edge.Statement.{statement}
 use Rattle.uncut.proofs.at_edge.Tie as tie
-
-uses-of-requires : tie.Need-uses-of-requires
-uses-of-requires c κs =
-    let s = c .before .before .before .before .before .before .before .before in
-    let d = s .args .d in
-    faces-are d (sizes d _ (s .good .0)) (sound-fits d (s .pre .0)) (s .args .ix) (s .pre .1 .0)
-
-edge-case-requires : tie.Need-edge-case-requires
-edge-case-requires c κs = search needs
 
 enum-told : tie.Need-enum-told
 enum-told c = search needs
@@ -32,45 +20,31 @@ enum-known-c c = search needs
 
 two-faces-requires : tie.Need-two-faces-requires
 two-faces-requires c κs =
-    let t = c .before .before .before in
-    let u = t .before in
-    let s = u .before .before .before .before .before .before .before .before .before in
-    let a = s .args in
-    let f = edge-found (a .d) (sizes (a .d) _ (s .good .0)) (s .pre .0) (a .ix) (s .pre .1 .0) (a .e) (u .uses-of .result) (u .uses-of .ensures) (s .pre .1 .1 .1) (a .closed) (s .pre .1 .1 .0) (t .edge-case .result) (t .edge-case .ensures) in
-    (s .pre .0, f ∙ ap (edgeOf (a .e)) (c .before .c .given .1))
+    let s = c .before .before .before in
+    (s .pre .0, s .pre .1 .1 ∙ ap (edgeOf (s .args .e)) (c .before .c .given .1))
 
 enum-known-c-2 : tie.Need-enum-known-c-2
 enum-known-c-2 c = search needs
 
 one-cycle-requires : tie.Need-one-cycle-requires
 one-cycle-requires c κs =
-    let t = c .before .before .before in
-    let u = t .before in
-    let s = u .before .before .before .before .before .before .before .before .before in
-    let a = s .args in
-    let f = edge-found (a .d) (sizes (a .d) _ (s .good .0)) (s .pre .0) (a .ix) (s .pre .1 .0) (a .e) (u .uses-of .result) (u .uses-of .ensures) (s .pre .1 .1 .1) (a .closed) (s .pre .1 .1 .0) (t .edge-case .result) (t .edge-case .ensures) in
-    (s .pre .0, f ∙ ap (edgeOf (a .e)) (c .before .c2 .given .1))
+    let s = c .before .before .before in
+    (s .pre .0, s .pre .1 .1 ∙ ap (edgeOf (s .args .e)) (c .before .c2 .given .1))
 
 enum-known-c-3 : tie.Need-enum-known-c-3
 enum-known-c-3 c = search needs
 
 rings-requires : tie.Need-rings-requires
 rings-requires c κs =
-    let t = c .before .before .before in
-    let u = t .before in
-    let s = u .before .before .before .before .before .before .before .before .before in
-    let a = s .args in
-    let f = edge-found (a .d) (sizes (a .d) _ (s .good .0)) (s .pre .0) (a .ix) (s .pre .1 .0) (a .e) (u .uses-of .result) (u .uses-of .ensures) (s .pre .1 .1 .1) (a .closed) (s .pre .1 .1 .0) (t .edge-case .result) (t .edge-case .ensures) in
-    (s .pre .0, f ∙ ap (edgeOf (a .e)) (c .before .c3 .given .1))
+    let s = c .before .before .before in
+    (s .pre .0, s .pre .1 .1 ∙ ap (edgeOf (s .args .e)) (c .before .c3 .given .1))
 
 returns : tie.Need-returns
 returns c =
-    let t = c .before .before .before in
-    let u = t .before in
-    let s = u .before .before .before .before .before .before .before .before .before in
-    let a = s .args in
-    let f = edge-found (a .d) (sizes (a .d) _ (s .good .0)) (s .pre .0) (a .ix) (s .pre .1 .0) (a .e) (u .uses-of .result) (u .uses-of .ensures) (s .pre .1 .1 .1) (a .closed) (s .pre .1 .1 .0) (t .edge-case .result) (t .edge-case .ensures) in
-    refuses-6 (a .d) (s .pre .0) (a .e) (ap (λ b. isVertex (cellAt (sheetOf (a .d)) (a .e)) || b) (s .pre .1 .1 .1) ∙ or-true (isVertex (cellAt (sheetOf (a .d)) (a .e)))) (f ∙ ap (edgeOf (a .e)) (c .before .enum-told .given .1)) _ (c .refused .ensures)
+    let s = c .before .before .before in
+    let d = s .args .d in
+    let e = s .args .e in
+    refuses-6 d (s .pre .0) e (ap (λ b. isVertex (cellAt (sheetOf d) e) || b) (s .pre .1 .0) ∙ or-true (isVertex (cellAt (sheetOf d) e))) (s .pre .1 .1 ∙ ap (edgeOf e) (c .before .enum-told .given .1)) _ (c .refused .ensures)
 
 returns-2 : tie.Need-returns-2
 returns-2 c = search needs
@@ -85,8 +59,6 @@ pub at-edge-spec : {M : Type 1} → statement M
 at-edge-spec =
     tie.close
     (tie.spec
-    uses-of-requires
-    edge-case-requires
     enum-told
     refused-requires
     enum-known-c

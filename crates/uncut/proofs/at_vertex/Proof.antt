@@ -4,27 +4,10 @@ use mathlib.Core.Path.{ap, _∙_}
 use mathlib.Core.Bool.{_||_}
 use Rattle.complex.specs.Cells.{cellAt, isEdge}
 use Rattle.store.specs.View.{sheetOf}
-use Rattle.store.proofs.Sizes.{sizes}
-use Rattle.uncut.proofs.Cases.{vertexOf}
-use Rattle.uncut.proofs.Finding.{counting, vertex-asks, vertex-found, refuses-6}
+use Rattle.uncut.specs.Decided.{vertexOf}
+use Rattle.uncut.proofs.Finding.{refuses-6}
 use Rattle.uncut.proofs.at_vertex.Statement.{statement}
 use Rattle.uncut.proofs.at_vertex.Tie as tie
-
-slice-aggregate-place-sum : tie.Need-slice-aggregate-place-sum
-slice-aggregate-place-sum c = search needs
-
-place-sum-requires : tie.Need-place-sum-requires
-place-sum-requires c κs =
-    let s = c .before .before .before .before .before .before .before .before in
-    let d = s .args .d in
-    counting d (sizes d _ (s .good .0)) (s .pre .0) (s .args .ix) (s .pre .1 .0)
-
-at-vertex-requires : tie.Need-at-vertex-requires
-at-vertex-requires c κs =
-    let p = c .before .before .before .before .before .before in
-    let s = p .before .before .before .before .before .before .before .before .before in
-    let d = s .args .d in
-    vertex-asks d (sizes d _ (s .good .0)) (s .pre .0) (s .args .ix) (s .pre .1 .0) (s .args .v) (p .place-sum .result) (p .place-sum .ensures)
 
 enum-told : tie.Need-enum-told
 enum-told c = search needs
@@ -37,46 +20,31 @@ enum-told-2 c = search needs
 
 lonely-requires : tie.Need-lonely-requires
 lonely-requires c κs =
-    let t = c .before .before in
-    let p = t .before .before .before .before .before .before .before in
-    let s = p .before .before .before .before .before .before .before .before .before in
-    let d = s .args .d in
-    let f = vertex-found d (sizes d _ (s .good .0)) (s .pre .0) (s .args .ix) (s .pre .1 .0) (s .args .v) (p .place-sum .result) (p .place-sum .ensures) (s .pre .1 .1) (t .at-vertex .result) (t .at-vertex .ensures) in
-    (s .pre .0, f ∙ ap vertexOf (c .enum-told2 .given .1))
+    let s = c .before .before in
+    (s .pre .0, s .pre .1 .1 ∙ ap vertexOf (c .enum-told2 .given .1))
 
 enum-known-c : tie.Need-enum-known-c
 enum-known-c c = search needs
 
 looped-requires : tie.Need-looped-requires
 looped-requires c κs =
-    let t = c .before .before .before in
-    let p = t .before .before .before .before .before .before .before in
-    let s = p .before .before .before .before .before .before .before .before .before in
-    let d = s .args .d in
-    let f = vertex-found d (sizes d _ (s .good .0)) (s .pre .0) (s .args .ix) (s .pre .1 .0) (s .args .v) (p .place-sum .result) (p .place-sum .ensures) (s .pre .1 .1) (t .at-vertex .result) (t .at-vertex .ensures) in
-    (s .pre .0, f ∙ ap vertexOf (c .before .c .given .1))
+    let s = c .before .before .before in
+    (s .pre .0, s .pre .1 .1 ∙ ap vertexOf (c .before .c .given .1))
 
 enum-known-c-2 : tie.Need-enum-known-c-2
 enum-known-c-2 c = search needs
 
 jointed-requires : tie.Need-jointed-requires
 jointed-requires c κs =
-    let t = c .before .before .before in
-    let p = t .before .before .before .before .before .before .before in
-    let s = p .before .before .before .before .before .before .before .before .before in
-    let d = s .args .d in
-    let f = vertex-found d (sizes d _ (s .good .0)) (s .pre .0) (s .args .ix) (s .pre .1 .0) (s .args .v) (p .place-sum .result) (p .place-sum .ensures) (s .pre .1 .1) (t .at-vertex .result) (t .at-vertex .ensures) in
-    (s .pre .0, f ∙ ap vertexOf (c .before .c2 .given .1))
+    let s = c .before .before .before in
+    (s .pre .0, s .pre .1 .1 ∙ ap vertexOf (c .before .c2 .given .1))
 
 returns : tie.Need-returns
 returns c =
-    let t = c .before .before .before in
-    let p = t .before .before .before .before .before .before .before in
-    let s = p .before .before .before .before .before .before .before .before .before in
+    let s = c .before .before .before in
     let d = s .args .d in
     let v = s .args .v in
-    let f = vertex-found d (sizes d _ (s .good .0)) (s .pre .0) (s .args .ix) (s .pre .1 .0) v (p .place-sum .result) (p .place-sum .ensures) (s .pre .1 .1) (t .at-vertex .result) (t .at-vertex .ensures) in
-    refuses-6 d (s .pre .0) v (ap (λ b. b || isEdge (cellAt (sheetOf d) v)) (s .pre .1 .1)) (f ∙ ap vertexOf (c .before .enum-told .given .1)) _ (c .refused .ensures)
+    refuses-6 d (s .pre .0) v (ap (λ b. b || isEdge (cellAt (sheetOf d) v)) (s .pre .1 .0)) (s .pre .1 .1 ∙ ap vertexOf (c .before .enum-told .given .1)) _ (c .refused .ensures)
 
 returns-2 : tie.Need-returns-2
 returns-2 c = search needs
@@ -91,9 +59,6 @@ pub at-vertex-spec : {M : Type 1} → statement M
 at-vertex-spec =
     tie.close
     (tie.spec
-    slice-aggregate-place-sum
-    place-sum-requires
-    at-vertex-requires
     enum-told
     refused-requires
     enum-told-2
