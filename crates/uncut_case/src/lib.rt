@@ -461,7 +461,9 @@ fn path_uses(
     let mut i: usize = 0;
     while i < m {
         let s = steps[from + i];
-        x = step_use(x, e, s, face, cycle, i);
+        if e == s / 2 {
+            x = step_use(x, e, s, face, cycle, i);
+        }
         i = i + 1;
     }
     x

@@ -2,8 +2,9 @@
 use borrow.Author.Needs.{needs}
 use Prim.Native.Nat.{_≤_, _-_}
 use mathlib.Core.Path.{refl}
+use mathlib.Core.Logic.{⊎-elim}
 use native.Mathlib.Omega.{arith}
-use Rattle.uncut_case.proofs.Using.{Pathing, pathing-turn, pathing-end}
+use Rattle.uncut_case.proofs.Using.{Pathing, pathing-turn, pathing-end, step-not}
 use Rattle.uncut_case.proofs.path_uses.Statement.{statement}
 use Rattle.uncut_case.proofs.path_uses.Tie as tie
 
@@ -37,8 +38,17 @@ loop-less c = search needs
 loop-again : tie.Need-loop-again Inv-loop μ-loop
 loop-again c =
     let at = c .before .before .before in
-    let a = at .before .args in
-    (omega arith, pathing-turn (a .e) (a .face) (a .cycle) (a .steps .now) (a .from) (a .m) (a .x0) (omega arith) (at .loop .x) _ (at .loop .i) (omega arith) (at .loop .inv .1) (c .step-use .ensures))
+    let a = at .before .args in (
+      omega arith,
+      ⊎-elim
+          (λ w.
+          rw (w .2)
+          (pathing-turn (a .e) (a .face) (a .cycle) (a .steps .now) (a .from) (a .m) (a .x0) (omega arith) (at .loop .x) _ (at .loop .i) (omega arith) (at .loop .inv .1) (w .1 .ensures)))
+          (λ w.
+          rw (w .1)
+          (pathing-turn (a .e) (a .face) (a .cycle) (a .steps .now) (a .from) (a .m) (a .x0) (omega arith) (at .loop .x) _ (at .loop .i) (omega arith) (at .loop .inv .1) (step-not (at .loop .x) (a .e) _ (a .face) (a .cycle) (at .loop .i) (w .0 .left))))
+          (c .if1 .came),
+    )
 
 returns : tie.Need-returns Inv-loop μ-loop
 returns c =
