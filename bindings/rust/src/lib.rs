@@ -51,53 +51,80 @@ pub const STAR_MOST: usize = 256;
 pub const LINE_WIDTH: usize = 5;
 
 /// The question of document 01 that got a no.
+///
+/// Later versions may ask more, so a `match` needs an arm for the others. This one has none and is not compiled:
+///
+/// ```compile_fail,E0004
+/// use dazolbei::Question::{self, *};
+///
+/// fn short(question: Question) -> bool {
+///     match question {
+///         Buffer => true,
+///         Sound | Whole | Bounds | Live | Exists | Rule | Ids | Ceilings | File | Unknown(_) => false,
+///     }
+/// }
+/// ```
 #[derive(Clone, Copy, Debug, PartialEq, Eq, Hash)]
-#[repr(u32)]
+#[non_exhaustive]
 pub enum Question {
     /// 1: is the drawing sound?
-    Sound = 1,
+    Sound,
     /// 2: do the bytes begin with a whole command, kind and every number well spelled?
-    Whole = 2,
+    Whole,
     /// 3: is every coordinate in bounds?
-    Bounds = 3,
+    Bounds,
     /// 4: is every cell named live and of a kind the command takes?
-    Live = 4,
+    Live,
     /// 5: is every count, place, flag, cycle and corner one that exists?
-    Exists = 5,
+    Exists,
     /// 6: do cycles join, and does the rule of the command hold?
-    Rule = 6,
+    Rule,
     /// 7: do the ids suffice?
-    Ids = 7,
+    Ids,
     /// 8: does the result keep the ceilings?
-    Ceilings = 8,
+    Ceilings,
     /// 9: is the lent buffer long enough?
-    Buffer = 9,
+    Buffer,
     /// 10: are the bytes, all of them, a sound drawing's file?
-    File = 10,
+    File,
+    /// Any other number but 0. The core gives none; one that is newer than this crate might.
+    Unknown(u32),
 }
 
 impl Question {
-    const ALL: [Question; 10] = [
-        Question::Sound,
-        Question::Whole,
-        Question::Bounds,
-        Question::Live,
-        Question::Exists,
-        Question::Rule,
-        Question::Ids,
-        Question::Ceilings,
-        Question::Buffer,
-        Question::File,
-    ];
-
-    /// The question of a number; none of 0 and of those above 10.
+    /// The question of a number: none of 0, which means done, and `Unknown` of those above 10.
     pub fn from_number(number: u32) -> Option<Question> {
-        Question::ALL.into_iter().find(|question| question.number() == number)
+        Some(match number {
+            0 => return None,
+            1 => Question::Sound,
+            2 => Question::Whole,
+            3 => Question::Bounds,
+            4 => Question::Live,
+            5 => Question::Exists,
+            6 => Question::Rule,
+            7 => Question::Ids,
+            8 => Question::Ceilings,
+            9 => Question::Buffer,
+            10 => Question::File,
+            other => Question::Unknown(other),
+        })
     }
 
     /// The number in document 01.
     pub fn number(self) -> u32 {
-        self as u32
+        match self {
+            Question::Sound => 1,
+            Question::Whole => 2,
+            Question::Bounds => 3,
+            Question::Live => 4,
+            Question::Exists => 5,
+            Question::Rule => 6,
+            Question::Ids => 7,
+            Question::Ceilings => 8,
+            Question::Buffer => 9,
+            Question::File => 10,
+            Question::Unknown(number) => number,
+        }
     }
 }
 
@@ -114,6 +141,7 @@ impl fmt::Display for Question {
             Question::Ceilings => "the result would pass a ceiling",
             Question::Buffer => "the lent buffer is too short",
             Question::File => "the bytes are no sound drawing's file",
+            Question::Unknown(_) => "no question that is known here",
         };
         write!(f, "{} ({no})", self.number())
     }
@@ -121,7 +149,7 @@ impl fmt::Display for Question {
 
 impl Error for Question {}
 
-/// A number of the core as a result.
+/// A number of the core as a result: 0 alone is done.
 fn asked(number: u32) -> Result<(), Question> {
     match Question::from_number(number) {
         None => Ok(()),
@@ -214,5 +242,31 @@ impl Sheet {
 impl Default for Sheet {
     fn default() -> Sheet {
         Sheet::new()
+    }
+}
+
+#[cfg(test)]
+mod tests {
+    use super::*;
+
+    #[test]
+    fn nought_alone_is_done() {
+        assert_eq!(asked(0), Ok(()));
+        for number in (1..=300).chain([u32::MAX - 1, u32::MAX]) {
+            assert_eq!(asked(number).map_err(Question::number), Err(number));
+        }
+        for number in [11, 255, u32::MAX] {
+            assert_eq!(asked(number), Err(Question::Unknown(number)));
+        }
+    }
+
+    #[test]
+    fn lines() {
+        assert_eq!(Line::new(&[0, 4, 3, 1, 2]), Line { answer: Ok(Done { first: 4, new: 3, removed: 1 }), rest: 2 });
+        assert_eq!(Line::new(&[6, 0, 0, 0, 2]), Line { answer: Err(Question::Rule), rest: 2 });
+        for number in [11, 255, u32::MAX] {
+            // whatever the counts say
+            assert_eq!(Line::new(&[number, 4, 3, 1, 2]), Line { answer: Err(Question::Unknown(number)), rest: 2 });
+        }
     }
 }

@@ -82,9 +82,14 @@ fn ceilings() {
 #[test]
 fn numbers() {
     assert_eq!(Question::from_number(0), None);
-    assert_eq!(Question::from_number(11), None);
     for number in 1..=10 {
-        assert_eq!(Question::from_number(number).unwrap().number(), number);
+        let question = Question::from_number(number).unwrap();
+        assert_ne!(question, Question::Unknown(number));
+        assert_eq!(question.number(), number);
+    }
+    for number in [11, 255, u32::MAX] {
+        assert_eq!(Question::from_number(number), Some(Question::Unknown(number)));
     }
     assert_eq!(Question::Ids.to_string(), "7 (the ids do not suffice)");
+    assert_eq!(Question::Unknown(255).to_string(), "255 (no question that is known here)");
 }
