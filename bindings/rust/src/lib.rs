@@ -34,7 +34,8 @@
 //! # Ok::<(), Question>(())
 //! ```
 //!
-//! A call uses up to 2 MB of stack; the main thread has 8 MB, and a thread of Rust's 2 MB unless it asks for more.
+//! A call uses less than 2 MB of stack (1.0 MB is the most that was measured); the main thread has 8 MB, and a thread of
+//! Rust's 2 MB unless it asks for more.
 
 use std::error::Error;
 use std::fmt;
