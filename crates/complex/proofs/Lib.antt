@@ -12,6 +12,8 @@ pub mod Delete
 pub mod Faces
 pub mod Edges
 pub mod CutEdge
+pub mod Every
+pub mod Groups
 pub mod Unglue
 pub mod UnglueVertex
 pub mod UncutEdge
@@ -34,5 +36,5 @@ pub mod Files
 pub mod Rebuilt
 pub mod Claims
 pub mod Asked
-pub mod Groups
+pub mod EndGroups
 pub mod Runs

@@ -5,6 +5,7 @@ pub mod Sound
 pub mod Euler
 pub mod Decode
 pub mod Edits
+pub mod Groups
 pub mod Uses
 pub mod Delete
 pub mod Glue
