@@ -7,7 +7,7 @@ use lib.Dec.{leb}
 use lib.ListN.{length, take}
 use Rattle.complex.specs.Lists.{total}
 use Rattle.complex.specs.Sound.{idsEnd}
-use Rattle.complex.specs.Sizes.{Sizes, sized, sizesFit}
+use Rattle.answer.specs.Sizes.{Sizes, sized, sizesFit}
 use Rattle.store.specs.Edits.{placesOf}
 use Rattle.answer.specs.declared.Totals.{Totals}
 

@@ -2,7 +2,7 @@ ghost use mathlib.Core.Path.{_≡_};
 ghost use mathlib.Core.Bool.{cond};
 ghost use Prim.Native.Nat.{_+_, _-_, _≤_};
 ghost use lib.Dec.{eqb};
-ghost use Rattle.complex.specs.Sizes.{sizesFit, moreLess, changedBy};
+ghost use Rattle.answer.specs.Sizes.{sizesFit, moreLess, changedBy};
 ghost use Rattle.store.specs.Edits.{placesOf};
 ghost use Rattle.complex.specs.Lists.{total};
 ghost use lib.ListN.{take, length};

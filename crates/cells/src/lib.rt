@@ -5,7 +5,7 @@ ghost use lib.ListN.{length};
 ghost use Rattle.bends.specs.Bends.{positionsAt};
 ghost use Rattle.complex.specs.Cells.{vertex, openEdge, closedEdge};
 ghost use Rattle.complex.specs.Decode.{create};
-ghost use Rattle.complex.specs.Sizes.{sized, nothing, moreLess, changedBy};
+ghost use Rattle.answer.specs.Sizes.{sized, nothing, moreLess, changedBy};
 ghost use Rattle.sound.specs.Soundness.{soundDrawing};
 ghost use Rattle.answer.specs.Answers.{Answers};
 ghost use Rattle.answer.specs.Late.{sizesBy, lateNo, Small};

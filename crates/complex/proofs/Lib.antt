@@ -21,11 +21,6 @@ pub mod UncutFaces
 pub mod UncutCycle
 pub mod UncutVertex
 pub mod Uncut
-pub mod Sizes
-pub mod SizesCut
-pub mod SizesUnglue
-pub mod SizesUncut
-pub mod SizesAfter
 pub mod Star
 pub mod Obey
 pub mod Demand

@@ -13,7 +13,6 @@ pub mod Unglue
 pub mod Cut
 pub mod Uncut
 pub mod Commands
-pub mod Sizes
 pub mod Answer
 pub mod File
 pub mod Calls

@@ -15,7 +15,7 @@ use Rattle.complex.specs.Sound.{stepCount}
 use Rattle.complex.specs.Decode.{cutFaceVertex}
 use Rattle.complex.specs.Commands.{question3, question4, question5, question6, result}
 use Rattle.complex.specs.Cut.{faceCutAt}
-use Rattle.complex.specs.Sizes.{sized, nothing, moreLess, newCells, changeOf}
+use Rattle.answer.specs.Sizes.{sized, nothing, moreLess, newCells, changeOf}
 use Rattle.complex.proofs.Asked.{Passed}
 use Rattle.store.specs.declared.Drawing.{Drawing}
 use Rattle.store.specs.declared.Index.{Index}

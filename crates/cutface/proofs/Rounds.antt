@@ -19,7 +19,7 @@ use Rattle.complex.specs.Edits.{rebuild, everyId, replaced}
 use Rattle.complex.specs.Decode.{cutFaceClosed}
 use Rattle.complex.specs.Commands.{question3, question4, question5, question6, result}
 use Rattle.complex.specs.Cut.{noCycle, faceCutRound}
-use Rattle.complex.specs.Sizes.{sized, nothing, moreLess, newCells, changeOf}
+use Rattle.answer.specs.Sizes.{sized, nothing, moreLess, newCells, changeOf}
 use Rattle.complex.specs.Answer.{no, asked3}
 use Rattle.complex.proofs.Asked.{Passed, no-4, no-5}
 use Rattle.store.specs.declared.Drawing.{Drawing}

@@ -11,7 +11,7 @@ ghost use Rattle.complex.specs.Cells.{lone, path, vertex, cellAt};
 ghost use Rattle.complex.specs.Cells as cells;
 ghost use Rattle.complex.specs.Decode.{cutFaceVertex, cutFaceClosed};
 ghost use Rattle.complex.specs.Cut.{faceCutAt, faceCutRound};
-ghost use Rattle.complex.specs.Sizes.{sized, nothing, moreLess, changedBy};
+ghost use Rattle.answer.specs.Sizes.{sized, nothing, moreLess, changedBy};
 ghost use Rattle.store.specs.View.{sheetOf, Fits, halfedgeOf};
 ghost use Rattle.store.specs.Edits.{kept};
 ghost use Rattle.sound.specs.Soundness.{soundDrawing};

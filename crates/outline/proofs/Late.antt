@@ -10,11 +10,11 @@ use Rattle.complex.specs.Edits.{rebuild}
 use Rattle.complex.specs.Sound.{idsEnd, ceilings, cellsMost, cyclesMost, stepsMost, bendsMost}
 use Rattle.complex.specs.Decode.{Command}
 use Rattle.complex.specs.Commands.{result}
-use Rattle.complex.specs.Sizes.{Change, sizesOf, moreLess, changedBy, newCells, changeOf, sizesAfter, sizesFit}
+use Rattle.answer.specs.Sizes.{Change, sizesOf, moreLess, changedBy, newCells, changeOf, sizesAfter, sizesFit}
 use Rattle.complex.proofs.Bools.{truth, both}
 use Rattle.complex.proofs.Keep.{Sound, sound-parts}
 use Rattle.complex.proofs.Asked.{Passed}
-use Rattle.complex.proofs.SizesAfter.{next-after, sizes-after}
+use Rattle.answer.proofs.SizesAfter.{next-after, sizes-after}
 use Rattle.store.specs.declared.Drawing.{Drawing}
 use Rattle.store.specs.declared.Index.{Index}
 use Rattle.store.specs.Index.{Indexes}

@@ -7,7 +7,7 @@ ghost use Rattle.complex.specs.Edits.{both, rewired, sameVertex, inPlaceOf, res
 ghost use Rattle.complex.specs.Uncut.{loop, joint, inOne, uncutCase, uncutResult};
 ghost use Rattle.complex.specs.Lists.{total};
 ghost use Rattle.complex.specs.Uses.{stepUse};
-ghost use Rattle.complex.specs.Sizes.{sized, moreLess, changedBy};
+ghost use Rattle.answer.specs.Sizes.{sized, moreLess, changedBy};
 ghost use Rattle.complex.specs.Decode.{uncut};
 ghost use Rattle.number.specs.Readers.{spread};
 ghost use Rattle.store.specs.Sheet.{allReal};

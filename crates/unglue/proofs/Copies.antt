@@ -17,13 +17,13 @@ use Rattle.complex.specs.Uses.{usesBy, onUses}
 use Rattle.complex.specs.Unglue.{copies, parts, ungluing}
 use Rattle.complex.specs.Commands.{question3, question4, question5, question6, result}
 use Rattle.complex.specs.Answer.{no, asked3}
-use Rattle.complex.specs.Sizes.{Sizes as Counted, sized, nothing, moreLess, changedBy, newCells, changeOf, unglueChange, sizesAfter, sizesFit}
+use Rattle.answer.specs.Sizes.{Sizes as Counted, sized, nothing, moreLess, changedBy, newCells, changeOf, unglueChange, sizesAfter, sizesFit}
 use Rattle.complex.proofs.Bools.{truth, true-of}
 use Rattle.complex.proofs.Lookup.{changed, lookup-reshape, ids-reshape}
 use Rattle.complex.proofs.Keep.{Sound, sound-parts}
 use Rattle.complex.proofs.Unglue.{over-at, asPart}
 use Rattle.complex.proofs.Asked.{Passed, no-6}
-use Rattle.complex.proofs.SizesAfter.{next-after, sizes-after}
+use Rattle.answer.proofs.SizesAfter.{next-after, sizes-after}
 use Rattle.store.specs.declared.Drawing.{Drawing}
 use Rattle.store.specs.declared.Index.{Index}
 use Rattle.store.specs.declared.Cell.{Cell}

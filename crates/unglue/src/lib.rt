@@ -9,7 +9,7 @@ ghost use Rattle.complex.specs.Cells.{cellAt, stepsOf, isVertex};
 ghost use Rattle.complex.specs.Decode.{unglue as ungluing};
 ghost use Rattle.complex.specs.Uses.{passage, passages};
 ghost use Rattle.complex.specs.Unglue.{ungluing as ungluingOf};
-ghost use Rattle.complex.specs.Sizes.{sized, nothing, moreLess, changedBy};
+ghost use Rattle.answer.specs.Sizes.{sized, nothing, moreLess, changedBy};
 ghost use Rattle.store.specs.View.{sheetOf, Fits, halfedgeOf, width, widthSum, cycleOf, cyclesOf, cycleTotal};
 ghost use Rattle.complex.specs.Edits.{reshape};
 ghost use Rattle.store.specs.Index.{rowOf, Indexes};
