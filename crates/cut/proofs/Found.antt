@@ -50,7 +50,7 @@ bends-in (face ks) = refl
 pub sound-in : (d : Drawing) → T (soundDrawing d) → Sound (sheetOf d)
 sound-in d w = sound-parts (sheetOf d) (sound-sheet d w)
 
-pub next-in : (d : Drawing) → T (soundDrawing d) → d .next ≤ 65536
+pub next-in : (d : Drawing) → T (soundDrawing d) → d .next ≤ idsEnd
 unfolding sheetOf
 next-in d w = leb→le (d .next) idsEnd (sound-in d w .inIds)
 

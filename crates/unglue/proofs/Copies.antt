@@ -10,7 +10,7 @@ use lib.Dec.{T, leb, ltb, leb→le}
 use lib.ListN.{length, take, drop, replicate, length-map}
 use Rattle.complex.specs.Lists.{total, rising}
 use Rattle.complex.specs.Cells.{Figure, vertex, openEdge, closedEdge, face, LiveCell, Sheet, cellAt, ids, isFace, isLive, isVertexOrEdge, bendsOf, origin}
-use Rattle.complex.specs.Sound.{idsEnd, cyclesIn, stepsIn, bendsIn, over, ceilings}
+use Rattle.complex.specs.Sound.{idsEnd, bendsMost, cyclesIn, stepsIn, bendsIn, over, ceilings}
 use Rattle.complex.specs.Edits.{reshape, everyId}
 use Rattle.complex.specs.Decode.{unglue}
 use Rattle.complex.specs.Uses.{usesBy, onUses}
@@ -63,14 +63,14 @@ bends-figure (openEdge a b bs) = refl
 bends-figure (closedEdge bs) = refl
 bends-figure (face ks) = refl
 
-pub bends-few : (s : Sheet) → Sound s → (i : ℕ) → length (bendsOf (cellAt s i)) ≤ 2048
+pub bends-few : (s : Sheet) → Sound s → (i : ℕ) → length (bendsOf (cellAt s i)) ≤ bendsMost
 bends-few s S i = go (cellAt s i) refl
   where
     go : (o : Option Figure) → cellAt s i ≡ o → length (bendsOf o) ≤ 2048
     go none e = omega arith
     go (some t) e = let a = over-at bendsIn (s .cells) i t e in let b = below (s .cells) (S .fits) .bends in let f = bends-figure t in omega arith
 
-pub times-few : (n b : ℕ) → b ≤ 2048 → n * b ≤ n * 2048
+pub times-few : (n b : ℕ) → b ≤ bendsMost → n * b ≤ n * bendsMost
 times-few zero b h = omega arith
 times-few (suc n) b h = let r = times-few n b h in omega arith
 
@@ -166,7 +166,7 @@ module _ (d : Drawing) (w : T (soundDrawing d)) where
   pub sound-in : Sound (sheetOf d)
   sound-in = sound-parts (sheetOf d) (sound-sheet d w)
 
-  pub next-in : d .next ≤ 65536
+  pub next-in : d .next ≤ idsEnd
   unfolding sheetOf
   next-in = leb→le (d .next) idsEnd (sound-in .inIds)
 
