@@ -12,13 +12,13 @@ use Rattle.complex.specs.Cells.{LiveCell, Sheet, cellAt, isLive}
 use Rattle.complex.specs.Sound.{idsEnd, cellsMost, ceilings}
 use Rattle.complex.specs.Decode.{Command}
 use Rattle.complex.specs.Commands.{question3, question4, question5, question6, result}
-use Rattle.complex.specs.Sizes.{sized, sizesOf, newCells, changeOf, moreLess, changedBy, sizesAfter, sizesFit}
+use Rattle.answer.specs.Sizes.{sized, sizesOf, newCells, changeOf, moreLess, changedBy, sizesAfter, sizesFit}
 use Rattle.complex.specs.Answer.{no, removedFrom, asked3}
 use Rattle.complex.proofs.Keep.{Sound}
 use Rattle.complex.proofs.Asked.{Passed, no-7, no-8, no-none, done-counts}
 use Rattle.complex.proofs.Rebuilt.{Rebuilt, result-rebuilt}
 use Rattle.complex.proofs.Claims.{removed-rebuilt}
-use Rattle.complex.proofs.SizesAfter.{next-after, sizes-after}
+use Rattle.answer.proofs.SizesAfter.{next-after, sizes-after}
 use Rattle.store.specs.declared.Drawing.{Drawing}
 use Rattle.store.specs.Sizes.{Sizes}
 use Rattle.store.specs.declared.Cell.{Cell}

@@ -1,2 +1,7 @@
+pub mod Sizes
+pub mod SizesCut
+pub mod SizesUnglue
+pub mod SizesUncut
+pub mod SizesAfter
 pub mod Laws
 pub mod Late

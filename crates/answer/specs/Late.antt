@@ -6,8 +6,8 @@ use mathlib.Core.List.{List}
 use lib.Dec.{leb}
 use lib.ListN.{length, take}
 use Rattle.complex.specs.Lists.{total}
-use Rattle.complex.specs.Sound.{idsEnd}
-use Rattle.complex.specs.Sizes.{Sizes, sized, sizesFit}
+use Rattle.complex.specs.Sound.{idsEnd, cyclesMost, stepsMost, bendsMost}
+use Rattle.answer.specs.Sizes.{Sizes, sized, sizesFit}
 use Rattle.store.specs.Edits.{placesOf}
 use Rattle.answer.specs.declared.Totals.{Totals}
 
@@ -29,7 +29,7 @@ pub record Small (t : Totals) : Type 0 where
 pub record Summed (bends counts : List ℕ) (n : ℕ) (cycles : List ℕ) : Type 0 where
   pub bendRows : n ≤ length bends
   pub cycleRows : n ≤ length counts
-  pub bendSum : total (placesOf 0) (take n bends) ≤ 2048
-  pub cycleSum : total (placesOf 0) (take n counts) ≤ 512
+  pub bendSum : total (placesOf 0) (take n bends) ≤ bendsMost
+  pub cycleSum : total (placesOf 0) (take n counts) ≤ cyclesMost
   pub cycleRoom : length cycles ≡ 512
-  pub stepSum : total (placesOf 1) (take (total (placesOf 0) (take n counts)) cycles) ≤ 2048
+  pub stepSum : total (placesOf 1) (take (total (placesOf 0) (take n counts)) cycles) ≤ stepsMost

@@ -2,9 +2,10 @@ ghost use mathlib.Core.Path.{_≡_};
 ghost use mathlib.Core.Bool.{cond};
 ghost use Prim.Native.Nat.{_+_, _-_, _≤_};
 ghost use lib.Dec.{eqb};
-ghost use Rattle.complex.specs.Sizes.{sizesFit, moreLess, changedBy};
+ghost use Rattle.answer.specs.Sizes.{sizesFit, moreLess, changedBy};
 ghost use Rattle.store.specs.Edits.{placesOf};
 ghost use Rattle.complex.specs.Lists.{total};
+ghost use Rattle.complex.specs.Sound.{idsEnd};
 ghost use lib.ListN.{take, length};
 ghost use Rattle.answer.specs.Answers.{refusal, outcome, Counts};
 ghost use Rattle.answer.specs.Late.{sizesBy, lateNo, Small, Summed};
@@ -120,8 +121,8 @@ fn fit_after(t: Totals, more: Totals, less: Totals) -> bool
 
 // Questions 7 and 8, of so many new ids and such a change: the number of the first no, or 0.
 pub fn late_no(next: u32, new: usize, t: Totals, more: Totals, less: Totals) -> u32
-    requires { ⌜ next ≤ 65536 ⌝ }
-    requires { ⌜ new ≤ 65536 ⌝ }
+    requires { ⌜ next ≤ idsEnd ⌝ }
+    requires { ⌜ new ≤ idsEnd ⌝ }
     requires { ⌜ Small t × Small more × Small less ⌝ }
     ensures { λ r. ⌜ r ≡ lateNo next new (changedBy (sizesBy t) (moreLess (sizesBy more) (sizesBy less))) ⌝ }
 {

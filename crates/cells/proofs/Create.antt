@@ -13,11 +13,11 @@ use Rattle.complex.specs.Cells.{Figure, vertex, openEdge, closedEdge, Sheet, ce
 use Rattle.complex.specs.Sound.{idsEnd, cyclesIn, stepsIn, bendsIn, ceilings}
 use Rattle.complex.specs.Decode.{create}
 use Rattle.complex.specs.Commands.{question3, question4, question5, question6, result}
-use Rattle.complex.specs.Sizes.{sized, sizesOf, nothing, moreLess, changedBy, newCells, changeOf, sizesAfter, sizesFit}
+use Rattle.answer.specs.Sizes.{sized, sizesOf, nothing, moreLess, changedBy, newCells, changeOf, sizesAfter, sizesFit}
 use Rattle.complex.proofs.Bools.{truth}
 use Rattle.complex.proofs.Keep.{Sound, sound-parts}
 use Rattle.complex.proofs.Asked.{Passed}
-use Rattle.complex.proofs.SizesAfter.{sizes-after}
+use Rattle.answer.proofs.SizesAfter.{sizes-after}
 use Rattle.store.specs.declared.Drawing.{Drawing}
 use Rattle.store.specs.declared.Index.{Index}
 use Rattle.store.specs.Index.{Indexes}
@@ -40,7 +40,7 @@ module _ (d : Drawing) (z : Sizes d) (w : T (soundDrawing d)) (x : Figure) where
   pub sound-in : Sound (sheetOf d)
   sound-in = sound-parts (sheetOf d) (sound-sheet d w)
 
-  pub next-in : d .next ≤ 65536
+  pub next-in : d .next ≤ idsEnd
   unfolding sheetOf
   next-in = leb→le (d .next) idsEnd (sound-in .inIds)
 

@@ -5,7 +5,8 @@ ghost use lib.ListN.{length};
 ghost use Rattle.bends.specs.Bends.{positionsAt};
 ghost use Rattle.complex.specs.Cells.{vertex, openEdge, closedEdge};
 ghost use Rattle.complex.specs.Decode.{create};
-ghost use Rattle.complex.specs.Sizes.{sized, nothing, moreLess, changedBy};
+ghost use Rattle.complex.specs.Sound.{idsEnd};
+ghost use Rattle.answer.specs.Sizes.{sized, nothing, moreLess, changedBy};
 ghost use Rattle.sound.specs.Soundness.{soundDrawing};
 ghost use Rattle.answer.specs.Answers.{Answers};
 ghost use Rattle.answer.specs.Late.{sizesBy, lateNo, Small};
@@ -16,7 +17,7 @@ use store::Drawing;
 
 // Questions 7 and 8 of one new cell with so many cycles, steps and bends: the number of the first no, or 0.
 pub fn cell_no(next: u32, t: Totals, cycles: usize, steps: usize, bends: usize) -> u32
-    requires { ⌜ next ≤ 65536 ⌝ }
+    requires { ⌜ next ≤ idsEnd ⌝ }
     requires { ⌜ Small t ⌝ }
     requires { ⌜ cycles ≤ 4294967296 ⌝ }
     requires { ⌜ steps ≤ 4294967296 ⌝ }

@@ -12,6 +12,8 @@ pub mod Delete
 pub mod Faces
 pub mod Edges
 pub mod CutEdge
+pub mod Every
+pub mod Groups
 pub mod Unglue
 pub mod UnglueVertex
 pub mod UncutEdge
@@ -19,11 +21,6 @@ pub mod UncutFaces
 pub mod UncutCycle
 pub mod UncutVertex
 pub mod Uncut
-pub mod Sizes
-pub mod SizesCut
-pub mod SizesUnglue
-pub mod SizesUncut
-pub mod SizesAfter
 pub mod Star
 pub mod Obey
 pub mod Demand
@@ -34,5 +31,5 @@ pub mod Files
 pub mod Rebuilt
 pub mod Claims
 pub mod Asked
-pub mod Groups
+pub mod EndGroups
 pub mod Runs

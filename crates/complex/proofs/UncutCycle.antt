@@ -24,7 +24,7 @@ use Rattle.complex.proofs.Walks.{walk-split, Round}
 use Rattle.complex.proofs.Keep.{Sound}
 use Rattle.complex.proofs.Split.{all-getD, walk-begins}
 use Rattle.complex.proofs.Faces.{without-one}
-use Rattle.complex.proofs.UnglueVertex.{Every}
+use Rattle.complex.proofs.Every.{Every}
 use Rattle.complex.proofs.UncutEdge.{every-from, following-walk, walk-stays, all-but-set}
 use Rattle.complex.proofs.UncutFaces.{lookˣ, no-face, vertex-stays, steps-stay, cycle-left, refaced-sound, refaced-over, following-length, path-or-ok, walk-edges, Placed, round-of, opposite-ends, head-vertex}
 

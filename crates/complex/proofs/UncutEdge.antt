@@ -24,7 +24,7 @@ use Rattle.complex.proofs.Bools.{truth, true-of, both, pair, equal}
 use Rattle.complex.proofs.Lookup.{lookup-upto}
 use Rattle.complex.proofs.Walks.{walk-append, walk-split, Round, Ring, Some, joins-cases, round-joins, ring-joins}
 use Rattle.complex.proofs.Keep.{Sound}
-use Rattle.complex.proofs.UnglueVertex.{Every, every-left, every-right, every-both}
+use Rattle.complex.proofs.Every.{Every, every-left, every-right, every-both}
 
 -- ---- every element
 module _ {A : Type 0} (Q : A → Type 0) where

@@ -31,7 +31,8 @@ use Rattle.complex.proofs.Walks.{walk-append, Round, Ring, Some, joins-
 use Rattle.complex.proofs.Keep.{Sound, Look′, rebuild-sound}
 use Rattle.complex.proofs.Adds.{stays-at}
 use Rattle.complex.proofs.Split.{all-getD, apart, ring-no-corner, ends-vertices}
-use Rattle.complex.proofs.UnglueVertex.{Every, every-left, every-right, every-both, open-at}
+use Rattle.complex.proofs.Every.{Every, every-left, every-right, every-both}
+use Rattle.complex.proofs.UnglueVertex.{open-at}
 use Rattle.complex.proofs.UncutEdge.{every-at, every-from, Real, own-cells, uses-real, use-listed, following-walk, walk-stays, joins-stay, all-but-set, all-but-without}
 
 -- the two uses, as they stand

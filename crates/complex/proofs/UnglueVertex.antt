@@ -17,220 +17,24 @@ use Rattle.complex.specs.Cells.{Halfedge, Cycle, lone, path, Figure, ver
 use Rattle.complex.specs.Sound.{Walk, idsEnd, leads, cycleOk, figureOk, ceilings, joins, over}
 use Rattle.complex.specs.Decode.{Command, unglue}
 use Rattle.complex.specs.Edits.{numbered, rebuild, everyId}
-use Rattle.complex.specs.Uses.{figureEnds, endsAt, Passage, passage, passagesFrom, passages, allCycles, passagesAt, isIn, touches, joinGroups, joinAll, groups, groupOf, loneUse, usesBy, earlier, counting, onUses}
+use Rattle.complex.specs.Uses.{figureEnds, endsAt, Passage, passage, passagesFrom, passages, allCycles, passagesAt, arrival, departure, isIn, groups, groupOf, loneUse, usesBy, earlier, counting, onUses}
 use Rattle.complex.specs.Unglue.{copyOf, copies, newLone, newEnd, newEnds, parts, ungluing, unglued}
 use Rattle.complex.specs.Commands.{question4, question6, result}
 use Rattle.complex.proofs.Gains.{gain, loss, Shift, shift}
 use Rattle.complex.proofs.Bools.{truth, true-of, either, both, pair, cases, or-left, or-right, equal}
 use Rattle.complex.proofs.Walks.{walk-of, Round, Ring, Some, joins-cases, round-joins, ring-joins}
+use Rattle.complex.proofs.Every.{Every, every-left, every-right, every-both, filter-append}
+use Rattle.complex.proofs.Groups.{Decides, in-left, in-right, in-some, linked-same}
 use Rattle.complex.proofs.Keep.{Sound, Look′, rebuild-sound, same-eq, same-refl}
 use Rattle.complex.proofs.Adds.{stays-at, new-at, Passes}
 use Rattle.complex.proofs.Unglue.{asPart, unglue-open-sound, unglue-closed-sound, unglue-open-balanced, unglue-closed-balanced, uses-within, lookup-copies, length-counting}
 use Rattle.complex.proofs.Sums.{total-copies}
 use Rattle.complex.proofs.Euler.{over-all, Balanced}
 
--- ---- groups: what is together stays together
-abbrev pub Groups : Type 0
-Groups = List (List Halfedge)
-
--- x and y are in the same groups
-abbrev pub Together : Groups → Halfedge → Halfedge → Type 0
-Together [] x y = Unit {0}
-Together (g ∷ gs) x y = (isIn g x ≡ isIn g y) × Together gs x y
-
--- x is in one of them
-abbrev pub Among : Groups → Halfedge → Type 0
-Among [] x = ⊥
-Among (g ∷ gs) x = T (isIn g x) ⊎ Among gs x
-
-pub in-append : (g k : List Halfedge) (x : Halfedge) → isIn (g ++ k) x ≡ (isIn g x || isIn k x)
-in-append [] k x = refl
-in-append (h ∷ g) k x = ap (λ (b : Bool). same x h || b) (in-append g k x) ∙ sym (or-assoc (same x h) (isIn g x) (isIn k x))
-
-pub in-left : (g k : List Halfedge) (x : Halfedge) → T (isIn g x) → T (isIn (g ++ k) x)
-in-left g k x t = subst T (sym (in-append g k x)) (or-left (isIn g x) (isIn k x) t)
-
-pub in-right : (g k : List Halfedge) (x : Halfedge) → T (isIn k x) → T (isIn (g ++ k) x)
-in-right g k x t = subst T (sym (in-append g k x)) (or-right (isIn g x) (isIn k x) t)
-
-abbrev pub flat : Groups → List Halfedge
-flat gs = spread (λ (x : List Halfedge). x) gs
-
-module _ (p : List Halfedge → Bool) where
-  together-filter : (gs : Groups) (x y : Halfedge) → Together gs x y → Together (filter p gs) x y
-  together-filter [] x y t = tt
-  together-filter (g ∷ gs) x y t = go (p g) (together-filter gs x y (t .1))
-    where
-      go : (b : Bool) → Together (filter p gs) x y → Together (consIf b g (filter p gs)) x y
-      go true r = (t .0, r)
-      go false r = r
-
-  together-flat : (gs : Groups) (x y : Halfedge) → Together gs x y → isIn (flat (filter p gs)) x ≡ isIn (flat (filter p gs)) y
-  together-flat [] x y t = refl
-  together-flat (g ∷ gs) x y t = go (p g) (together-flat gs x y (t .1))
-    where
-      go : (b : Bool) → isIn (flat (filter p gs)) x ≡ isIn (flat (filter p gs)) y → isIn (flat (consIf b g (filter p gs))) x ≡ isIn (flat (consIf b g (filter p gs))) y
-      go true r = in-append g (flat (filter p gs)) x ∙ (λ i. t .0 i || r i) ∙ sym (in-append g (flat (filter p gs)) y)
-      go false r = r
-
-  among-filter : (gs : Groups) (x : Halfedge) → Among gs x → Among (filter p gs) x ⊎ T (isIn (flat (filter (λ (g : List Halfedge). not (p g)) gs)) x)
-  among-filter [] x a = absurd a
-  among-filter (g ∷ gs) x (inl t) = go (p g)
-    where
-      go : (b : Bool) → Among (consIf b g (filter p gs)) x ⊎ T (isIn (flat (consIf (not b) g (filter (λ (k : List Halfedge). not (p k)) gs))) x)
-      go true = inl (inl t)
-      go false = inr (in-left g (flat (filter (λ (k : List Halfedge). not (p k)) gs)) x t)
-  among-filter (g ∷ gs) x (inr a) = go (p g) (among-filter gs x a)
-    where
-      go : (b : Bool) → Among (filter p gs) x ⊎ T (isIn (flat (filter (λ (k : List Halfedge). not (p k)) gs)) x)
-          → Among (consIf b g (filter p gs)) x ⊎ T (isIn (flat (consIf (not b) g (filter (λ (k : List Halfedge). not (p k)) gs))) x)
-      go true (inl r) = inl (inr r)
-      go true (inr r) = inr r
-      go false (inl r) = inl r
-      go false (inr r) = inr (in-right g (flat (filter (λ (k : List Halfedge). not (p k)) gs)) x r)
-
-module _ (t : Passage) where
-  pub together-join : (gs : Groups) (x y : Halfedge) → Together gs x y → Together (joinGroups t gs) x y
-  together-join [] x y h = h
-  together-join (g ∷ gs) x y h = go (touches t g) (together-join gs x y (h .1))
-    where
-      go : (b : Bool) → Together (joinGroups t gs) x y → Together (cond b ((g ++ flat (filter (touches t) gs)) ∷ filter (λ (k : List Halfedge). not (touches t k)) gs) (g ∷ joinGroups t gs)) x y
-      go true r = (
-        in-append g (flat (filter (touches t) gs)) x ∙ (λ i. h .0 i || together-flat (touches t) gs x y (h .1) i) ∙ sym (in-append g (flat (filter (touches t) gs)) y),
-        together-filter (λ (k : List Halfedge). not (touches t k)) gs x y (h .1),
-      )
-      go false r = (h .0, r)
-
-  -- untouched groups hold neither end
-  untouched : (g : List Halfedge) → touches t g ≡ false → isIn g (t .arrives) ≡ isIn g (t .leaves)
-  untouched g q = go (isIn g (t .arrives)) (isIn g (t .leaves)) q
-    where
-      go : (a b : Bool) → (a || b) ≡ false → a ≡ b
-      go true b z = absurd (true≢false z)
-      go false true z = absurd (true≢false z)
-      go false false z = refl
-
-  untouched-all : (gs : Groups) → Together (filter (λ (k : List Halfedge). not (touches t k)) gs) (t .arrives) (t .leaves)
-  untouched-all [] = tt
-  untouched-all (g ∷ gs) = go (touches t g) refl (untouched-all gs)
-    where
-      go : (b : Bool) → touches t g ≡ b → Together (filter (λ (k : List Halfedge). not (touches t k)) gs) (t .arrives) (t .leaves)
-          → Together (consIf (not b) g (filter (λ (k : List Halfedge). not (touches t k)) gs)) (t .arrives) (t .leaves)
-      go true q r = r
-      go false q r = (untouched g q, r)
-
-  -- an end of t that is among gs is in what t touches
-  touched : (x : Halfedge) → ((g : List Halfedge) → T (isIn g x) → T (touches t g)) → (gs : Groups) → Among gs x → T (isIn (flat (filter (touches t) gs)) x)
-  touched x f [] a = absurd a
-  touched x f (g ∷ gs) (inl i) = rw (true-of (touches t g) (f g i)) (in-left g (flat (filter (touches t) gs)) x i)
-  touched x f (g ∷ gs) (inr a) = go (touches t g) (touched x f gs a)
-    where
-      go : (b : Bool) → T (isIn (flat (filter (touches t) gs)) x) → T (isIn (flat (consIf b g (filter (touches t) gs))) x)
-      go true r = in-right g (flat (filter (touches t) gs)) x r
-      go false r = r
-
-  by-arrives : (g : List Halfedge) → T (isIn g (t .arrives)) → T (touches t g)
-  by-arrives g i = or-left (isIn g (t .arrives)) (isIn g (t .leaves)) i
-
-  by-leaves : (g : List Halfedge) → T (isIn g (t .leaves)) → T (touches t g)
-  by-leaves g i = or-right (isIn g (t .arrives)) (isIn g (t .leaves)) i
-
-  pub join-together : (gs : Groups) → Among gs (t .arrives) → Among gs (t .leaves) → Together (joinGroups t gs) (t .arrives) (t .leaves)
-  join-together [] a b = tt
-  join-together (g ∷ gs) a b = go (touches t g) refl (λ c d. join-together gs c d)
-    where
-      here : (x : Halfedge) → ((k : List Halfedge) → T (isIn k x) → T (touches t k)) → Among (g ∷ gs) x → T (isIn (g ++ flat (filter (touches t) gs)) x)
-      here x f (inl i) = in-left g (flat (filter (touches t) gs)) x i
-      here x f (inr c) = in-right g (flat (filter (touches t) gs)) x (touched x f gs c)
-
-      later : (x : Halfedge) → ((k : List Halfedge) → T (isIn k x) → T (touches t k)) → touches t g ≡ false → Among (g ∷ gs) x → Among gs x
-      later x f q (inl i) = absurd (subst T q (f g i))
-      later x f q (inr c) = c
-
-      go : (b : Bool) → touches t g ≡ b → (Among gs (t .arrives) → Among gs (t .leaves) → Together (joinGroups t gs) (t .arrives) (t .leaves))
-          → Together (cond b ((g ++ flat (filter (touches t) gs)) ∷ filter (λ (k : List Halfedge). not (touches t k)) gs) (g ∷ joinGroups t gs)) (t .arrives) (t .leaves)
-      go true q r = (true-of (isIn (g ++ flat (filter (touches t) gs)) (t .arrives)) (here (t .arrives) by-arrives a) ∙ sym (true-of (isIn (g ++ flat (filter (touches t) gs)) (t .leaves)) (here (t .leaves) by-leaves b)), untouched-all gs)
-      go false q r = (untouched g q, r (later (t .arrives) by-arrives q a) (later (t .leaves) by-leaves q b))
-
-  pub among-join : (gs : Groups) (x : Halfedge) → Among gs x → Among (joinGroups t gs) x
-  among-join [] x a = a
-  among-join (g ∷ gs) x (inl i) = go (touches t g)
-    where
-      go : (b : Bool) → Among (cond b ((g ++ flat (filter (touches t) gs)) ∷ filter (λ (k : List Halfedge). not (touches t k)) gs) (g ∷ joinGroups t gs)) x
-      go true = inl (in-left g (flat (filter (touches t) gs)) x i)
-      go false = inl i
-  among-join (g ∷ gs) x (inr a) = go (touches t g) (among-join gs x a)
-    where
-      other : Among (filter (λ (k : List Halfedge). not (touches t k)) gs) x ⊎ T (isIn (flat (filter (λ (k : List Halfedge). not (not (touches t k))) gs)) x) → Among ((g ++ flat (filter (touches t) gs)) ∷ filter (λ (k : List Halfedge). not (touches t k)) gs) x
-      other (inl r) = inr r
-      other (inr r) = inl (in-right g (flat (filter (touches t) gs)) x (subst (λ (ks : Groups). T (isIn (flat ks) x)) (twice gs) r))
-        where
-          twice : (ks : Groups) → filter (λ (k : List Halfedge). not (not (touches t k))) ks ≡ filter (touches t) ks
-          twice [] = refl
-          twice (k ∷ ks) = go (touches t k) (twice ks)
-            where
-              go : (b : Bool) → filter (λ (k : List Halfedge). not (not (touches t k))) ks ≡ filter (touches t) ks → consIf (not (not b)) k (filter (λ (k : List Halfedge). not (not (touches t k))) ks) ≡ consIf b k (filter (touches t) ks)
-              go true z = ap (λ (l : Groups). k ∷ l) z
-              go false z = z
-
-      go : (b : Bool) → Among (joinGroups t gs) x → Among (cond b ((g ++ flat (filter (touches t) gs)) ∷ filter (λ (k : List Halfedge). not (touches t k)) gs) (g ∷ joinGroups t gs)) x
-      go true r = other (among-filter (λ (k : List Halfedge). not (touches t k)) gs x a)
-      go false r = inr r
-
--- ---- all passages joined
-module _ {A : Type 0} (Q : A → Type 0) where
-  abbrev pub Every : List A → Type 0
-  Every [] = Unit {0}
-  Every (x ∷ xs) = Q x × Every xs
-
-  pub every-left : (xs ys : List A) → Every (xs ++ ys) → Every xs
-  every-left [] ys e = tt
-  every-left (x ∷ xs) ys e = (e .0, every-left xs ys (e .1))
-
-  pub every-right : (xs ys : List A) → Every (xs ++ ys) → Every ys
-  every-right [] ys e = e
-  every-right (x ∷ xs) ys e = every-right xs ys (e .1)
-
-together-all : (ts : List Passage) (gs : Groups) (x y : Halfedge) → Together gs x y → Together (joinAll ts gs) x y
-together-all [] gs x y h = h
-together-all (t ∷ ts) gs x y h = together-all ts (joinGroups t gs) x y (together-join t gs x y h)
-
-pub among-all : (ts : List Passage) (gs : Groups) (x : Halfedge) → Among gs x → Among (joinAll ts gs) x
-among-all [] gs x a = a
-among-all (t ∷ ts) gs x a = among-all ts (joinGroups t gs) x (among-join t gs x a)
-
-abbrev Ends : Groups → Passage → Type 0
-Ends gs t = Among gs (t .arrives) × Among gs (t .leaves)
-
-ends-join : (u : Passage) (gs : Groups) (ts : List Passage) → Every (Ends gs) ts → Every (Ends (joinGroups u gs)) ts
-ends-join u gs [] e = tt
-ends-join u gs (t ∷ ts) e = ((among-join u gs (t .arrives) (e .0 .0), among-join u gs (t .leaves) (e .0 .1)), ends-join u gs ts (e .1))
-
-pub join-all : (ts : List Passage) (gs : Groups) → Every (Ends gs) ts → Every (λ (t : Passage). Together (joinAll ts gs) (t .arrives) (t .leaves)) ts
-join-all [] gs e = tt
-join-all (u ∷ us) gs e = (together-all us (joinGroups u gs) (u .arrives) (u .leaves) (join-together u gs (e .0 .0) (e .0 .1)), join-all us (joinGroups u gs) (ends-join u gs us (e .1)))
-
-pub together-group : (gs : Groups) (x y : Halfedge) → Together gs x y → groupOf gs x ≡ groupOf gs y
-together-group [] x y h = refl
-together-group (g ∷ gs) x y h = λ i. cond (h .0 i) 0 (suc (together-group gs x y (h .1) i))
-
-pub among-group : (gs : Groups) (x : Halfedge) → Among gs x → groupOf gs x < length gs
-among-group [] x a = absurd a
-among-group (g ∷ gs) x a = go (isIn g x) refl a (λ r. among-group gs x r)
-  where
-    go : (b : Bool) → isIn g x ≡ b → Among (g ∷ gs) x → (Among gs x → groupOf gs x < length gs) → cond b 0 (suc (groupOf gs x)) < suc (length gs)
-    go true q a r = omega arith
-    go false q (inl i) r = absurd (subst T q i)
-    go false q (inr c) r = let h = r c in omega arith
+pub halfedges : Decides same
+halfedges = record { equal = same-eq; reflexive = same-refl }
 
 -- ---- every edge end at a vertex is listed
-pub among-one : (xs : List Halfedge) (h : Halfedge) → T (isIn xs h) → Among (map one xs) h
-among-one [] h t = t
-among-one (x ∷ xs) h t = elim (cases (same h x) (isIn xs h) t) [
-  | inl a ↦ inl (or-left (same h x) false a)
-  | inr b ↦ inr (among-one xs h b)
-]
-
 pub end-in : (cs : List LiveCell) (v : ℕ) (h : Halfedge) (a b : ℕ) (bs : List Position) → lookup cs (h .edge) ≡ some (openEdge a b bs) → cond (h .backward) b a ≡ v → T (isIn (endsAt cs v) h)
 end-in [] v h a b bs e q = absurd (let z : _≡_ {A = ℕ} 0 1 = cc in omega arith)
 end-in (c ∷ cs) v h a b bs e q = go (eqb (c .id) (h .edge)) refl e (λ r. end-in cs v h a b bs r q)
@@ -251,8 +55,8 @@ end-in (c ∷ cs) v h a b bs e q = go (eqb (c .id) (h .edge)) refl e (λ r. end-
     go : (x : Bool) → eqb (c .id) (h .edge) ≡ x → someIf x (c .figure) (lookup cs (h .edge)) ≡ some (openEdge a b bs) → (lookup cs (h .edge) ≡ some (openEdge a b bs) → T (isIn (endsAt cs v) h)) → T (isIn (endsAt (c ∷ cs) v) h)
     go true i e r =
         let z : c .figure ≡ openEdge a b bs = cc in
-        in-left (figureEnds v (c .id) (c .figure)) (endsAt cs v) h (subst (λ (t : Figure). T (isIn (figureEnds v (c .id) t) h)) (sym z) (here (h .backward) refl (eqb-true (c .id) (h .edge) i) q))
-    go false i e r = in-right (figureEnds v (c .id) (c .figure)) (endsAt cs v) h (r e)
+        in-left same (figureEnds v (c .id) (c .figure)) (endsAt cs v) h (subst (λ (t : Figure). T (isIn (figureEnds v (c .id) t) h)) (sym z) (here (h .backward) refl (eqb-true (c .id) (h .edge) i) q))
+    go false i e r = in-right same (figureEnds v (c .id) (c .figure)) (endsAt cs v) h (r e)
 
 pub open-at : (look : Look) (e : ℕ) → T (isOpen (look e)) → (a b : ℕ) × (bs : List Position) × (look e ≡ some (openEdge a b bs))
 open-at look e t = go (look e) refl t
@@ -265,22 +69,9 @@ open-at look e t = go (look e) refl t
     go (some (face ks)) q k = absurd k
 
 -- ---- lists of lists
-module _ {A : Type 0} (p : A → Bool) where
-  pub filter-append : (xs ys : List A) → filter p (xs ++ ys) ≡ filter p xs ++ filter p ys
-  filter-append [] ys = refl
-  filter-append (x ∷ xs) ys = go (p x) (filter-append xs ys)
-    where
-      go : (b : Bool) → filter p (xs ++ ys) ≡ filter p xs ++ filter p ys → consIf b x (filter p (xs ++ ys)) ≡ consIf b x (filter p xs) ++ filter p ys
-      go true h = ap (λ (l : List A). x ∷ l) h
-      go false h = h
-
 spread-append : {A B : Type 0} (g : A → List B) (xs ys : List A) → spread g (xs ++ ys) ≡ spread g xs ++ spread g ys
 spread-append g [] ys = refl
 spread-append g (x ∷ xs) ys = ap (λ (l : List _). g x ++ l) (spread-append g xs ys) ∙ sym (mathlib.Core.List.append-assoc (g x) (spread g xs) (spread g ys))
-
-pub every-both : {A : Type 0} (Q : A → Type 0) (xs ys : List A) → Every Q xs → Every Q ys → Every Q (xs ++ ys)
-every-both Q [] ys a b = b
-every-both Q (x ∷ xs) ys a b = (a .0, every-both Q xs ys (a .1) b)
 
 abbrev pub turnsOf : List Cycle → List Passage
 turnsOf ks = spread (λ (k : Cycle). passages (stepsOf k)) ks
@@ -299,11 +90,12 @@ passages-in Q Here (c ∷ cs) e j t q = go (eqb (c .id) j) q (λ r. passages-in 
 
 -- ---- the vertex
 module _ (s : Sheet) (S : Sound s) (v : ℕ) (p : Position) (at : cellAt s v ≡ some (vertex p)) where
-  abbrev gs₀ : Groups
-  gs₀ = map one (endsAt (s .cells) v)
-
-  abbrev gs : Groups
+  abbrev gs : List (List Halfedge)
   gs = groups (s .cells) v
+
+  -- a passage between two of the ends
+  abbrev Inside : Passage → Type 0
+  Inside t = T (isIn (endsAt (s .cells) v) (t .arrives)) × T (isIn (endsAt (s .cells) v) (t .leaves))
 
   abbrev Here : Passage → Bool
   Here t = isOpen (cellAt s (t .leaves .edge)) && eqb (tailOf (cellAt s) (t .leaves)) v
@@ -311,10 +103,10 @@ module _ (s : Sheet) (S : Sound s) (v : ℕ) (p : Position) (at : cellAt s v ≡
   abbrev turns : List Cycle → List Passage
   turns ks = spread (λ (k : Cycle). passages (stepsOf k)) ks
 
-  end-among : (h : Halfedge) → T (isOpen (cellAt s (h .edge))) → tailOf (cellAt s) h ≡ v → Among gs₀ h
-  end-among h o q =
+  end-listed : (h : Halfedge) → T (isOpen (cellAt s (h .edge))) → tailOf (cellAt s) h ≡ v → T (isIn (endsAt (s .cells) v) h)
+  end-listed h o q =
       let k = open-at (cellAt s) (h .edge) o in
-      among-one (endsAt (s .cells) v) h (end-in (s .cells) v h (k .0) (k .1) (k .2) (k .3) (ap (λ (x : Option Figure). cond (h .backward) (endOf x) (startOf x)) (sym (k .3)) ∙ q))
+      end-in (s .cells) v h (k .0) (k .1) (k .2) (k .3) (ap (λ (x : Option Figure). cond (h .backward) (endOf x) (startOf x)) (sym (k .3)) ∙ q)
 
   flipped-tail : (h : Halfedge) → tailOf (cellAt s) (flipped h) ≡ headOf (cellAt s) h
   flipped-tail h = go (h .backward)
@@ -323,35 +115,35 @@ module _ (s : Sheet) (S : Sound s) (v : ℕ) (p : Position) (at : cellAt s v ≡
       go true = refl
       go false = refl
 
-  passage-ends : (h k : Halfedge) (ts : List Passage) → T (isOpen (cellAt s (h .edge))) → T (isOpen (cellAt s (k .edge))) → headOf (cellAt s) h ≡ tailOf (cellAt s) k → Every (Ends gs₀) ts → Every (Ends gs₀) (consIf (Here (passage h k)) (passage h k) ts)
+  passage-ends : (h k : Halfedge) (ts : List Passage) → T (isOpen (cellAt s (h .edge))) → T (isOpen (cellAt s (k .edge))) → headOf (cellAt s) h ≡ tailOf (cellAt s) k → Every Inside ts → Every Inside (consIf (Here (passage h k)) (passage h k) ts)
   passage-ends h k ts a b e r = go (Here (passage h k)) refl
     where
-      go : (x : Bool) → Here (passage h k) ≡ x → Every (Ends gs₀) (consIf x (passage h k) ts)
+      go : (x : Bool) → Here (passage h k) ≡ x → Every Inside (consIf x (passage h k) ts)
       go true q =
           let z : tailOf (cellAt s) k ≡ v = eqb→eq (tailOf (cellAt s) k) v (both (isOpen (cellAt s (k .edge))) (eqb (tailOf (cellAt s) k) v) (truth q) .1) in
-          ((end-among (flipped h) a (flipped-tail h ∙ e ∙ z), end-among k b z), r)
+          ((end-listed (flipped h) a (flipped-tail h ∙ e ∙ z), end-listed k b z), r)
       go false q = r
 
-  passages-ends : (f h : Halfedge) (hs : List Halfedge) → T (isOpen (cellAt s (h .edge))) → T (isOpen (cellAt s (f .edge))) → Walk (cellAt s) (headOf (cellAt s) h) hs (tailOf (cellAt s) f) → Every (Ends gs₀) (filter Here (passagesFrom f h hs))
+  passages-ends : (f h : Halfedge) (hs : List Halfedge) → T (isOpen (cellAt s (h .edge))) → T (isOpen (cellAt s (f .edge))) → Walk (cellAt s) (headOf (cellAt s) h) hs (tailOf (cellAt s) f) → Every Inside (filter Here (passagesFrom f h hs))
   passages-ends f h [] a b w = passage-ends h f [] a b w tt
   passages-ends f h (k ∷ ks) a b w = passage-ends h k (filter Here (passagesFrom f k ks)) a (w .0) (w .1) (passages-ends f k ks (w .0) b (w .2))
 
   -- a closed edge passes no vertex
-  passages-ring : (f h : Halfedge) (hs : List Halfedge) → T (isClosed (cellAt s (f .edge))) → T (all (same f) hs) → Every (Ends gs₀) (filter Here (passagesFrom f h hs))
+  passages-ring : (f h : Halfedge) (hs : List Halfedge) → T (isClosed (cellAt s (f .edge))) → T (all (same f) hs) → Every Inside (filter Here (passagesFrom f h hs))
   passages-ring f h [] c t = go (isOpen (cellAt s (f .edge))) refl
     where
-      go : (x : Bool) → isOpen (cellAt s (f .edge)) ≡ x → Every (Ends gs₀) (consIf (x && eqb (tailOf (cellAt s) f) v) (passage h f) [])
+      go : (x : Bool) → isOpen (cellAt s (f .edge)) ≡ x → Every Inside (consIf (x && eqb (tailOf (cellAt s) f) v) (passage h f) [])
       go true q = absurd (Rattle.complex.proofs.Split.apart (cellAt s (f .edge)) c (truth q))
       go false q = tt
   passages-ring f h (k ∷ ks) c t =
       let b = both (same f k) (all (same f) ks) t in
       go (isOpen (cellAt s (k .edge))) refl (subst (λ (x : Halfedge). T (isClosed (cellAt s (x .edge)))) (same-eq f k (b .0)) c) (passages-ring f k ks c (b .1))
     where
-      go : (x : Bool) → isOpen (cellAt s (k .edge)) ≡ x → T (isClosed (cellAt s (k .edge))) → Every (Ends gs₀) (filter Here (passagesFrom f k ks)) → Every (Ends gs₀) (consIf (x && eqb (tailOf (cellAt s) k) v) (passage h k) (filter Here (passagesFrom f k ks)))
+      go : (x : Bool) → isOpen (cellAt s (k .edge)) ≡ x → T (isClosed (cellAt s (k .edge))) → Every Inside (filter Here (passagesFrom f k ks)) → Every Inside (consIf (x && eqb (tailOf (cellAt s) k) v) (passage h k) (filter Here (passagesFrom f k ks)))
       go true q d r = absurd (Rattle.complex.proofs.Split.apart (cellAt s (k .edge)) d (truth q))
       go false q d r = r
 
-  cycle-ends : (k : Cycle) → T (cycleOk (cellAt s) k) → Every (Ends gs₀) (filter Here (passages (stepsOf k)))
+  cycle-ends : (k : Cycle) → T (cycleOk (cellAt s) k) → Every Inside (filter Here (passages (stepsOf k)))
   cycle-ends (lone u) t = tt
   cycle-ends (path []) t = tt
   cycle-ends (path (h ∷ hs)) t = elim (joins-cases (cellAt s) (h ∷ hs) t) [
@@ -359,11 +151,11 @@ module _ (s : Sheet) (S : Sound s) (v : ℕ) (p : Position) (at : cellAt s v ≡
     | inr g ↦ passages-ring h h hs (g .0) (g .1)
   ]
 
-  cycles-ends : (ks : List Cycle) → T (all (cycleOk (cellAt s)) ks) → Every (Ends gs₀) (filter Here (turns ks))
+  cycles-ends : (ks : List Cycle) → T (all (cycleOk (cellAt s)) ks) → Every Inside (filter Here (turns ks))
   cycles-ends [] t = tt
   cycles-ends (k ∷ ks) t =
       let b = both (cycleOk (cellAt s) k) (all (cycleOk (cellAt s)) ks) t in
-      subst (Every (Ends gs₀)) (sym (filter-append Here (passages (stepsOf k)) (turns ks))) (every-both (Ends gs₀) (filter Here (passages (stepsOf k))) (filter Here (turns ks)) (cycle-ends k (b .0)) (cycles-ends ks (b .1)))
+      subst (Every Inside) (sym (filter-append Here (passages (stepsOf k)) (turns ks))) (every-both Inside (filter Here (passages (stepsOf k))) (filter Here (turns ks)) (cycle-ends k (b .0)) (cycles-ends ks (b .1)))
 
   all-cycles : (cs : List LiveCell) → T (all (λ (c : LiveCell). figureOk (cellAt s) (c .figure)) cs) → T (all (cycleOk (cellAt s)) (allCycles cs))
   all-cycles [] t = tt
@@ -377,13 +169,14 @@ module _ (s : Sheet) (S : Sound s) (v : ℕ) (p : Position) (at : cellAt s v ≡
       go (closedEdge bs) o = tt
       go (face ks) o = o
 
-  abbrev Joined : Passage → Type 0
-  Joined t = Together gs (t .arrives) (t .leaves)
+  pub turns-inside : Every (λ (t : Passage). T (isIn (endsAt (s .cells) v) (t .arrives)) × T (isIn (endsAt (s .cells) v) (t .leaves))) (passagesAt (s .cells) v)
+  turns-inside = cycles-ends (allCycles (s .cells)) (all-cycles (s .cells) (Rattle.complex.proofs.Lookup.all-from (figureOk (cellAt s)) 0 (s .cells) (s .next) (S .rises) (S .figures)))
 
-  pub joined : Every Joined (filter Here (turns (allCycles (s .cells))))
-  joined =
-      join-all (passagesAt (s .cells) v) gs₀
-      (cycles-ends (allCycles (s .cells)) (all-cycles (s .cells) (Rattle.complex.proofs.Lookup.all-from (figureOk (cellAt s)) 0 (s .cells) (s .next) (S .rises) (S .figures))))
+  abbrev Joined : Passage → Type 0
+  Joined t = groupOf gs (t .arrives) ≡ groupOf gs (t .leaves)
+
+  joined : Every Joined (passagesAt (s .cells) v)
+  joined = linked-same same arrival departure (endsAt (s .cells) v) (passagesAt (s .cells) v) turns-inside
 
   -- ---- afterwards
   abbrev uᵛ : Cycle → ℕ
@@ -460,7 +253,7 @@ module _ (s : Sheet) (S : Sound s) (v : ℕ) (p : Position) (at : cellAt s v ≡
           go true q =
               let z : Here (passage h k) ≡ true = true-of (Here (passage h k)) (pair (isOpen (cellAt s (k .edge))) (eqb (tailOf (cellAt s) k) v) b (equal (sym (eqb-true v (tailOf (cellAt s) k) q)))) in
               let j : Every Joined (passage h k ∷ ts) = subst (λ (y : Bool). Every Joined (consIf y (passage h k) ts)) z r in
-              ap (copyOf v (s .next)) (together-group gs (flipped h) k (j .0))
+              ap (copyOf v (s .next)) (j .0)
           go false q = refl
 
   ended-walk : (f h : Halfedge) (hs : List Halfedge) → T (isOpen (cellAt s (h .edge))) → T (isOpen (cellAt s (f .edge))) → Walk (cellAt s) (headOf (cellAt s) h) hs (tailOf (cellAt s) f) → Every Joined (filter Here (passagesFrom f h hs)) → Walk lookᵛ (headOf lookᵛ h) hs (tailOf lookᵛ f)
@@ -491,11 +284,11 @@ module _ (s : Sheet) (S : Sound s) (v : ℕ) (p : Position) (at : cellAt s v ≡
       (cycle-ended n k (omega arith) (b .0) (every-left Joined (filter Here (passages (stepsOf k))) (filter Here (turns ks)) d))
       (cycles-ended (n + loneUse v k) ks (omega arith) (b .1) (every-right Joined (filter Here (passages (stepsOf k))) (filter Here (turns ks)) d))
 
-  end-vertex : (u : ℕ) (h : Halfedge) → T (isVertex (cellAt s u)) → (u ≡ v → Among gs₀ h) → T (isVertex (lookᵛ (newEnd v (s .next) gs u h)))
+  end-vertex : (u : ℕ) (h : Halfedge) → T (isVertex (cellAt s u)) → (u ≡ v → T (isIn (endsAt (s .cells) v) h)) → T (isVertex (lookᵛ (newEnd v (s .next) gs u h)))
   end-vertex u h t a = go (eqb v u) refl
     where
       go : (x : Bool) → eqb v u ≡ x → T (isVertex (lookᵛ (cond x (copyOf v (s .next) (groupOf gs h)) u)))
-      go true q = vertex-new (groupOf gs h) (let l = among-group gs h (among-all (passagesAt (s .cells) v) gs₀ h (a (sym (eqb-true v u q)))) in omega arith)
+      go true q = vertex-new (groupOf gs h) (let l = in-some same arrival departure (endsAt (s .cells) v) (passagesAt (s .cells) v) h (a (sym (eqb-true v u q))) in omega arith)
       go false q = vertex-left u t
 
   old-ok : (j : ℕ) (t : Figure) → cellAt s j ≡ some t → T (figureOk (cellAt s) t) → T (figureOk lookᵛ (fᵛ j t))
@@ -505,8 +298,8 @@ module _ (s : Sheet) (S : Sound s) (v : ℕ) (p : Position) (at : cellAt s v ≡
       let y = both (isVertex (cellAt s b)) (all within bs) (x .1) in
       let q : T (isOpen (cellAt s j)) = rw e tt in
       pair (isVertex (lookᵛ (newEnd v (s .next) gs a (along j)))) (isVertex (lookᵛ (newEnd v (s .next) gs b (against j))) && all within bs)
-      (end-vertex a (along j) (x .0) (λ z. end-among (along j) q (ap startOf e ∙ z)))
-      (pair (isVertex (lookᵛ (newEnd v (s .next) gs b (against j)))) (all within bs) (end-vertex b (against j) (y .0) (λ z. end-among (against j) q (ap endOf e ∙ z))) (y .1))
+      (end-vertex a (along j) (x .0) (λ z. end-listed (along j) q (ap startOf e ∙ z)))
+      (pair (isVertex (lookᵛ (newEnd v (s .next) gs b (against j)))) (all within bs) (end-vertex b (against j) (y .0) (λ z. end-listed (against j) q (ap endOf e ∙ z))) (y .1))
   old-ok j (closedEdge bs) e o = o
   old-ok j (face ks) e o =
       let w = uses-within (λ (x : Figure). total uᵛ (cyclesOf (some x))) (s .cells) j (face ks) e in

@@ -5,6 +5,7 @@ pub mod Sound
 pub mod Euler
 pub mod Decode
 pub mod Edits
+pub mod Groups
 pub mod Uses
 pub mod Delete
 pub mod Glue
@@ -12,7 +13,6 @@ pub mod Unglue
 pub mod Cut
 pub mod Uncut
 pub mod Commands
-pub mod Sizes
 pub mod Answer
 pub mod File
 pub mod Calls

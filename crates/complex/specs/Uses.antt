@@ -1,7 +1,7 @@
 -- Where a drawing uses a cell. An edge end is written as the halfedge that leaves by it: e for the start, e⁻ for the end. Definitions only.
 use Prim.Native.Nat.{ℕ, zero, suc, _+_}
-use mathlib.Core.Bool.{Bool, true, false, not, _&&_, _||_, cond}
-use mathlib.Core.List.{List, [], _∷_, _++_, map, List·Memᴰ}
+use mathlib.Core.Bool.{Bool, _&&_, cond}
+use mathlib.Core.List.{List, [], _∷_, _++_, map}
 use mathlib.Core.Option.{Option, none, some}
 use lib.ListN.{length}
 use lib.Dec.{eqb, ltb}
@@ -9,6 +9,7 @@ use Rattle.number.specs.Readers.{spread}
 use Rattle.complex.specs.Lists.{any, filter, total, consIf, one}
 use Rattle.complex.specs.Cells.{Halfedge, Cycle, lone, path, Figure, vertex, openEdge, closedEdge, face, LiveCell, Look, lookup, isOpen, cyclesOf, stepsOf, along, against, flipped, same, tailOf}
 use Rattle.complex.specs.Sound.{over}
+use Rattle.complex.specs.Groups
 
 -- ---- edge ends at a vertex, by edge id, start before end
 abbrev pub figureEnds : ℕ → ℕ → Figure → List Halfedge
@@ -47,35 +48,29 @@ passagesAt cs v =
 
 -- ---- groups of ends: joined by a passage, and so on through chains
 abbrev pub isIn : List Halfedge → Halfedge → Bool
-isIn hs h = any (same h) hs
+isIn hs h = Groups.isIn same hs h
 
-abbrev pub touches : Passage → List Halfedge → Bool
-touches t g = isIn g (t .arrives) || isIn g (t .leaves)
+-- a passage links the end by which it arrives and the one by which it leaves
+abbrev pub arrival : Passage → Halfedge
+arrival t = t .arrives
 
--- a passage joins the groups of its two ends, at the place of the first
-abbrev pub joinGroups : Passage → List (List Halfedge) → List (List Halfedge)
-joinGroups t [] = []
-joinGroups t (g ∷ gs) = cond (touches t g) ((g ++ spread (λ (x : List Halfedge). x) (filter (touches t) gs)) ∷ filter (λ (x : List Halfedge). not (touches t x)) gs) (g ∷ joinGroups t gs)
+abbrev pub departure : Passage → Halfedge
+departure t = t .leaves
 
 abbrev pub joinAll : List Passage → List (List Halfedge) → List (List Halfedge)
-joinAll [] gs = gs
-joinAll (t ∷ ts) gs = joinAll ts (joinGroups t gs)
+joinAll ts gs = Groups.joinAll same arrival departure ts gs
 
 -- the groups of a vertex's ends, by their first members
 abbrev pub groups : List LiveCell → ℕ → List (List Halfedge)
 groups cs v = joinAll (passagesAt cs v) (map one (endsAt cs v))
 
 -- two edge ends belong together if some cycle passes from one to the other, and so on through chains. ts are the passages
-pub data Together (ts : List Passage) : Halfedge → Halfedge → Type 0 where
-  passes : (t : Passage) → List·Memᴰ t ts → Together ts (t .arrives) (t .leaves)
-  itself : (x : Halfedge) → Together ts x x
-  back : {x y : Halfedge} → Together ts x y → Together ts y x
-  chain : {x y z : Halfedge} → Together ts x y → Together ts y z → Together ts x z
+abbrev pub Together : List Passage → Halfedge → Halfedge → Type 0
+Together ts x y = Groups.Together arrival departure ts x y
 
 -- the place of the group that holds an end
 abbrev pub groupOf : List (List Halfedge) → Halfedge → ℕ
-groupOf [] x = 0
-groupOf (g ∷ gs) x = cond (isIn g x) 0 (suc (groupOf gs x))
+groupOf gs x = Groups.groupOf same gs x
 
 -- ---- uses by a cycle, and counting them in the order of face id, cycle and step
 abbrev pub loneUse : ℕ → Cycle → ℕ
@@ -97,11 +92,13 @@ usesBy uses cs = over (λ (x : Figure). total uses (cyclesOf (some x))) cs
 abbrev pub earlier : ℕ → List LiveCell → List LiveCell
 earlier i cs = filter (λ (c : LiveCell). ltb (c .id) i) cs
 
--- each cycle by f, which is told how many uses stand before the cycle: n before the first
+-- each cycle by f, which is told how many uses stand before that cycle. n uses stand before the first cycle of the list
 abbrev pub counting : (Cycle → ℕ) → (ℕ → Cycle → Cycle) → ℕ → List Cycle → List Cycle
 counting uses f n [] = []
 counting uses f n (k ∷ ks) = f n k ∷ counting uses f (n + uses k) ks
 
+-- the same in face i. Before its first cycle stand n uses that come before all faces (at a vertex its groups of ends, at an edge none)
+-- and the uses by faces of lower ids
 abbrev pub onUses : (Cycle → ℕ) → (ℕ → Cycle → Cycle) → ℕ → List LiveCell → ℕ → Figure → Figure
 onUses uses f n cs i (vertex p) = vertex p
 onUses uses f n cs i (openEdge a b bs) = openEdge a b bs

@@ -7,6 +7,7 @@ ghost use Rattle.complex.specs.Cells.{ids};
 ghost use Rattle.complex.specs.Edits.{reshape};
 ghost use Rattle.complex.specs.Uses.{stepUse, ringUse, loneUse, counting, onUses};
 ghost use Rattle.complex.specs.Unglue.{copyOf, newLone};
+ghost use Rattle.complex.specs.Sound.{idsEnd};
 ghost use Rattle.store.specs.View.{width, widthSum, cycleOf, cyclesOf, cycleTotal, sheetOf, Fits};
 ghost use Rattle.store.specs.Edits.{withEntries};
 ghost use Rattle.store.specs.Pools.{dealt};
@@ -134,8 +135,8 @@ pub fn count_lone(cycles: &[u32], n: usize, steps: &[u32], v: u32) -> usize
 
 // The first use keeps i, the later ones get the ids from next on.
 fn copy_of(i: u32, next: u32, k: usize) -> u32
-    requires { ⌜ next ≤ 65536 ⌝ }
-    requires { ⌜ k ≤ 65536 ⌝ }
+    requires { ⌜ next ≤ idsEnd ⌝ }
+    requires { ⌜ k ≤ idsEnd ⌝ }
     ensures { λ r. ⌜ r ≡ copyOf i next k ⌝ }
 {
     if k == 0 {
@@ -145,8 +146,8 @@ fn copy_of(i: u32, next: u32, k: usize) -> u32
 }
 
 fn copy_word(s: u32, i: u32, next: u32, k: usize) -> u32
-    requires { ⌜ next ≤ 65536 ⌝ }
-    requires { ⌜ k ≤ 65536 ⌝ }
+    requires { ⌜ next ≤ idsEnd ⌝ }
+    requires { ⌜ k ≤ idsEnd ⌝ }
     ensures { λ r. ⌜ r ≡ copiedWord i next k s ⌝ }
 {
     if i != s / 2 {
@@ -159,7 +160,7 @@ fn copy_word(s: u32, i: u32, next: u32, k: usize) -> u32
 }
 
 fn next_use(each: bool, i: u32, k: usize, s: u32) -> usize
-    requires { ⌜ k ≤ 65536 ⌝ }
+    requires { ⌜ k ≤ idsEnd ⌝ }
     ensures { λ r. ⌜ r ≡ moved each i k s ⌝ }
 {
     if each {
@@ -171,8 +172,8 @@ fn next_use(each: bool, i: u32, k: usize, s: u32) -> usize
 // The steps of i among the first n get copies: each its own, or all the same.
 fn copy_run(l: &mut [u32], n: usize, each: bool, i: u32, next: u32, k0: usize)
     requires { ⌜ n ≤ length (now l) ⌝ }
-    requires { ⌜ next ≤ 65536 ⌝ }
-    requires { ⌜ k0 + n ≤ 65536 ⌝ }
+    requires { ⌜ next ≤ idsEnd ⌝ }
+    requires { ⌜ k0 + n ≤ idsEnd ⌝ }
     ensures { λ r. ⌜ take n (now (l .exit)) ≡ copiedRun each i next k0 (take n (now (l .entry))) ⌝ }
     ensures { λ r. ⌜ drop n (now (l .exit)) ≡ drop n (now (l .entry)) ⌝ }
 {
@@ -188,8 +189,8 @@ fn copy_run(l: &mut [u32], n: usize, each: bool, i: u32, next: u32, k0: usize)
 
 fn copy_path(c: u32, l: &mut [u32], each: bool, i: u32, next: u32, k: usize)
     requires { ⌜ width c ≤ length (now l) ⌝ }
-    requires { ⌜ next ≤ 65536 ⌝ }
-    requires { ⌜ k + width c ≤ 65536 ⌝ }
+    requires { ⌜ next ≤ idsEnd ⌝ }
+    requires { ⌜ k + width c ≤ idsEnd ⌝ }
     ensures { λ r. ⌜ Changed (copiedPath each i next k) c (now (l .entry)) (now (l .exit)) ⌝ }
 {
     if c == 0 {
@@ -199,8 +200,8 @@ fn copy_path(c: u32, l: &mut [u32], each: bool, i: u32, next: u32, k: usize)
 }
 
 fn copy_vertex(v: u32, i: u32, next: u32, k: usize) -> u32
-    requires { ⌜ next ≤ 65536 ⌝ }
-    requires { ⌜ k ≤ 65536 ⌝ }
+    requires { ⌜ next ≤ idsEnd ⌝ }
+    requires { ⌜ k ≤ idsEnd ⌝ }
     ensures { λ r. ⌜ r ≡ copiedVertex i next k v ⌝ }
 {
     if i == v {
@@ -211,8 +212,8 @@ fn copy_vertex(v: u32, i: u32, next: u32, k: usize) -> u32
 
 fn copy_lone(c: u32, l: &mut [u32], i: u32, next: u32, k: usize)
     requires { ⌜ width c ≤ length (now l) ⌝ }
-    requires { ⌜ next ≤ 65536 ⌝ }
-    requires { ⌜ k ≤ 65536 ⌝ }
+    requires { ⌜ next ≤ idsEnd ⌝ }
+    requires { ⌜ k ≤ idsEnd ⌝ }
     ensures { λ r. ⌜ Changed (newLone i next k) c (now (l .entry)) (now (l .exit)) ⌝ }
 {
     if c != 0 {
@@ -224,8 +225,8 @@ fn copy_lone(c: u32, l: &mut [u32], i: u32, next: u32, k: usize)
 // The cycle of number c at the front of l, with copies where it uses i.
 fn copy_cycle(u: Use, c: u32, l: &mut [u32], i: u32, next: u32, k: usize)
     requires { ⌜ width c ≤ length (now l) ⌝ }
-    requires { ⌜ next ≤ 65536 ⌝ }
-    requires { ⌜ k + width c ≤ 65536 ⌝ }
+    requires { ⌜ next ≤ idsEnd ⌝ }
+    requires { ⌜ k + width c ≤ idsEnd ⌝ }
     ensures { λ r. ⌜ Changed (copied u i next k) c (now (l .entry)) (now (l .exit)) ⌝ }
 {
     match u {
@@ -247,8 +248,8 @@ pub fn copy_cycles(
 )
     requires { ⌜ n ≤ length (now cycles) ⌝ }
     requires { ⌜ widthSum (take n (now cycles)) ≤ length (now steps) ⌝ }
-    requires { ⌜ next ≤ 65536 ⌝ }
-    requires { ⌜ k0 + length (now steps) ≤ 65536 ⌝ }
+    requires { ⌜ next ≤ idsEnd ⌝ }
+    requires { ⌜ k0 + length (now steps) ≤ idsEnd ⌝ }
     ensures { λ r. ⌜ cyclesOf (take n (now (cycles .entry))) (now (steps .exit)) ≡ counting (usesIn u i) (copied u i next) k0 (cyclesOf (take n (now (cycles .entry))) (now (steps .entry))) ⌝ }
 {
     let mut k = k0;
@@ -281,7 +282,7 @@ pub fn with_steps(d: Drawing, steps: &[u32; 2048]) -> Drawing
 pub fn copy_uses(u: Use, d: Drawing, i: u32, next: u32, k0: usize) -> Drawing
     requires { ⌜ Fits d ⌝ }
     requires { ⌜ T (rising 0 (ids (sheetOf d .cells)) (sheetOf d .next)) ⌝ }
-    requires { ⌜ next ≤ 65536 ⌝ }
+    requires { ⌜ next ≤ idsEnd ⌝ }
     requires { ⌜ k0 ≤ 4096 ⌝ }
     ensures { λ r. ⌜ sheetOf r ≡ withEntries (sheetOf d) (reshape (onUses (usesIn u i) (copied u i next) k0 (sheetOf d .cells)) (sheetOf d .cells)) ⌝ }
     ensures { λ r. ⌜ Fits r ⌝ }

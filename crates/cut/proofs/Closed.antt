@@ -17,6 +17,7 @@ use Rattle.complex.specs.Edits.{rebuild, others, rewired, sameVertex, inPlaceOf
 use Rattle.complex.specs.Cut.{cutPlace, cutExists, bendsRound, cutFigure, edgeCut}
 use Rattle.complex.specs.Decode.{cutEdge}
 use Rattle.complex.specs.Commands.{result}
+use Rattle.complex.specs.Sound.{idsEnd}
 use Rattle.store.specs.declared.Drawing.{Drawing}
 use Rattle.store.specs.Sizes.{Sizes}
 use Rattle.store.specs.View.{sheetOf}
@@ -123,7 +124,7 @@ module _ (d : Drawing) (z : Sizes d) (e row base m q : ℕ) (c : Cuts d e row ba
       let b = bends-count (d .bends) (bendsOf (cellAt (sheetOf d) e)) base m room-bends (c .bends) in
       omega arith
 
-  pub edge-small : e < 65536
+  pub edge-small : e < idsEnd
   edge-small = live-id (sheetOf d) (sound-in d (c .sound)) e (ap isLive (closed-figure (cellAt (sheetOf d) e) k))
 
   abbrev pub loopStep : ℕ → Figure → Figure

@@ -12,7 +12,7 @@ use Rattle.complex.specs.Sound.{idsEnd}
 use Rattle.complex.specs.Uses.{stepUse, usesBy}
 use Rattle.complex.specs.Decode.{cutEdge}
 use Rattle.complex.specs.Commands.{question3, question4, question5, question6}
-use Rattle.complex.specs.Sizes.{sized, sizesOf, moreLess, changedBy, newByCut, cutChange, newCells, changeOf, sizesAfter, sizesFit}
+use Rattle.answer.specs.Sizes.{sized, sizesOf, moreLess, changedBy, newByCut, cutChange, newCells, changeOf, sizesAfter, sizesFit}
 use Rattle.complex.specs.Answer.{no, asked3}
 use Rattle.complex.proofs.Asked.{Passed, no-5}
 use Rattle.store.specs.declared.Drawing.{Drawing}

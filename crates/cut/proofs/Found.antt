@@ -13,11 +13,11 @@ use Rattle.complex.specs.Cells.{Figure, vertex, openEdge, closedEdge, face, cel
 use Rattle.complex.specs.Sound.{idsEnd}
 use Rattle.complex.specs.Cut.{cutExists}
 use Rattle.complex.specs.Decode.{cutEdge}
-use Rattle.complex.specs.Sizes.{newCells, sizesAfter, sizesFit}
+use Rattle.answer.specs.Sizes.{newCells, sizesAfter, sizesFit}
 use Rattle.complex.proofs.Bools.{truth}
 use Rattle.complex.proofs.Keep.{Sound, sound-parts}
 use Rattle.complex.proofs.Asked.{Passed}
-use Rattle.complex.proofs.SizesAfter.{next-after, sizes-after}
+use Rattle.answer.proofs.SizesAfter.{next-after, sizes-after}
 use Rattle.store.specs.declared.Cell.{Cell}
 use Rattle.store.specs.declared.Drawing.{Drawing}
 use Rattle.store.specs.declared.Index.{Index}
@@ -50,7 +50,7 @@ bends-in (face ks) = refl
 pub sound-in : (d : Drawing) → T (soundDrawing d) → Sound (sheetOf d)
 sound-in d w = sound-parts (sheetOf d) (sound-sheet d w)
 
-pub next-in : (d : Drawing) → T (soundDrawing d) → d .next ≤ 65536
+pub next-in : (d : Drawing) → T (soundDrawing d) → d .next ≤ idsEnd
 unfolding sheetOf
 next-in d w = leb→le (d .next) idsEnd (sound-in d w .inIds)
 

@@ -13,7 +13,7 @@ use Rattle.complex.specs.Sound.{idsEnd}
 use Rattle.complex.specs.Uses.{edgeUse, stepUse, usesBy}
 use Rattle.complex.specs.Decode.{cutEdge}
 use Rattle.complex.specs.Commands.{question3, question4, question5, question6}
-use Rattle.complex.specs.Sizes.{sized, sizesOf, moreLess, changedBy, newByCut, cutChange, newCells, changeOf, sizesAfter, sizesFit}
+use Rattle.answer.specs.Sizes.{sized, sizesOf, moreLess, changedBy, newByCut, cutChange, newCells, changeOf, sizesAfter, sizesFit}
 use Rattle.complex.specs.Answer.{no, asked3}
 use Rattle.complex.proofs.Asked.{Passed, no-5}
 use Rattle.store.specs.declared.Drawing.{Drawing}
@@ -33,7 +33,7 @@ use Rattle.answer.proofs.Laws.{totalsIn, totals-are, totals-small, late-refuses
 use Rattle.cut.specs.Cuts.{Cuts, Ends, Counted}
 use Rattle.cut.proofs.Found.{sound-in, next-in, own-count, read-row, found-cuts}
 use Rattle.cut.proofs.Opened.{open-figure, open-exists}
-use Rattle.complex.specs.Sizes as whole
+use Rattle.answer.specs.Sizes as whole
 
 -- ---- an edge has no more uses than there are steps
 edge-most : (e : ℕ) (hs : List Halfedge) → total (edgeUse e) hs ≤ length hs

@@ -14,7 +14,7 @@ use Rattle.coordinate.specs.Bounds.{within, middle}
 use Rattle.complex.specs.Lists.{one, all}
 use Rattle.complex.specs.Cells.{Figure, vertex, openEdge, closedEdge, face, LiveCell, Look, Sheet, cellAt, lookup, someIf, ids, isVertex, isOpen, isClosed, isLive, startOf, endOf, bendsOf, positionOf, origin}
 use Rattle.complex.specs.Edits.{keepIds, reshape, rebuild, others, rewired, sameVertex}
-use Rattle.complex.specs.Sound.{stepsIn, over}
+use Rattle.complex.specs.Sound.{idsEnd, stepsMost, stepsIn, over}
 use Rattle.complex.specs.Cut.{cutPlace, cutExists, bendsBefore, bendsAfter, inTwo, cutFigure, edgeCut}
 use Rattle.complex.specs.Decode.{cutEdge}
 use Rattle.complex.specs.Commands.{result}
@@ -158,7 +158,7 @@ module _ (d : Drawing) (z : Sizes d) (e row base m q : ℕ) (c : Cuts d e row ba
       let b = bends-count (d .bends) (bendsOf (cellAt (sheetOf d) e)) base m room-bends (c .bends) in
       omega arith
 
-  pub edge-small : e < 65536
+  pub edge-small : e < idsEnd
   edge-small = live-id (sheetOf d) (sound-in d (c .sound)) e (ap isLive (open-figure (cellAt (sheetOf d) e) (n .isOne)))
 
   abbrev pub partStep : ℕ → Figure → Figure
@@ -215,7 +215,7 @@ module _ (d : Drawing) (z : Sizes d) (e row base m q : ℕ) (c : Cuts d e row ba
     steps-by [] = refl
     steps-by (x ∷ cs) = ap₂ _+_ (any-id (x .id) (x .figure)) (steps-by cs)
 
-    pub steps-room : over stepsIn (reshape partStep (sheetOf d .cells)) ≤ 2048
+    pub steps-room : over stepsIn (reshape partStep (sheetOf d .cells)) ≤ stepsMost
     steps-room =
         let cs = sheetOf d .cells in
         let k = keepIds (others e) cs in

@@ -8,7 +8,7 @@ use lib.Dec.{T, eqb, ltb, leb}
 use Rattle.coordinate.specs.declared.Position.{Position}
 use Rattle.coordinate.specs.Bounds.{middle}
 use Rattle.complex.specs.Cells.{cellAt, ids, isOpen, startOf, endOf, bendsOf, origin}
-use Rattle.complex.specs.Sound.{idsEnd, ceilings}
+use Rattle.complex.specs.Sound.{idsEnd, cyclesMost, stepsMost, ceilings}
 use Rattle.complex.specs.Cut.{cutExists, cutPlace}
 use Rattle.complex.specs.Decode.{cutEdge}
 use Rattle.complex.specs.Commands.{result}
@@ -99,9 +99,9 @@ pub record Placed (d : Drawing) (e q : ℕ) (p : Position) : Type 0 where
 
 -- the totals t of the first cycles and their steps
 pub record Counted (cycles steps : List ℕ) (next : ℕ) (t : Totals) : Type 0 where
-  pub nextIn : next ≤ 65536
+  pub nextIn : next ≤ idsEnd
   pub small : Small t
   pub cycleRoom : length cycles ≡ 512
   pub stepRoom : length steps ≡ 2048
-  pub cyclesIn : t .cycles ≤ 512
-  pub stepsIn : widthSum (take (t .cycles) cycles) ≤ 2048
+  pub cyclesIn : t .cycles ≤ cyclesMost
+  pub stepsIn : widthSum (take (t .cycles) cycles) ≤ stepsMost

@@ -6,7 +6,7 @@ ghost use lib.ListN.{length, take};
 ghost use Rattle.complex.specs.Lists.{total};
 ghost use Rattle.complex.specs.Cells.{isOpen, isClosed, cellAt};
 ghost use Rattle.complex.specs.Uses.{stepUse};
-ghost use Rattle.complex.specs.Sizes.{sized, moreLess, changedBy};
+ghost use Rattle.answer.specs.Sizes.{sized, moreLess, changedBy};
 ghost use Rattle.complex.specs.Decode.{cutEdge};
 ghost use Rattle.complex.specs.Commands.{result};
 ghost use Rattle.store.specs.Index.{Indexes};

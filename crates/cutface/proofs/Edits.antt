@@ -11,11 +11,11 @@ use Rattle.complex.specs.Lists.{one}
 use Rattle.complex.specs.Cells.{Cycle, lone, vertex, face, Sheet, cellAt, isFace}
 use Rattle.complex.specs.Cells as cells
 use Rattle.complex.specs.Edits.{rebuild, everyId, replaced}
-use Rattle.complex.specs.Sound.{stepCount}
+use Rattle.complex.specs.Sound.{cyclesMost, stepsMost, stepCount}
 use Rattle.complex.specs.Decode.{cutFaceVertex}
 use Rattle.complex.specs.Commands.{question3, question4, question5, question6, result}
 use Rattle.complex.specs.Cut.{faceCutAt}
-use Rattle.complex.specs.Sizes.{sized, nothing, moreLess, newCells, changeOf}
+use Rattle.answer.specs.Sizes.{sized, nothing, moreLess, newCells, changeOf}
 use Rattle.complex.proofs.Asked.{Passed}
 use Rattle.store.specs.declared.Drawing.{Drawing}
 use Rattle.store.specs.declared.Index.{Index}
@@ -39,7 +39,7 @@ module _ (d : Drawing) (z : Sizes d) (ix : Index) (f : ℕ) (m : Named d ix f) (
   abbrev pub with-lone : List Cycle
   with-lone = cells.cyclesOf (cellAt (sheetOf d) f) ++ one (lone (sheetOf d .next))
 
-  pub lone-asks : (t : Spans) → Spanned d f t → Within (d .cycles) (d .steps) t × ((t .cycles .count < 512) × (t .steps .count < 2048))
+  pub lone-asks : (t : Spans) → Spanned d f t → Within (d .cycles) (d .steps) t × ((t .cycles .count < cyclesMost) × (t .steps .count < stepsMost))
   lone-asks t s =
       let q = roomy (recycled (sheetOf d) f with-lone) (vertex p ∷ []) r in
       let ks = own d z ix f m in

@@ -19,9 +19,10 @@ use Rattle.complex.specs.Edits.{rebuild, everyId, replaced}
 use Rattle.complex.specs.Decode.{cutFaceClosed}
 use Rattle.complex.specs.Commands.{question3, question4, question5, question6, result}
 use Rattle.complex.specs.Cut.{noCycle, faceCutRound}
-use Rattle.complex.specs.Sizes.{sized, nothing, moreLess, newCells, changeOf}
+use Rattle.answer.specs.Sizes.{sized, nothing, moreLess, newCells, changeOf}
 use Rattle.complex.specs.Answer.{no, asked3}
 use Rattle.complex.proofs.Asked.{Passed, no-4, no-5}
+use Rattle.complex.specs.Sound.{idsEnd, cyclesMost, stepsMost}
 use Rattle.store.specs.declared.Drawing.{Drawing}
 use Rattle.store.specs.declared.Index.{Index}
 use Rattle.store.specs.Index.{Indexes, valueAt}
@@ -95,7 +96,7 @@ module _ (d : Drawing) (z : Sizes d) (ix : Index) (script : List ℕ) (f bends f
     own-length : t .cycles .count ≡ length ks
     own-length = sym (at-length (d .cycles) (d .steps) t (s .within)) ∙ ap length (s .list)
 
-    pub round-asks : Within (d .cycles) (d .steps) t × ((t .cycles .count < 512) × ((t .steps .count < 2048) × (Stand readNumber script place moved × ((places 0 ms (t .cycles .count) ≡ true) × (d .next ≤ 65536)))))
+    pub round-asks : Within (d .cycles) (d .steps) t × ((t .cycles .count < cyclesMost) × ((t .steps .count < stepsMost) × (Stand readNumber script place moved × ((places 0 ms (t .cycles .count) ≡ true) × (d .next ≤ idsEnd)))))
     round-asks =
         let a = s .fewCycles in
         let b = s .fewSteps in

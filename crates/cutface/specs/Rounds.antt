@@ -10,6 +10,7 @@ use Rattle.bends.specs.Bends.{positionsAt}
 use Rattle.complex.specs.Lists.{one, places, without, chosen}
 use Rattle.complex.specs.Cells.{Cycle, path, closedEdge, face, cellAt, along, against, cyclesOf}
 use Rattle.complex.specs.Cut.{noCycle}
+use Rattle.complex.specs.Sound.{cyclesMost, stepsMost}
 use Rattle.store.specs.declared.Drawing.{Drawing}
 use Rattle.store.specs.declared.Index.{Index}
 use Rattle.store.specs.Index.{valueAt}
@@ -34,8 +35,8 @@ pub record RoundCut (d : Drawing) (ix : Index) (script : List ℕ) (f bends firs
   pub bytes : first + 16 * bends ≤ length script
   pub stand : Stand readNumber script place moved
   pub rise : places 0 (numbersRead script place moved) (length (cyclesOf (cellAt (sheetOf d) f))) ≡ true
-  pub cycleRoom : cycleTotal d + 2 ≤ 512
-  pub stepRoom : stepTotal d + 2 ≤ 2048
+  pub cycleRoom : cycleTotal d + 2 ≤ cyclesMost
+  pub stepRoom : stepTotal d + 2 ≤ stepsMost
   pub room : RoomIn (recycled (sheetOf d) f (stayed (numbersRead script place moved) (cyclesOf (cellAt (sheetOf d) f)) (sheetOf d .next)))
       (closedEdge (positionsAt script first bends) ∷ face (left (numbersRead script place moved) (cyclesOf (cellAt (sheetOf d) f)) (sheetOf d .next)) ∷ [])
 

@@ -11,7 +11,8 @@ ghost use Rattle.complex.specs.Cells.{lone, path, vertex, cellAt};
 ghost use Rattle.complex.specs.Cells as cells;
 ghost use Rattle.complex.specs.Decode.{cutFaceVertex, cutFaceClosed};
 ghost use Rattle.complex.specs.Cut.{faceCutAt, faceCutRound};
-ghost use Rattle.complex.specs.Sizes.{sized, nothing, moreLess, changedBy};
+ghost use Rattle.complex.specs.Sound.{idsEnd, cyclesMost, stepsMost};
+ghost use Rattle.answer.specs.Sizes.{sized, nothing, moreLess, changedBy};
 ghost use Rattle.store.specs.View.{sheetOf, Fits, halfedgeOf};
 ghost use Rattle.store.specs.Edits.{kept};
 ghost use Rattle.sound.specs.Soundness.{soundDrawing};
@@ -36,8 +37,8 @@ use store::Index;
 // The cycles of a span, and then a lone vertex.
 fn and_lone<'a>(cycles: &'a [u32; 512], steps: &'a [u32; 2048], t: Spans, v: u32) -> Listed
     requires { ⌜ Within (now cycles) (now steps) t ⌝ }
-    requires { ⌜ t .cycles .count < 512 ⌝ }
-    requires { ⌜ t .steps .count < 2048 ⌝ }
+    requires { ⌜ t .cycles .count < cyclesMost ⌝ }
+    requires { ⌜ t .steps .count < stepsMost ⌝ }
     ensures { λ r. ⌜ Built (cyclesAt (now (cycles .entry)) (now (steps .entry)) t ++ one (lone v)) (r .counts) (r .used) (r .steps) ⌝ }
 {
     let mut bc = [0u32; 512];
@@ -128,8 +129,8 @@ fn and_ring<'a>(
 ) -> Listed
     requires { ⌜ Within (now cycles) (now steps) t ⌝ }
     requires { ⌜ length (now skip) ≡ 512 ⌝ }
-    requires { ⌜ t .cycles .count < 512 ⌝ }
-    requires { ⌜ t .steps .count < 2048 ⌝ }
+    requires { ⌜ t .cycles .count < cyclesMost ⌝ }
+    requires { ⌜ t .steps .count < stepsMost ⌝ }
     ensures { λ r. ⌜ Built (kept (take (t .cycles .count) (now (skip .entry))) (cyclesAt (now (cycles .entry)) (now (steps .entry)) t) ++ one (path (one (halfedgeOf h)))) (r .counts) (r .used) (r .steps) ⌝ }
 {
     let mut bc = [0u32; 512];
@@ -170,8 +171,8 @@ fn ring_and<'a>(
 ) -> Listed
     requires { ⌜ Within (now cycles) (now steps) t ⌝ }
     requires { ⌜ length (now skip) ≡ 512 ⌝ }
-    requires { ⌜ t .cycles .count < 512 ⌝ }
-    requires { ⌜ t .steps .count < 2048 ⌝ }
+    requires { ⌜ t .cycles .count < cyclesMost ⌝ }
+    requires { ⌜ t .steps .count < stepsMost ⌝ }
     ensures { λ r. ⌜ Built (path (one (halfedgeOf h)) ∷ kept (take (t .cycles .count) (now (skip .entry))) (cyclesAt (now (cycles .entry)) (now (steps .entry)) t)) (r .counts) (r .used) (r .steps) ⌝ }
 {
     let mut bc = [0u32; 512];
@@ -219,11 +220,11 @@ fn round_parts<'a>(
     e: u32,
 ) -> Parts
     requires { ⌜ Within (now cycles) (now steps) t ⌝ }
-    requires { ⌜ t .cycles .count < 512 ⌝ }
-    requires { ⌜ t .steps .count < 2048 ⌝ }
+    requires { ⌜ t .cycles .count < cyclesMost ⌝ }
+    requires { ⌜ t .steps .count < stepsMost ⌝ }
     requires { ⌜ Stand readNumber (now script) place moved ⌝ }
     requires { ⌜ places 0 (numbersRead (now script) place moved) (t .cycles .count) ≡ true ⌝ }
-    requires { ⌜ e ≤ 65536 ⌝ }
+    requires { ⌜ e ≤ idsEnd ⌝ }
     ensures { λ r. ⌜ Built (stayed (numbersRead (now (script .entry)) place moved) (cyclesAt (now (cycles .entry)) (now (steps .entry)) t) e) (r .old .counts) (r .old .used) (r .old .steps) ⌝ }
     ensures { λ r. ⌜ Built (left (numbersRead (now (script .entry)) place moved) (cyclesAt (now (cycles .entry)) (now (steps .entry)) t) e) (r .new .counts) (r .new .used) (r .new .steps) ⌝ }
 {
@@ -284,7 +285,7 @@ fn round_no(ix: Index, n: usize, script: &[u8], f: u32, bends: u32, moved: u32, 
 
 // Questions 7 and 8 of 0D: an edge with its bends, a face, two cycles of one step.
 fn round_late(next: u32, t: Totals, bends: usize) -> u32
-    requires { ⌜ next ≤ 65536 ⌝ }
+    requires { ⌜ next ≤ idsEnd ⌝ }
     requires { ⌜ Small t ⌝ }
     requires { ⌜ bends ≤ 4294967296 ⌝ }
     ensures { λ r. ⌜ r ≡ lateNo next 2 (changedBy (sizesBy t) (moreLess (sized 2 2 2 bends) nothing)) ⌝ }

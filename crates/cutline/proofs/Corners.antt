@@ -13,7 +13,7 @@ use Rattle.number.proofs.Counted.{times-length}
 use Rattle.complex.specs.Lists.{isEmpty, holds, places}
 use Rattle.complex.specs.Cells.{Halfedge, Cycle, Look, cellAt, isOpen, cyclesOf}
 use Rattle.complex.specs.Cut.{noCycle, noStep, cornerExists, cutCorners}
-use Rattle.complex.specs.Sizes.{aloneIn}
+use Rattle.answer.specs.Sizes.{aloneIn}
 use Rattle.complex.proofs.Bools.{truth, both}
 use Rattle.store.specs.declared.Drawing.{Drawing}
 use Rattle.store.specs.declared.Index.{Index}

@@ -16,7 +16,7 @@ use Rattle.complex.specs.Edits.{rebuild, everyId, replaced}
 use Rattle.complex.specs.Decode.{Command, cutFaceOpen}
 use Rattle.complex.specs.Commands.{question3, question4, question5, question6, result}
 use Rattle.complex.specs.Cut.{noCycle, cutCorners, faceCutAlong}
-use Rattle.complex.specs.Sizes.{sized, moreLess, changedBy, aloneIn, alongChange, newCells, changeOf}
+use Rattle.answer.specs.Sizes.{sized, moreLess, changedBy, aloneIn, alongChange, newCells, changeOf}
 use Rattle.complex.specs.Answer.{no, asked3}
 use Rattle.complex.proofs.Asked.{Passed, no-3, no-4, no-5}
 use Rattle.store.specs.declared.Drawing.{Drawing}

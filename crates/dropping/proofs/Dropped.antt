@@ -119,12 +119,12 @@ pub remade-rebuild : (p : ℕ → Bool) (f : ℕ → Figure → Figure) (s : She
 remade-rebuild p f s = sym (appended-none (remade p f s))
 
 -- the id of a live cell is below the end of the ids
-pub live-id : (s : Sheet) → Sound s → (i : ℕ) → isLive (cellAt s i) ≡ true → i < 65536
+pub live-id : (s : Sheet) → Sound s → (i : ℕ) → isLive (cellAt s i) ≡ true → i < idsEnd
 live-id s S i l = go (ltb i (s .next)) refl
   where
-    h : s .next ≤ 65536
+    h : s .next ≤ idsEnd
     h = leb→le (s .next) idsEnd (S .inIds)
 
-    go : (b : Bool) → ltb i (s .next) ≡ b → i < 65536
+    go : (b : Bool) → ltb i (s .next) ≡ b → i < idsEnd
     go true e = let k = ltb-true i (s .next) e in let g = h in omega arith
     go false e = absurd (false≢true (sym (ap isLive (lookup-from 0 (s .cells) (s .next) i (S .rises) (ltb-false i (s .next) e))) ∙ l))

@@ -14,7 +14,7 @@ use Rattle.complex.specs.Cells.{Halfedge, Cycle, lone, path, face, LiveCell, lo
 use Rattle.complex.specs.Sound.{idsEnd, cellsMost, cyclesMost, bendsMost, stepCount, cycleOk}
 use Rattle.complex.specs.Decode.{create, readCycle}
 use Rattle.complex.specs.Commands.{question3, question4, question5, question6, cycleNames}
-use Rattle.complex.specs.Sizes.{sized, nothing, moreLess, changedBy}
+use Rattle.answer.specs.Sizes.{sized, nothing, moreLess, changedBy}
 use Rattle.complex.specs.Answer.{no, asked3}
 use Rattle.complex.proofs.Bools.{truth, true-of, both, either}
 use Rattle.complex.proofs.Asked.{Passed, no-4, no-6}

@@ -10,7 +10,7 @@ use Rattle.complex.specs.Edits.{reshape, others}
 use Rattle.complex.specs.Sound.{idsEnd}
 use Rattle.complex.specs.Decode.{Command}
 use Rattle.complex.specs.Commands.{result}
-use Rattle.complex.specs.Sizes.{newCells, sizesAfter, sizesFit}
+use Rattle.answer.specs.Sizes.{newCells, sizesAfter, sizesFit}
 use Rattle.complex.proofs.Keep.{sound-parts}
 use Rattle.complex.proofs.Asked.{Passed}
 use Rattle.store.specs.declared.Drawing.{Drawing}

@@ -12,13 +12,13 @@ use Rattle.complex.specs.Glue.{renamed, gluedVertices}
 use Rattle.complex.specs.Sound.{idsEnd}
 use Rattle.complex.specs.Decode.{glueVertices}
 use Rattle.complex.specs.Commands.{question3, question4, question5, question6, result}
-use Rattle.complex.specs.Sizes.{newCells, sizesAfter, sizesFit}
+use Rattle.answer.specs.Sizes.{newCells, sizesAfter, sizesFit}
 use Rattle.complex.specs.Answer.{no, asked3}
 use Rattle.complex.proofs.Bools.{true-of}
 use Rattle.complex.proofs.Keep.{Sound, sound-parts}
 use Rattle.complex.proofs.Asked.{Passed, no-4, no-6}
-use Rattle.complex.proofs.Sizes.{glue-fits}
-use Rattle.complex.proofs.SizesAfter.{sizes-after}
+use Rattle.answer.proofs.Sizes.{glue-fits}
+use Rattle.answer.proofs.SizesAfter.{sizes-after}
 use Rattle.store.specs.declared.Drawing.{Drawing}
 use Rattle.store.specs.declared.Index.{Index}
 use Rattle.store.specs.Index.{Indexes}

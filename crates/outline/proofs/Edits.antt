@@ -7,7 +7,7 @@ use lib.Dec.{T, eqb}
 use lib.ListN.{take}
 use Rattle.complex.specs.Cells.{Cycle, Figure, face, Sheet, cellAt, isFace}
 use Rattle.complex.specs.Cells as cells
-use Rattle.complex.specs.Sizes.{nothing}
+use Rattle.answer.specs.Sizes.{nothing}
 use Rattle.store.specs.declared.Drawing.{Drawing}
 use Rattle.store.specs.declared.Index.{Index}
 use Rattle.store.specs.Index.{Indexes, valueAt}

@@ -7,14 +7,14 @@ use mathlib.Core.List.{List}
 use lib.Dec.{T, leb, leb→le}
 use Rattle.complex.specs.Cells.{Figure, Sheet}
 use Rattle.complex.specs.Edits.{rebuild}
-use Rattle.complex.specs.Sound.{idsEnd, ceilings, cellsMost, cyclesMost, stepsMost, bendsMost}
+use Rattle.complex.specs.Sound.{idsEnd, cellsMost, cyclesMost, stepsMost, bendsMost, ceilings}
 use Rattle.complex.specs.Decode.{Command}
 use Rattle.complex.specs.Commands.{result}
-use Rattle.complex.specs.Sizes.{Change, sizesOf, moreLess, changedBy, newCells, changeOf, sizesAfter, sizesFit}
+use Rattle.answer.specs.Sizes.{Change, sizesOf, moreLess, changedBy, newCells, changeOf, sizesAfter, sizesFit}
 use Rattle.complex.proofs.Bools.{truth, both}
 use Rattle.complex.proofs.Keep.{Sound, sound-parts}
 use Rattle.complex.proofs.Asked.{Passed}
-use Rattle.complex.proofs.SizesAfter.{next-after, sizes-after}
+use Rattle.answer.proofs.SizesAfter.{next-after, sizes-after}
 use Rattle.store.specs.declared.Drawing.{Drawing}
 use Rattle.store.specs.declared.Index.{Index}
 use Rattle.store.specs.Index.{Indexes}
@@ -35,7 +35,7 @@ module _ (d : Drawing) (w : T (soundDrawing d)) where
   pub sound-in : Sound (sheetOf d)
   sound-in = sound-parts (sheetOf d) (sound-sheet d w)
 
-  pub next-in : d .next ≤ 65536
+  pub next-in : d .next ≤ idsEnd
   unfolding sheetOf
   next-in = leb→le (d .next) idsEnd (sound-in .inIds)
 
@@ -74,7 +74,7 @@ module _ (d : Drawing) (z : Sizes d) (w : T (soundDrawing d)) (c : Command) (r :
         (subst (λ (s : Sheet). T (ceilings (s .cells))) e (truth (sizes-after (sheetOf d) (sound-in d w) c (asked-six d c (sound-in d w) (a .passed)) ∙ passes .1)))
 
     -- and for the cycles and the steps that come before others go
-    pub spare : (cycleTotal d + a .more .cycles ≤ 512 + a .less .cycles) × (stepTotal d + a .more .steps ≤ 2048 + a .less .steps)
+    pub spare : (cycleTotal d + a .more .cycles ≤ cyclesMost + a .less .cycles) × (stepTotal d + a .more .steps ≤ stepsMost + a .less .steps)
     unfolding sizesAfter
     spare =
         let z1 = changedBy (sizesOf (sheetOf d .cells)) (moreLess (sizesBy (a .more)) (sizesBy (a .less))) in

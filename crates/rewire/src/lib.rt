@@ -10,7 +10,7 @@ ghost use Rattle.store.specs.Sheet.{allReal};
 ghost use Rattle.store.specs.View.{width, widthSum, sheetOf, Fits};
 ghost use Rattle.complex.specs.Lists.{total, one};
 ghost use Rattle.store.specs.Places.{bit, cyclesAt};
-ghost use Rattle.complex.specs.Sound.{over, stepsIn};
+ghost use Rattle.complex.specs.Sound.{stepsMost, over, stepsIn};
 ghost use Rattle.number.specs.Readers.{spread};
 ghost use Rattle.rewire.specs.Swap.{swapWord, swapHalf, swapSteps, allSteps, Wrote, Swapped, oneFor, twoFor, noneFor};
 ghost use Rattle.rewire.specs.Renaming.{renameShape, renameCell, renamePlace, LoneRenamed};
@@ -247,7 +247,7 @@ fn swap_steps(d: Drawing, t: Swap) -> Drawing
     requires { ⌜ Fits d ⌝ }
     requires { ⌜ t .n ≤ 2 ⌝ }
     requires { ⌜ allReal (spread cyclesAt (reshape (rewired sameVertex (swapHalf t)) (sheetOf d .cells))) ≡ true ⌝ }
-    requires { ⌜ over stepsIn (reshape (rewired sameVertex (swapHalf t)) (sheetOf d .cells)) ≤ 2048 ⌝ }
+    requires { ⌜ over stepsIn (reshape (rewired sameVertex (swapHalf t)) (sheetOf d .cells)) ≤ stepsMost ⌝ }
     ensures { λ r. ⌜ sheetOf r ≡ withEntries (sheetOf d) (reshape (rewired sameVertex (swapHalf t)) (sheetOf d .cells)) ⌝ }
     ensures { λ r. ⌜ Fits r ⌝ }
 {
@@ -337,7 +337,7 @@ pub fn cut_edge_steps(d: Drawing, e: u32, a: u32, b: u32) -> Drawing
     requires { ⌜ e < 2147483648 ⌝ }
     requires { ⌜ a < 2147483648 ⌝ }
     requires { ⌜ b < 2147483648 ⌝ }
-    requires { ⌜ over stepsIn (reshape (rewired sameVertex (inTwo e a b)) (sheetOf d .cells)) ≤ 2048 ⌝ }
+    requires { ⌜ over stepsIn (reshape (rewired sameVertex (inTwo e a b)) (sheetOf d .cells)) ≤ stepsMost ⌝ }
     ensures { λ r. ⌜ sheetOf r ≡ withEntries (sheetOf d) (reshape (rewired sameVertex (inTwo e a b)) (sheetOf d .cells)) ⌝ }
     ensures { λ r. ⌜ Fits r ⌝ }
 {

@@ -8,7 +8,7 @@ use lib.ListN.{length, take, drop, getD}
 use Rattle.number.specs.Numbers.{readNumber}
 use Rattle.complex.specs.Lists.{total, one, rotated, holds, places}
 use Rattle.complex.specs.Cells.{Cycle, path, along, against, stepsOf}
-use Rattle.complex.specs.Sound.{stepCount}
+use Rattle.complex.specs.Sound.{idsEnd, cyclesMost, stepsMost, stepCount}
 use Rattle.complex.specs.Cut.{stretch, remainder}
 use Rattle.store.specs.View.{width, widthSum, cycleOf}
 use Rattle.cycles.specs.declared.Spans.{Spans}
@@ -51,10 +51,10 @@ pub record Parting (cycles steps : List ℕ) (t : Spans) (script : List ℕ) (mo
   pub stand : Stand readNumber script place moved
   pub rise : places 0 (numbersRead script place moved) (t .cycles .count) ≡ true
   pub stays : holds c (numbersRead script place moved) ≡ false
-  pub few : e ≤ 65536
-  pub nearRoom : total stepCount (nearSide e c s1 s2 (numbersRead script place moved) (cyclesAt cycles steps t)) ≤ 2048
-  pub farCycles : length (farSide e c s1 s2 (numbersRead script place moved) (cyclesAt cycles steps t)) ≤ 512
-  pub farRoom : total stepCount (farSide e c s1 s2 (numbersRead script place moved) (cyclesAt cycles steps t)) ≤ 2048
+  pub few : e ≤ idsEnd
+  pub nearRoom : total stepCount (nearSide e c s1 s2 (numbersRead script place moved) (cyclesAt cycles steps t)) ≤ stepsMost
+  pub farCycles : length (farSide e c s1 s2 (numbersRead script place moved) (cyclesAt cycles steps t)) ≤ cyclesMost
+  pub farRoom : total stepCount (farSide e c s1 s2 (numbersRead script place moved) (cyclesAt cycles steps t)) ≤ stepsMost
 
 -- two places, each of a cycle with a corner, and room for both cycles and two steps more
 pub record Joining (steps : List ℕ) (p : Place) (s1 : ℕ) (q : Place) (s2 e : ℕ) : Type 0 where
@@ -63,13 +63,13 @@ pub record Joining (steps : List ℕ) (p : Place) (s1 : ℕ) (q : Place) (s2 e :
   pub startCorner : s1 < width (p .m)
   pub end : q .at + width (q .m) ≤ 2048
   pub endCorner : s2 < width (q .m)
-  pub few : e ≤ 65536
-  pub room : p .m + q .m + 2 ≤ 2048
+  pub few : e ≤ idsEnd
+  pub room : p .m + q .m + 2 ≤ stepsMost
 
 -- the corners of two cycles, and there is room for both as one
 pub record Bridging (cycles steps : List ℕ) (t : Spans) (c1 : ℕ) (p : Place) (s1 c2 : ℕ) (q : Place) (s2 e : ℕ) : Type 0 where
   pub start : Cornered cycles steps t c1 p s1
   pub end : Cornered cycles steps t c2 q s2
   pub apart : eqb c1 c2 ≡ false
-  pub few : e ≤ 65536
-  pub room : total stepCount (bridge e c1 s1 c2 s2 (cyclesAt cycles steps t)) ≤ 2048
+  pub few : e ≤ idsEnd
+  pub room : total stepCount (bridge e c1 s1 c2 s2 (cyclesAt cycles steps t)) ≤ stepsMost

@@ -5,7 +5,7 @@ ghost use Prim.Native.Nat.{_+_, _*_, _<_, _≤_};
 ghost use lib.ListN.{length, take, drop, getD, set};
 ghost use Rattle.bends.specs.Bends.{positionsAt};
 ghost use Rattle.complex.specs.Lists.{total, one, distance};
-ghost use Rattle.complex.specs.Sound.{stepCount};
+ghost use Rattle.complex.specs.Sound.{idsEnd, cyclesMost, stepsMost, stepCount};
 ghost use Rattle.complex.specs.Cut.{faceCutAlong};
 ghost use Rattle.store.specs.View.{sheetOf, Fits, width, widthSum};
 ghost use Rattle.store.specs.Edits.{kept};
@@ -86,8 +86,8 @@ fn near_side<'a>(
     requires { ⌜ Cornered (now cycles) (now steps) t c p s2 ⌝ }
     requires { ⌜ length (now flags) ≡ 512 ⌝ }
     requires { ⌜ getD (now flags) c false ≡ false ⌝ }
-    requires { ⌜ e ≤ 65536 ⌝ }
-    requires { ⌜ total stepCount (kept (take (t .cycles .count) (now flags)) (set (cyclesAt (now cycles) (now steps) t) c (nearCycle e s1 s2 (cycleAt (now steps) p)))) ≤ 2048 ⌝ }
+    requires { ⌜ e ≤ idsEnd ⌝ }
+    requires { ⌜ total stepCount (kept (take (t .cycles .count) (now flags)) (set (cyclesAt (now cycles) (now steps) t) c (nearCycle e s1 s2 (cycleAt (now steps) p)))) ≤ stepsMost ⌝ }
     ensures { λ r. ⌜ Built (kept (take (t .cycles .count) (now (flags .entry))) (set (cyclesAt (now (cycles .entry)) (now (steps .entry)) t) c (nearCycle e s1 s2 (cycleAt (now (steps .entry)) p)))) (r .counts) (r .used) (r .steps) ⌝ }
 {
     let m = p.m as usize;
@@ -114,9 +114,9 @@ fn far_side<'a>(
     requires { ⌜ s1 < width (p .m) ⌝ }
     requires { ⌜ s2 < width (p .m) ⌝ }
     requires { ⌜ length (now flags) ≡ 512 ⌝ }
-    requires { ⌜ e ≤ 65536 ⌝ }
-    requires { ⌜ length (farCycle e s1 s2 (cycleAt (now steps) p) ∷ kept (take (t .cycles .count) (now flags)) (cyclesAt (now cycles) (now steps) t)) ≤ 512 ⌝ }
-    requires { ⌜ total stepCount (farCycle e s1 s2 (cycleAt (now steps) p) ∷ kept (take (t .cycles .count) (now flags)) (cyclesAt (now cycles) (now steps) t)) ≤ 2048 ⌝ }
+    requires { ⌜ e ≤ idsEnd ⌝ }
+    requires { ⌜ length (farCycle e s1 s2 (cycleAt (now steps) p) ∷ kept (take (t .cycles .count) (now flags)) (cyclesAt (now cycles) (now steps) t)) ≤ cyclesMost ⌝ }
+    requires { ⌜ total stepCount (farCycle e s1 s2 (cycleAt (now steps) p) ∷ kept (take (t .cycles .count) (now flags)) (cyclesAt (now cycles) (now steps) t)) ≤ stepsMost ⌝ }
     ensures { λ r. ⌜ Built (farCycle e s1 s2 (cycleAt (now (steps .entry)) p) ∷ kept (take (t .cycles .count) (now (flags .entry))) (cyclesAt (now (cycles .entry)) (now (steps .entry)) t)) (r .counts) (r .used) (r .steps) ⌝ }
 {
     let m = p.m as usize;

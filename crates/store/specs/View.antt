@@ -10,6 +10,7 @@ use Rattle.store.specs.declared.Shape.the-variants.{Vertex, Open, Closed
 use Rattle.store.specs.declared.Cell.{Cell}
 use Rattle.store.specs.declared.Drawing.{Drawing}
 use Rattle.complex.specs.Cells.{Halfedge, Cycle, lone, path, Figure, vertex, openEdge, closedEdge, face, LiveCell as Entry, Sheet}
+use Rattle.complex.specs.Sound.{cellsMost, cyclesMost, stepsMost, bendsMost}
 
 -- a step is 2 x id, plus 1 if backward
 abbrev pub halfedgeOf : ℕ → Halfedge
@@ -79,7 +80,7 @@ stepTotal d = widthSum (take (cycleTotal d) (d .cycles))
 
 -- the drawing keeps within its arrays
 pub record Fits (d : Drawing) : Type 0 where
-  pub cells : d .count ≤ 256
-  pub cycles : cycleTotal d ≤ 512
-  pub steps : stepTotal d ≤ 2048
-  pub bends : bendTotal d ≤ 2048
+  pub cells : d .count ≤ cellsMost
+  pub cycles : cycleTotal d ≤ cyclesMost
+  pub steps : stepTotal d ≤ stepsMost
+  pub bends : bendTotal d ≤ bendsMost

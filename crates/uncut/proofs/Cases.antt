@@ -9,7 +9,7 @@ use Rattle.complex.specs.Lists.{any}
 use Rattle.complex.specs.Cells.{Halfedge, Figure, vertex, openEdge, closedEdge, face, LiveCell, Sheet, cellAt, isVertex, isOpen, isClosed, same, flipped}
 use Rattle.complex.specs.Uses.{Passage, passagesAt, endsAt, loneUse, usesBy, usesOf, Use as Used}
 use Rattle.complex.specs.Uncut.{Uncut, refused, lonely, loop, joint, twoFaces, oneCycle, rings, opposite, uncutVertex, uncutOpen, uncutClosed, uncutFigure, uncutCase}
-use Rattle.complex.proofs.UnglueVertex.{Every}
+use Rattle.complex.proofs.Every.{Every}
 use Rattle.complex.proofs.UncutEdge.{every-more, Real, own-cells, uses-real}
 use Rattle.complex.proofs.Keep.{Sound}
 use Rattle.uncut_case.specs.declared.AtEdge.{AtEdge}

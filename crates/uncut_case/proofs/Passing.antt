@@ -1,4 +1,4 @@
--- 0E by its case: what is asked, how many ids it issues, how it changes the sizes, and its result. Assumes nothing.
+-- 0E by its case: what is asked, and its result. Assumes nothing.
 use Prim.Native.Nat.{ℕ}
 use mathlib.Core.Path.{_≡_, refl, sym, ap, _∙_}
 use mathlib.Core.Bool.{Bool, true, false, false≢true}
@@ -7,7 +7,6 @@ use mathlib.Core.Option.{Option, none, some}
 use Rattle.complex.specs.Cells.{Figure, vertex, openEdge, closedEdge, face, LiveCell, Sheet, cellAt, isVertexOrEdge}
 use Rattle.complex.specs.Decode.{uncut}
 use Rattle.complex.specs.Commands.{question3, question4, question5, question6, result}
-use Rattle.complex.specs.Sizes.{newByUncut, newCells, uncutChange, changeOf}
 use Rattle.complex.specs.Answer.{no, asked3}
 use Rattle.complex.specs.Uncut.{Uncut, uncutFigure, uncutCase, uncutResult, allowed}
 use Rattle.complex.proofs.Asked.{Passed, no-4, no-6}
@@ -51,14 +50,6 @@ module _ (s : Sheet) (i : ℕ) where
     uncut-passed a =
         let y = ap allowed e ∙ a in
         record { three = three; four = four ∙ allowed-kind (s .cells) i (cellAt s i) y; five = five; six = six ∙ y }
-
-    pub uncut-new : newCells s (uncut i) ≡ newByUncut k
-    unfolding newCells
-    uncut-new = ap newByUncut e
-
-    pub uncut-change : changeOf s (uncut i) ≡ uncutChange s i k
-    unfolding changeOf
-    uncut-change = ap (uncutChange s i) e
 
     pub uncut-result : result s (uncut i) ≡ uncutResult s i k
     unfolding result

@@ -13,7 +13,7 @@ use Rattle.complex.specs.Edits.{rebuild}
 use Rattle.complex.specs.Sound.{idsEnd, cellsMost, cyclesMost, stepsMost, bendsMost}
 use Rattle.complex.specs.Decode.{uncut}
 use Rattle.complex.specs.Uncut.{Uncut, twoFaces, oneCycle, rings, uncutCase, uncutResult, allowed, cycleOfUse}
-use Rattle.complex.specs.Sizes.{Sizes as Counted, Change, sized, nothing, moreLess, changedBy, sizesFit, aloneLeft, newByUncut, uncutChange}
+use Rattle.answer.specs.Sizes.{Sizes as Counted, Change, sized, nothing, moreLess, changedBy, sizesFit, aloneLeft, newByUncut, uncutChange}
 use Rattle.store.specs.declared.Drawing.{Drawing}
 use Rattle.store.specs.declared.Index.{Index}
 use Rattle.store.specs.Index.{Indexes}
@@ -32,7 +32,8 @@ use Rattle.answer.proofs.Laws.{totalsIn, totals-are}
 use Rattle.outline.specs.Faces.{Roomy}
 use Rattle.outline.proofs.Rows.{roomy}
 use Rattle.outline.proofs.Late.{Asked, sound-in, next-in, refuses, room, counts-done, answers}
-use Rattle.uncut_case.proofs.Passing.{uncut-passed, uncut-new, uncut-change, uncut-result}
+use Rattle.uncut_case.proofs.Passing.{uncut-passed, uncut-result}
+use Rattle.answer.proofs.SizesUncut.{uncut-new, uncut-change}
 use Rattle.uncut_case.specs.declared.Use.{Use}
 use Rattle.uncut_edge.specs.Needs.{useAt, Case}
 

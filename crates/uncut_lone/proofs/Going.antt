@@ -15,7 +15,7 @@ use Rattle.complex.specs.Cells.{Cycle, vertex, face, Sheet, cellAt, ids, isFace
 use Rattle.complex.specs.Cells as cells
 use Rattle.complex.specs.Edits.{rebuild, both, replaced}
 use Rattle.complex.specs.Sound.{idsEnd, cellsMost, cyclesMost, stepsMost, bendsMost}
-use Rattle.complex.specs.Sizes.{sized, sizesFit, moreLess, changedBy}
+use Rattle.answer.specs.Sizes.{sized, sizesFit, moreLess, changedBy}
 use Rattle.complex.specs.Decode.{uncut}
 use Rattle.complex.specs.Uses.{loneUse, usesBy, allCycles}
 use Rattle.complex.specs.Uncut.{lonely, uncutCase, uncutResult}
@@ -42,7 +42,8 @@ use Rattle.outline.proofs.Rows.{roomy}
 use Rattle.outline.proofs.Edits.{named-in}
 use Rattle.outline.proofs.Late.{sound-in, next-in, Asked, room}
 use Rattle.dropping.proofs.Dropped.{remade-rebuild}
-use Rattle.uncut_case.proofs.Passing.{uncut-passed, uncut-new, uncut-change, uncut-result}
+use Rattle.uncut_case.proofs.Passing.{uncut-passed, uncut-result}
+use Rattle.answer.proofs.SizesUncut.{uncut-new, uncut-change}
 use Rattle.uncut_case.proofs.Meaning.{cycles-held}
 use Rattle.uncut_lone.specs.declared.Held.{Held}
 use Rattle.uncut_lone.specs.Lone.{lonePlace, holding}

@@ -13,7 +13,7 @@ use Rattle.complex.specs.Sound.{idsEnd, ceilings}
 use Rattle.complex.specs.Edits.{both, rewired, sameVertex, inPlaceOf, rebuild}
 use Rattle.complex.specs.Uses.{stepUse}
 use Rattle.complex.specs.Decode.{uncut}
-use Rattle.complex.specs.Sizes.{sized, moreLess, changedBy, newByUncut, uncutChange}
+use Rattle.answer.specs.Sizes.{sized, moreLess, changedBy, newByUncut, uncutChange}
 use Rattle.complex.specs.Uncut.{Uncut, loop, joint, inOne, joined, uncutCase, uncutResult, allowed}
 use Rattle.complex.proofs.Bools.{true-of}
 use Rattle.store.specs.declared.Drawing.{Drawing}
@@ -38,7 +38,8 @@ use Rattle.cut.proofs.Found.{row-below, own-count, own-base, read-row}
 use Rattle.cut.proofs.Opened.{vertex-place}
 use Rattle.cut.proofs.OpenAnswer.{uses-are}
 use Rattle.outline.proofs.Late.{sound-in, Asked, room}
-use Rattle.uncut_case.proofs.Passing.{uncut-passed, uncut-new, uncut-change, uncut-result}
+use Rattle.uncut_case.proofs.Passing.{uncut-passed, uncut-result}
+use Rattle.answer.proofs.SizesUncut.{uncut-new, uncut-change}
 use Rattle.uncut_vertex.specs.declared.Side.{Side}
 use Rattle.uncut_vertex.specs.Needs.{Pair, Triple, allBut, Looped, Merged, leaving, Sided, jointRuns, Joint}
 use Rattle.uncut_vertex.proofs.Joining.{pair-bends, joined-back, joined-forth, joint-back, joint-forth}

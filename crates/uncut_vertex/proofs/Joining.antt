@@ -11,7 +11,7 @@ use Rattle.coordinate.specs.declared.Position.{Position}
 use Rattle.complex.specs.Lists.{rising}
 use Rattle.complex.specs.Cells.{Halfedge, Figure, vertex, openEdge, closedEdge, face, Sheet, cellAt, bendsOf, startOf, endOf, headOf, positionOf, ids, origin}
 use Rattle.complex.specs.Edits.{both, rewired, sameVertex, inPlaceOf, rebuild}
-use Rattle.complex.specs.Sound.{sound, idsEnd, ceilings, figuresOk}
+use Rattle.complex.specs.Sound.{idsEnd, sound, ceilings, figuresOk}
 use Rattle.complex.specs.Uncut.{loop, joint, inOne, bendsAlong, uncutResult}
 use Rattle.complex.proofs.Bools.{both as twice}
 use Rattle.store.specs.declared.Drawing.{Drawing}
@@ -33,7 +33,7 @@ use Rattle.append.proofs.Copied.{row-bends, row-range, row-lookup}
 use Rattle.uncut_vertex.specs.Needs.{Pair, Triple, allBut, Looped, Merged}
 
 -- the next id is below the end of the ids
-pub next-most : (d : Drawing) → T (soundDrawing d) → d .next ≤ 65536
+pub next-most : (d : Drawing) → T (soundDrawing d) → d .next ≤ idsEnd
 unfolding sound
 next-most d t =
     let s = sheetOf d in

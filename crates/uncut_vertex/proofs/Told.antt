@@ -17,7 +17,7 @@ use Rattle.complex.specs.Uncut.{Uncut, refused, lonely, loop, joint, twoFaces, 
 use Rattle.complex.proofs.Bools.{truth, pair}
 use Rattle.complex.proofs.Keep.{Sound}
 use Rattle.complex.proofs.Adds.{stays-at}
-use Rattle.complex.proofs.UnglueVertex.{Every}
+use Rattle.complex.proofs.Every.{Every}
 use Rattle.complex.proofs.UncutEdge.{own-cells}
 use Rattle.complex.proofs.UncutVertex.{real-ends, joint-sound}
 use Rattle.complex.proofs.Uncut.{Holds, is-lonely, is-loop, is-joint, is-two, is-one, is-rings, uncut-holds}

@@ -7,7 +7,7 @@ ghost use Rattle.complex.specs.Edits.{both, rewired, sameVertex, inPlaceOf, res
 ghost use Rattle.complex.specs.Uncut.{loop, joint, inOne, uncutCase, uncutResult};
 ghost use Rattle.complex.specs.Lists.{total};
 ghost use Rattle.complex.specs.Uses.{stepUse};
-ghost use Rattle.complex.specs.Sizes.{sized, moreLess, changedBy};
+ghost use Rattle.answer.specs.Sizes.{sized, moreLess, changedBy};
 ghost use Rattle.complex.specs.Decode.{uncut};
 ghost use Rattle.number.specs.Readers.{spread};
 ghost use Rattle.store.specs.Sheet.{allReal};
@@ -21,6 +21,7 @@ ghost use Rattle.answer.specs.Answers.{Answers};
 ghost use Rattle.answer.specs.Late.{sizesBy, lateNo, Small};
 ghost use Rattle.cut.specs.Cuts.{placeOf, noCell, Counted};
 ghost use Rattle.complex.specs.Cells.{openEdge, cellAt, isLive};
+ghost use Rattle.complex.specs.Sound.{idsEnd};
 ghost use mathlib.Core.List.{_∷_, []};
 ghost use Rattle.uncut_vertex.specs.Needs.{Pair, Triple, allBut, Looped, Merged, leaving, Sided, runsAround, jointRuns, Joint};
 use answer::Answer;
@@ -139,7 +140,7 @@ fn place_at(d: Drawing, row: usize) -> Position
 // Questions 7 and 8 where a vertex becomes a bend of a new edge, so many cells and steps fewer: the number of the first
 // no, or 0.
 fn bend_no(next: u32, t: Totals, cells: usize, steps: usize) -> u32
-    requires { ⌜ next ≤ 65536 ⌝ }
+    requires { ⌜ next ≤ idsEnd ⌝ }
     requires { ⌜ Small t ⌝ }
     requires { ⌜ cells ≤ 4294967296 ⌝ }
     requires { ⌜ steps ≤ 4294967296 ⌝ }

@@ -10,20 +10,20 @@ use lib.Dec.{T, leb, ltb, leb→le}
 use lib.ListN.{length, take, drop, replicate, length-map}
 use Rattle.complex.specs.Lists.{total, rising}
 use Rattle.complex.specs.Cells.{Figure, vertex, openEdge, closedEdge, face, LiveCell, Sheet, cellAt, ids, isFace, isLive, isVertexOrEdge, bendsOf, origin}
-use Rattle.complex.specs.Sound.{idsEnd, cyclesIn, stepsIn, bendsIn, over, ceilings}
+use Rattle.complex.specs.Sound.{idsEnd, bendsMost, cyclesIn, stepsIn, bendsIn, over, ceilings}
 use Rattle.complex.specs.Edits.{reshape, everyId}
 use Rattle.complex.specs.Decode.{unglue}
 use Rattle.complex.specs.Uses.{usesBy, onUses}
 use Rattle.complex.specs.Unglue.{copies, parts, ungluing}
 use Rattle.complex.specs.Commands.{question3, question4, question5, question6, result}
 use Rattle.complex.specs.Answer.{no, asked3}
-use Rattle.complex.specs.Sizes.{Sizes as Counted, sized, nothing, moreLess, changedBy, newCells, changeOf, unglueChange, sizesAfter, sizesFit}
+use Rattle.answer.specs.Sizes.{Sizes as Counted, sized, nothing, moreLess, changedBy, newCells, changeOf, unglueChange, sizesAfter, sizesFit}
 use Rattle.complex.proofs.Bools.{truth, true-of}
 use Rattle.complex.proofs.Lookup.{changed, lookup-reshape, ids-reshape}
 use Rattle.complex.proofs.Keep.{Sound, sound-parts}
 use Rattle.complex.proofs.Unglue.{over-at, asPart}
 use Rattle.complex.proofs.Asked.{Passed, no-6}
-use Rattle.complex.proofs.SizesAfter.{next-after, sizes-after}
+use Rattle.answer.proofs.SizesAfter.{next-after, sizes-after}
 use Rattle.store.specs.declared.Drawing.{Drawing}
 use Rattle.store.specs.declared.Index.{Index}
 use Rattle.store.specs.declared.Cell.{Cell}
@@ -63,14 +63,14 @@ bends-figure (openEdge a b bs) = refl
 bends-figure (closedEdge bs) = refl
 bends-figure (face ks) = refl
 
-pub bends-few : (s : Sheet) → Sound s → (i : ℕ) → length (bendsOf (cellAt s i)) ≤ 2048
+pub bends-few : (s : Sheet) → Sound s → (i : ℕ) → length (bendsOf (cellAt s i)) ≤ bendsMost
 bends-few s S i = go (cellAt s i) refl
   where
     go : (o : Option Figure) → cellAt s i ≡ o → length (bendsOf o) ≤ 2048
     go none e = omega arith
     go (some t) e = let a = over-at bendsIn (s .cells) i t e in let b = below (s .cells) (S .fits) .bends in let f = bends-figure t in omega arith
 
-pub times-few : (n b : ℕ) → b ≤ 2048 → n * b ≤ n * 2048
+pub times-few : (n b : ℕ) → b ≤ bendsMost → n * b ≤ n * bendsMost
 times-few zero b h = omega arith
 times-few (suc n) b h = let r = times-few n b h in omega arith
 
@@ -166,7 +166,7 @@ module _ (d : Drawing) (w : T (soundDrawing d)) where
   pub sound-in : Sound (sheetOf d)
   sound-in = sound-parts (sheetOf d) (sound-sheet d w)
 
-  pub next-in : d .next ≤ 65536
+  pub next-in : d .next ≤ idsEnd
   unfolding sheetOf
   next-in = leb→le (d .next) idsEnd (sound-in .inIds)
 

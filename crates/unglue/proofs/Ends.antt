@@ -9,6 +9,7 @@ use lib.Dec.{eqb}
 use lib.ListN.{length, getD, set, length-set}
 use lib.Seq.{getD-set-same, getD-set-other}
 use Rattle.unglue.specs.Places.{endMark, EndMarks, endOf, NewEnds, EndRows}
+use Rattle.complex.specs.Sound.{idsEnd, cellsMost}
 
 module _ (kinds starts ends : List ℕ) (v j : ℕ) (at : List Bool) (M : EndMarks kinds starts ends v j at) (h : j * 2 + 1 < length at) (a b : Bool)
     (ea : a ≡ endMark (getD kinds j 0) (getD starts j 0) v) (eb : b ≡ endMark (getD kinds j 0) (getD ends j 0) v) where
@@ -65,6 +66,6 @@ module _ (side : ℕ) (at : List Bool) (groups : List ℕ) (v next : ℕ) where
           ∙ ap (λ (k : ℕ). endOf (getD at (k * 2 + side) false) (getD groups (k * 2 + side) 0) (getD old k 0) v next) (sym q)
       go i l false f = let n = eqb-false i j f in getD-set-other new j i x 0 n ∙ N .changed i (omega arith)
 
-pub end-rows : (side : ℕ) (at : List Bool) (groups : List ℕ) (n next : ℕ) (ends : List ℕ) (g : ℕ) → side ≤ 1 → length at ≡ 512 → length groups ≡ 512 → ((p : ℕ) → getD groups p 0 ≤ g) → g ≤ 512 → n ≤ 256 → length ends ≡ 256 → next ≤ 65536
+pub end-rows : (side : ℕ) (at : List Bool) (groups : List ℕ) (n next : ℕ) (ends : List ℕ) (g : ℕ) → side ≤ 1 → length at ≡ 512 → length groups ≡ 512 → ((p : ℕ) → getD groups p 0 ≤ g) → g ≤ 512 → n ≤ cellsMost → length ends ≡ 256 → next ≤ idsEnd
     → EndRows side at groups n next ends
 end-rows side at groups n next ends g s a b m k f e i = record { oneSide = s; marks = omega arith; numbers = omega arith; small = λ p. let o = m p in omega arith; rows = omega arith; few = f; ids = i }

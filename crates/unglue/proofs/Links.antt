@@ -12,7 +12,7 @@ use lib.Seq.{take-suc, take-suc-set, length-take-le, getD-take}
 use Rattle.complex.specs.Lists.{filter, consIf, one}
 use Rattle.complex.specs.Cells.{Halfedge, Cycle, stepsOf}
 use Rattle.complex.specs.Uses.{Passage, passage, passages, passagesFrom}
-use Rattle.complex.proofs.UnglueVertex.{filter-append}
+use Rattle.complex.proofs.Every.{filter-append}
 use Rattle.store.specs.Index.{rowOf}
 use Rattle.store.specs.View.{halfedgeOf, width, widthSum, cycleOf, cyclesOf}
 use Rattle.store.proofs.Lists.{map-append}

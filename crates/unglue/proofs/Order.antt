@@ -14,8 +14,8 @@ use Rattle.complex.specs.Cells.{Halfedge, Figure, vertex, openEdge, closedEdge,
 use Rattle.complex.specs.Uses.{figureEnds, endsAt, isIn}
 use Rattle.complex.proofs.Bools.{truth, true-of, both, pair, cases}
 use Rattle.complex.proofs.Keep.{same-eq}
-use Rattle.complex.proofs.UnglueVertex.{in-append}
-use Rattle.complex.proofs.Groups.{placeOf}
+use Rattle.complex.proofs.Groups.{in-append}
+use Rattle.complex.proofs.EndGroups.{placeOf}
 use Rattle.store.specs.Index.{rowOf}
 use Rattle.unglue.specs.Places.{placeAt, isEnd}
 
@@ -56,7 +56,7 @@ listed lo [] hi v h t m = absurd m
 listed lo (c ∷ cs) hi v h t m =
     let b = both (ltb lo (c .id)) (rising (c .id) (ids cs) hi) t in
     let l = ltb→lt lo (c .id) (b .0) in
-    elim (cases (isIn (figureEnds v (c .id) (c .figure)) h) (isIn (endsAt cs v) h) (subst T (in-append (figureEnds v (c .id) (c .figure)) (endsAt cs v) h) m)) [
+    elim (cases (isIn (figureEnds v (c .id) (c .figure)) h) (isIn (endsAt cs v) h) (subst T (in-append same (figureEnds v (c .id) (c .figure)) (endsAt cs v) h) m)) [
       | inl k ↦ let f = figure-edge v (c .id) (c .figure) h k in (
         subst (λ (y : Bool). T (isOpen (someIf y (c .figure) (lookup cs (h .edge))) && eqb (tailOf (λ j. someIf y (c .figure) (lookup cs (h .edge))) h) v)) (sym (eq-eqb (c .id) (h .edge) (sym (f .0)))) (pair (isOpen (some (c .figure))) (eqb (tailOf (λ j. some (c .figure)) h) v) (f .1) (f .2)),
         let e = f .0 in omega arith,
@@ -139,7 +139,7 @@ in-order lo (c ∷ cs) hi v x y t m n l =
     go (b .1) (λ r i j k. in-order (c .id) cs hi v x y r i j k) (isIn (figureEnds v (c .id) (c .figure)) x) (isIn (figureEnds v (c .id) (c .figure)) y) refl refl
   where
     later : (h : Halfedge) → T (isIn ((figureEnds v (c .id) (c .figure)) ++ (endsAt cs v)) h) → isIn (figureEnds v (c .id) (c .figure)) h ≡ false → T (isIn (endsAt cs v) h)
-    later h m e = elim (cases (isIn (figureEnds v (c .id) (c .figure)) h) (isIn (endsAt cs v) h) (subst T (in-append (figureEnds v (c .id) (c .figure)) (endsAt cs v) h) m)) [
+    later h m e = elim (cases (isIn (figureEnds v (c .id) (c .figure)) h) (isIn (endsAt cs v) h) (subst T (in-append same (figureEnds v (c .id) (c .figure)) (endsAt cs v) h) m)) [
       | inl k ↦ absurd (subst T e k)
       | inr k ↦ k
     ]

@@ -13,11 +13,13 @@ use lib.Seq.{getD-take, length-take-le}
 use Rattle.coordinate.specs.declared.Position.{Position}
 use Rattle.complex.specs.Lists.{filter, consIf, rising}
 use Rattle.complex.specs.Cells.{Halfedge, Figure, vertex, openEdge, closedEdge, face, isVertex, LiveCell, Sheet, along, against, lookup, cellAt, ids, isOpen, startOf, endOf, tailOf}
-use Rattle.complex.specs.Uses.{loneUse, onUses, endsAt, Passage, passagesAt, allCycles, isIn, groups, groupOf, Together, passes, itself, back, chain}
+use Rattle.complex.specs.Uses.{loneUse, onUses, endsAt, Passage, passagesAt, allCycles, isIn, groups, groupOf, Together}
+use Rattle.complex.specs.Groups.{linked, itself, back, chain}
 use Rattle.complex.proofs.Bools.{truth, true-of, both}
 use Rattle.complex.proofs.Keep.{Sound, sound-parts}
 use Rattle.complex.proofs.UnglueVertex.{end-in, open-at}
-use Rattle.complex.proofs.Groups.{groupAt, firstAt, together-same, same-together, in-some, in-own, in-only, members-end, none-empty, first-earliest, by-first}
+use Rattle.complex.proofs.Groups.{groupAt}
+use Rattle.complex.proofs.EndGroups.{firstAt, together-same, same-together, in-some, in-own, in-only, members-end, none-empty, first-earliest, by-first}
 use Rattle.store.specs.declared.Drawing.{Drawing}
 use Rattle.store.specs.declared.Index.{Index}
 use Rattle.store.specs.Index.{Indexes, Rising, rowOf}
@@ -229,7 +231,7 @@ module _ (d : Drawing) (z : Sizes d) (w : T (soundDrawing d)) (ix : Index) (x : 
     arrives-end : (t : Passage) → List·Memᴰ t (passagesAt (sheetOf d .cells) v) → T (isEnd (sheetOf d .cells) v (t .arrives))
     arrives-end t m =
         let s = in-some (sheetOf d) sound-in v (t .leaves) (end-listed (t .leaves) (leaves-end t m)) in
-        let e = together-same (sheetOf d) sound-in v q av (passes t m) in
+        let e = together-same (sheetOf d) sound-in v q av (linked t m) in
         listed-end (t .arrives) (members-end (sheetOf d) sound-in v (t .arrives) (groupOf gs (t .arrives)) (own-lt gs (t .arrives) (omega arith)))
 
     pub kept-are : filter (linkKept (take (d .count) (ix .ids)) at) (turnsOf (allCycles (sheetOf d .cells))) ≡ passagesAt (sheetOf d .cells) v
@@ -274,11 +276,11 @@ module _ (d : Drawing) (z : Sizes d) (w : T (soundDrawing d)) (ix : Index) (x : 
       label-along : Along xs ys m label
       label-along i l =
           let t = getD ts i blank in
-          ap label (left-at i l) ∙ label-of (t .arrives) (arrives-end t (member i l)) ∙ together-same (sheetOf d) sound-in v q av (passes t (member i l))
+          ap label (left-at i l) ∙ label-of (t .arrives) (arrives-end t (member i l)) ∙ together-same (sheetOf d) sound-in v q av (linked t (member i l))
           ∙ sym (label-of (t .leaves) (leaves-end t (member i l))) ∙ ap label (sym (right-at i l))
 
       follow : (H : ℕ → ℕ) → Along xs ys m H → {x y : Halfedge} → Together (passagesAt (sheetOf d .cells) v) x y → H (placeAt (take (d .count) (ix .ids)) x) ≡ H (placeAt (take (d .count) (ix .ids)) y)
-      follow H a (passes t k) =
+      follow H a (linked t k) =
           at-mem (λ (u : Passage). H (placeAt is (u .arrives)) ≡ H (placeAt is (u .leaves))) ts blank
           (λ i l. let n : i < m = omega arith in ap H (sym (left-at i n)) ∙ a i n ∙ ap H (right-at i n)) k
       follow H a (itself x) = refl

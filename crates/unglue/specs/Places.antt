@@ -10,6 +10,7 @@ use Rattle.complex.specs.Lists.{filter, consIf}
 use Rattle.complex.specs.Cells.{Halfedge, Cycle, LiveCell, lookup, isOpen, tailOf, stepsOf}
 use Rattle.complex.specs.Uses.{Passage, passages, groups, groupOf}
 use Rattle.complex.specs.Unglue.{copyOf}
+use Rattle.complex.specs.Sound.{idsEnd, cellsMost}
 use Rattle.store.specs.declared.Drawing.{Drawing}
 use Rattle.store.specs.declared.Index.{Index}
 use Rattle.store.specs.View.{sheetOf}
@@ -17,7 +18,7 @@ use Rattle.store.specs.Index.{Rising, rowOf}
 
 -- the ids of n rows
 pub record Rows (is : List ℕ) (n : ℕ) : Type 0 where
-  pub few : n ≤ 256
+  pub few : n ≤ cellsMost
   pub size : length is ≡ 256
   pub rising : Rising (take n is)
 
@@ -81,8 +82,8 @@ pub record EndRows (side : ℕ) (at : List Bool) (groups : List ℕ) (n next : �
   pub numbers : n * 2 ≤ length groups
   pub small : (p : ℕ) → getD groups p 0 ≤ 512
   pub rows : n ≤ length ends
-  pub few : n ≤ 256
-  pub ids : next ≤ 65536
+  pub few : n ≤ cellsMost
+  pub ids : next ≤ idsEnd
 
 -- an end at v
 abbrev pub isEnd : List LiveCell → ℕ → Halfedge → Bool

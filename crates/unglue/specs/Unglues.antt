@@ -6,7 +6,7 @@ use lib.Dec.{T}
 use Rattle.complex.specs.Lists.{rising}
 use Rattle.complex.specs.Cells.{Figure, Sheet, cellAt, ids, isOpen, isClosed, isVertexOrEdge}
 use Rattle.complex.specs.Unglue.{copies}
-use Rattle.complex.specs.Sizes.{sizesOf, changedBy, unglueChange}
+use Rattle.answer.specs.Sizes.{sizesOf, changedBy, unglueChange}
 use Rattle.store.specs.declared.Drawing.{Drawing}
 use Rattle.store.specs.View.{sheetOf, Fits}
 use Rattle.append.specs.Appends.{RoomIn}

@@ -9,9 +9,10 @@ ghost use Rattle.complex.specs.Cells.{cellAt, stepsOf, isVertex};
 ghost use Rattle.complex.specs.Decode.{unglue as ungluing};
 ghost use Rattle.complex.specs.Uses.{passage, passages};
 ghost use Rattle.complex.specs.Unglue.{ungluing as ungluingOf};
-ghost use Rattle.complex.specs.Sizes.{sized, nothing, moreLess, changedBy};
+ghost use Rattle.answer.specs.Sizes.{sized, nothing, moreLess, changedBy};
 ghost use Rattle.store.specs.View.{sheetOf, Fits, halfedgeOf, width, widthSum, cycleOf, cyclesOf, cycleTotal};
 ghost use Rattle.complex.specs.Edits.{reshape};
+ghost use Rattle.complex.specs.Sound.{idsEnd, bendsMost};
 ghost use Rattle.store.specs.Index.{rowOf, Indexes};
 ghost use Rattle.store.specs.Edits.{withEntries};
 ghost use Rattle.sound.specs.Soundness.{soundDrawing};
@@ -38,9 +39,9 @@ fn count_all<'a>(u: Use, cycles: &'a [u32; 512], m: usize, steps: &'a [u32; 2048
 
 // Questions 7 and 8, of n new copies of a cell with b bends.
 fn late_copies(next: u32, t: Totals, b: usize, n: usize) -> u32
-    requires { ⌜ next ≤ 65536 ⌝ }
+    requires { ⌜ next ≤ idsEnd ⌝ }
     requires { ⌜ Small t ⌝ }
-    requires { ⌜ b ≤ 2048 ⌝ }
+    requires { ⌜ b ≤ bendsMost ⌝ }
     requires { ⌜ n ≤ 4096 ⌝ }
     ensures { λ r. ⌜ r ≡ lateNo next n (changedBy (sizesBy t) (moreLess (sized n 0 0 (n * b)) nothing)) ⌝ }
 {
@@ -355,7 +356,7 @@ fn mark_ends(kinds: &[u32], starts: &[u32], ends: &[u32], n: usize, v: u32, at: 
 
 fn new_end(mark: bool, g: u32, a: u32, v: u32, next: u32) -> u32
     requires { ⌜ g ≤ 512 ⌝ }
-    requires { ⌜ next ≤ 65536 ⌝ }
+    requires { ⌜ next ≤ idsEnd ⌝ }
     ensures { λ r. ⌜ r ≡ endOf mark g a v next ⌝ }
 {
     if !mark {

@@ -10,7 +10,7 @@ use Rattle.bends.specs.Bends.{positionsAt}
 use Rattle.bends.proofs.Laws.{positions-length}
 use Rattle.complex.specs.Edits.{everyId}
 use Rattle.complex.specs.Decode.{cutFaceClosed}
-use Rattle.complex.specs.Sizes.{sized, nothing, moreLess, changedBy}
+use Rattle.answer.specs.Sizes.{sized, nothing, moreLess, changedBy}
 use Rattle.complex.proofs.Asked.{Passed, no-3}
 use Rattle.store.specs.declared.Drawing.{Drawing}
 use Rattle.store.specs.declared.Index.{Index}

@@ -11,7 +11,7 @@ use Rattle.coordinate.specs.Bounds.{within}
 use Rattle.complex.specs.Cells.{vertex, face, cellAt, isFace}
 use Rattle.complex.specs.Edits.{everyId}
 use Rattle.complex.specs.Decode.{cutFaceVertex}
-use Rattle.complex.specs.Sizes.{sized, nothing, moreLess, changedBy}
+use Rattle.answer.specs.Sizes.{sized, nothing, moreLess, changedBy}
 use Rattle.complex.proofs.Asked.{no-3, no-4}
 use Rattle.store.specs.declared.Drawing.{Drawing}
 use Rattle.store.specs.declared.Index.{Index}

@@ -10,7 +10,7 @@ use Rattle.bends.specs.Bends.{positionsAt}
 use Rattle.complex.specs.Cells.{cellAt, cyclesOf}
 use Rattle.complex.specs.Decode.{cutFaceOpen}
 use Rattle.complex.specs.Cut.{noCycle}
-use Rattle.complex.specs.Sizes.{aloneIn}
+use Rattle.answer.specs.Sizes.{aloneIn}
 use Rattle.store.specs.View.{sheetOf}
 use Rattle.store.proofs.Sizes.{sizes}
 use Rattle.sound.proofs.Meaning.{sound-fits}

@@ -8,7 +8,7 @@ use lib.ListN.{length}
 use Rattle.bends.specs.Bends.{positionsAt}
 use Rattle.complex.specs.Cells.{cellAt, cyclesOf}
 use Rattle.complex.specs.Decode.{cutFaceOpen}
-use Rattle.complex.specs.Sizes.{sized, moreLess, changedBy}
+use Rattle.answer.specs.Sizes.{sized, moreLess, changedBy}
 use Rattle.store.specs.View.{sheetOf}
 use Rattle.store.proofs.Sizes.{sizes}
 use Rattle.sound.proofs.Meaning.{sound-fits}

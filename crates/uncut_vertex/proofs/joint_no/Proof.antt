@@ -6,7 +6,7 @@ use mathlib.Core.Path.{ap, _∙_}
 use denote.Ref.{now}
 use lib.ListN.{take}
 use lib.Dec.{lit≤}
-use Rattle.complex.specs.Sizes.{sized, moreLess, changedBy}
+use Rattle.answer.specs.Sizes.{sized, moreLess, changedBy}
 use Rattle.answer.specs.Late.{sizesBy, lateNo}
 use Rattle.cut.proofs.OpenAnswer.{uses-most}
 use Rattle.uncut_vertex.proofs.joint_no.Statement.{statement}

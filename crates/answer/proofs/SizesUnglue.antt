@@ -8,18 +8,18 @@ use mathlib.Core.Option.{Option, none, some}
 use lib.ListN.{length, replicate}
 use lib.Dec.{T}
 use Rattle.coordinate.specs.declared.Position.{Position}
 use Rattle.complex.specs.Cells.{Halfedge, Cycle, lone, path, Figure, vertex, openEdge, closedEdge, face, Sheet, isVertexOrEdge, cellAt}
 use Rattle.complex.specs.Sound.{stepCount, cyclesIn, stepsIn, bendsIn, over}
 use Rattle.complex.specs.Decode.{unglue}
 use Rattle.complex.specs.Edits.{rebuild, everyId, sameVertex, inPlaceOf}
 use Rattle.complex.specs.Uses.{groups, edgeUse, loneUse, stepUse, ringUse, usesBy, earlier, onUses}
 use Rattle.complex.specs.Unglue.{copyOf, copies, newSteps, newPath, newRing, newLone, newEnds, parts, ungluing, unglued}
 use Rattle.complex.specs.Commands.{question4, result}
-use Rattle.complex.specs.Sizes.{sizesOf, changedBy, unglueChange, sizesAfter}
+use Rattle.answer.specs.Sizes.{sizesOf, changedBy, unglueChange, sizesAfter}
 use Rattle.complex.proofs.Keep.{Sound}
 use Rattle.complex.proofs.Unglue.{length-counting, total-counting, uses-over}
 use Rattle.complex.proofs.UnglueVertex.{ends-over}
-use Rattle.complex.proofs.Sizes.{Asked6, each, shifts-sizes, steps-cycle, noStepMore}
+use Rattle.answer.proofs.Sizes.{Asked6, each, shifts-sizes, steps-cycle, noStepMore}
 
 -- ---- copies keep the steps
 steps-path : (e next n : ℕ) (k : Cycle) → stepCount (newPath e next n k) ≡ stepCount k

@@ -10,26 +10,26 @@ use lib.ListN.{length, getD, set, length-append, length-reverse}
 use lib.Dec.{T, eqb, leb}
 use borrow.Author.Tests.{ne-eqb, eqb-true, eqb-false, leb-true, leb-false}
 use Rattle.coordinate.specs.declared.Position.{Position}
 use Rattle.complex.specs.Lists.{total, one, without}
 use Rattle.complex.specs.Cells.{Halfedge, Cycle, lone, path, Figure, vertex, openEdge, closedEdge, face, Sheet, Look, isOpen, isClosed, isEdge, startOf, endOf, bendsOf, cyclesOf, positionOf, stepsOf, same, headOf, cellAt}
 use Rattle.complex.specs.Sound.{Walk, cycleOk, stepCount, cyclesIn, stepsIn, bendsIn}
 use Rattle.complex.specs.Decode.{uncut}
 use Rattle.complex.specs.Edits.{sameVertex, inPlaceOf, others, both}
 use Rattle.complex.specs.Uses.{endsAt, edgeUse, loneUse, usesBy, Use, usesOf}
 use Rattle.complex.specs.Cut.{noCycle, noStep}
 use Rattle.complex.specs.Uncut.{Uncut, lonely, loop, joint, twoFaces, oneCycle, rings, opposite, withoutLone, inOne, bendsAlong, joined, pathOr, cycleOfUse, following, followingTo, uncutCase, uncutResult, uncutAt}
 use Rattle.complex.specs.Commands.{result}
-use Rattle.complex.specs.Sizes.{sizesOf, changedBy, aloneLeft, bendCount, uncutChange, sizesAfter}
+use Rattle.answer.specs.Sizes.{sizesOf, newByUncut, newCells, changedBy, aloneLeft, bendCount, uncutChange, changeOf, sizesAfter}
 use Rattle.complex.proofs.Walks.{Ring, joins-cases}
 use Rattle.complex.proofs.Keep.{Sound, same-eq}
 use Rattle.complex.proofs.Split.{all-getD, apart}
 use Rattle.complex.proofs.Sums.{total-append, total-set, total-but-one}
 use Rattle.complex.proofs.UnglueVertex.{open-at}
 use Rattle.complex.proofs.UncutFaces.{Placed, placed-use, real-u, real-w, following-length, u-only, w-only, two-less, merged-cycles, rings-cycles}
 use Rattle.complex.proofs.UncutCycle.{Only, stretch-length, stretches-length, w-lt, distinct, Y-is, one-less, more-cycles}
 use Rattle.complex.proofs.UncutVertex.{cycles-less, steps-less, lonely-less, lonely-same, real-ends, loop-gone, joint-gone}
 use Rattle.complex.proofs.Uncut.{Holds, is-lonely, is-loop, is-joint, is-two, is-one, is-rings, uncut-holds}
-use Rattle.complex.proofs.Sizes.{Asked6, each, shifts-sizes, sums-sizes, rewired-sizes, noStepMore, none-used}
+use Rattle.answer.proofs.Sizes.{Asked6, each, shifts-sizes, sums-sizes, rewired-sizes, noStepMore, none-used}
 
 -- ---- cycles and their counts
 -- nothing left is a lone vertex
@@ -233,3 +233,13 @@ module _ (s : Sheet) (S : Sound s) (i : ℕ) where
   pub uncut-sizes : Asked6 s (uncut i) → sizesOf (result s (uncut i) .cells) ≡ sizesAfter s (uncut i)
   unfolding result uncutAt sizesAfter
   uncut-sizes q = case-sizes (uncutCase s i) (uncut-holds s S i (q .3))
+
+-- by a case that is known
+module _ (s : Sheet) (i : ℕ) (k : Uncut) (e : uncutCase s i ≡ k) where
+  pub uncut-new : newCells s (uncut i) ≡ newByUncut k
+  unfolding newCells
+  uncut-new = ap newByUncut e
+
+  pub uncut-change : changeOf s (uncut i) ≡ uncutChange s i k
+  unfolding changeOf
+  uncut-change = ap (uncutChange s i) e

@@ -9,20 +9,20 @@ use lib.ListN.{length, length-append, length-map}
 use lib.Dec.{T, eqb, leb, leb→le, le→leb}
 use Rattle.number.specs.Readers.{spread}
 use Rattle.coordinate.specs.declared.Position.{Position}
 use Rattle.complex.specs.Lists.{total, one}
 use Rattle.complex.specs.Cells.{Halfedge, Cycle, lone, path, Figure, vertex, openEdge, closedEdge, face, LiveCell, Sheet, isVertex, isEdge, cyclesOf, stepsOf, cellAt}
 use Rattle.complex.specs.Sound.{cellsMost, cyclesMost, stepsMost, bendsMost, stepCount, cyclesIn, stepsIn, bendsIn, over, ceilings}
 use Rattle.complex.specs.Decode.{Command, create, move, delete, glueVertices, glueEdges}
 use Rattle.complex.specs.Edits.{keepIds, rebuild, asItIs, rewiredCycle, rewired, sameVertex, others, inPlaceOf}
 use Rattle.complex.specs.Delete.{moved, goes, deleted}
 use Rattle.complex.specs.Glue.{renamed, gluedVertices, gluedEdges}
 use Rattle.complex.specs.Commands.{question3, question4, question5, question6, result}
-use Rattle.complex.specs.Sizes.{Sizes, sized, sizesOf, sizesFit, Change, changedBy, bendCount, changeOf, sizesAfter}
+use Rattle.answer.specs.Sizes.{Sizes, sized, sizesOf, sizesFit, Change, changedBy, bendCount, changeOf, sizesAfter}
 use Rattle.complex.proofs.Bools.{both, pair}
 use Rattle.complex.proofs.Keep.{Sound}
 use Rattle.complex.proofs.Sums.{total-zero, total-ones, total-by}
 use Rattle.complex.proofs.Euler.{over-reshaped, over-keep, over-rebuild, over-kept, over-added, over-changed}
 use Rattle.complex.proofs.Faces.{Without, without-one, vertex-at}
 
 -- it was asked 3 to 6
 abbrev pub Asked6 : Sheet → Command → Type 0

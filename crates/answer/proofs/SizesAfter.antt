@@ -8,22 +8,22 @@ use mathlib.Core.Option.{Option, none, some}
 use lib.ListN.{length, length-replicate}
 use lib.Dec.{eqb}
 use Rattle.coordinate.specs.declared.Position.{Position}
 use Rattle.complex.specs.Cells.{Figure, vertex, openEdge, closedEdge, face, LiveCell, Sheet, cyclesOf, cellAt}
 use Rattle.complex.specs.Sound.{ceilings}
 use Rattle.complex.specs.Decode.{Command, create, move, delete, glueVertices, glueEdges, unglue, cutEdge, cutFaceVertex, cutFaceOpen, cutFaceClosed, uncut}
 use Rattle.complex.specs.Delete.{moved, deleted}
 use Rattle.complex.specs.Glue.{gluedVertices, gluedEdges}
 use Rattle.complex.specs.Unglue.{copies, parts, unglued}
 use Rattle.complex.specs.Cut.{splitInTwo, bridged, cutFigure, edgeCut, faceCutAt, faceCutAlong, faceCutRound}
 use Rattle.complex.specs.Uncut.{Uncut, refused, lonely, loop, joint, twoFaces, oneCycle, rings, uncutCase, uncutResult, uncutAt}
 use Rattle.complex.specs.Commands.{result}
-use Rattle.complex.specs.Sizes.{Sizes, sized, sizesOf, sizesFit, newByCut, newByUncut, newCells, noChange, changedBy, sizesAfter}
+use Rattle.answer.specs.Sizes.{Sizes, sized, sizesOf, sizesFit, newByCut, newByUncut, newCells, noChange, changedBy, sizesAfter}
 use Rattle.complex.proofs.Bools.{true-of}
 use Rattle.complex.proofs.Keep.{Sound}
-use Rattle.complex.proofs.Sizes.{Asked6, create-sizes, move-sizes, delete-fits, glue-sizes, glue-edges-sizes}
-use Rattle.complex.proofs.SizesCut.{dot-sizes, round-sizes, along-sizes, cut-edge-sizes}
-use Rattle.complex.proofs.SizesUnglue.{unglue-sizes}
-use Rattle.complex.proofs.SizesUncut.{uncut-sizes}
+use Rattle.answer.proofs.Sizes.{Asked6, create-sizes, move-sizes, delete-fits, glue-sizes, glue-edges-sizes}
+use Rattle.answer.proofs.SizesCut.{dot-sizes, round-sizes, along-sizes, cut-edge-sizes}
+use Rattle.answer.proofs.SizesUnglue.{unglue-sizes}
+use Rattle.answer.proofs.SizesUncut.{uncut-sizes}
 
 -- ---- 7: the next id, of any drawing and command
 copies-count : (cs : List LiveCell) (i : ℕ) (o : Option Figure) → length (copies (parts cs i o) o) ≡ parts cs i o - 1

@@ -10,22 +10,22 @@ use lib.Seq.{getD-set-other}
 use lib.Dec.{T, eqb, ltb, leb, ltb→lt, leb→le}
 use borrow.Author.Tests.{eqb-true, eqb-false}
 use Rattle.coordinate.specs.declared.Position.{Position}
 use Rattle.complex.specs.Lists.{isEmpty, total, holds, places, one, rotated, without, chosen, distance}
 use Rattle.complex.specs.Cells.{Halfedge, Cycle, lone, path, Figure, vertex, openEdge, closedEdge, face, Sheet, isEdge, isFace, cyclesOf, stepsOf, along, against, cellAt}
 use Rattle.complex.specs.Sound.{stepCount}
 use Rattle.complex.specs.Decode.{cutEdge, cutFaceVertex, cutFaceOpen, cutFaceClosed}
 use Rattle.complex.specs.Edits.{rebuild, everyId, replaced, sameVertex, others, inPlaceOf}
 use Rattle.complex.specs.Uses.{edgeUse, stepUse, usesBy}
 use Rattle.complex.specs.Cut.{noCycle, corner, stretch, remainder, splitInTwo, bridged, faceCutAt, faceCutAlong, faceCutRound, cornerExists, bendsBefore, bendsAfter, bendsRound, inTwo, cutFigure, edgeCut, cutExists, cutPlace}
 use Rattle.complex.specs.Commands.{question4, question5, result}
-use Rattle.complex.specs.Sizes.{sizesOf, Change, changedBy, aloneIn, alongChange, cutChange, changeOf, sizesAfter}
+use Rattle.answer.specs.Sizes.{sizesOf, Change, changedBy, aloneIn, alongChange, cutChange, changeOf, sizesAfter}
 use Rattle.complex.proofs.Bools.{both}
 use Rattle.complex.proofs.Keep.{Sound}
 use Rattle.complex.proofs.Split.{length-rotated, is-face}
 use Rattle.complex.proofs.Sums.{total-append, total-set, total-left, total-but-one, length-left, length-but-one, chosen-set}
 use Rattle.complex.proofs.Euler.{over-changed}
 use Rattle.complex.proofs.Faces.{without-one}
-use Rattle.complex.proofs.Sizes.{Asked6, Comes, sums-sizes, rewired-sizes, noStepMore, none-used}
+use Rattle.answer.proofs.Sizes.{Asked6, Comes, sums-sizes, rewired-sizes, noStepMore, none-used}
 
 -- ---- a face with other cycles, and new cells
 pub refaced-sizes : (s : Sheet) → Sound s → (f : ℕ) → T (isFace (cellAt s f)) → (ks′ : List Cycle) (new : List Figure) (c : Change) → Comes (λ g. g (face (cyclesOf (cellAt s f)))) (λ g. g (face ks′) + total g new) c
