@@ -5,7 +5,8 @@ use mathlib.Core.List.{List, [], _∷_}
 use mathlib.Core.Option.{Option, none, some}
 use lib.ListN.{length, replicate}
 use lib.Dec.{eqb}
-use Rattle.complex.specs.Cells.{Halfedge, Cycle, lone, path, Figure, vertex, openEdge, closedEdge, face, LiveCell, Sheet, cellAt, along, against}
+use Rattle.complex.specs.Cells.{Halfedge, Cycle, lone, path, Figure, vertex, openEdge, closedEdge, face, LiveCell, Sheet}
+use Rattle.complex.specs.Cells.{cellAt, along, against}
 use Rattle.complex.specs.Edits.{rebuild, everyId, asItIs, rewiredCycle, sameVertex, inPlaceOf}
 use Rattle.complex.specs.Uses.{groups, groupOf, loneUse, edgeUse, stepUse, ringUse, usesBy, onUses}
 
@@ -21,7 +22,9 @@ copies n (some t) = replicate (n - 1) t
 -- an open edge: every step
 abbrev pub newSteps : ℕ → ℕ → ℕ → List Halfedge → List Halfedge
 newSteps e next n [] = []
-newSteps e next n (h ∷ hs) = record { edge = cond (eqb e (h .edge)) (copyOf e next n) (h .edge); backward = h .backward } ∷ newSteps e next (n + edgeUse e h) hs
+newSteps e next n (h ∷ hs) =
+    record { edge = cond (eqb e (h .edge)) (copyOf e next n) (h .edge); backward = h .backward }
+    ∷ newSteps e next (n + edgeUse e h) hs
 
 abbrev pub newPath : ℕ → ℕ → ℕ → Cycle → Cycle
 newPath e next n (lone v) = lone v

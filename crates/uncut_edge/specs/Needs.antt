@@ -7,7 +7,7 @@ use lib.Dec.{T}
 use lib.ListN.{length, getD, set, take}
 use Rattle.complex.specs.Lists.{one, without}
 use Rattle.complex.specs.Cells.{Cycle, face, Look, cellAt, cyclesOf, stepsOf, isLive, isFace, headOf}
-use Rattle.complex.specs.Edits.{both, replaced, rebuild}
+use Rattle.complex.specs.Edits.{neither, replaced, rebuild}
 use Rattle.complex.specs.Uses.{Use as Used}
 use Rattle.complex.specs.Cut.{noCycle}
 use Rattle.complex.specs.Uncut.{Uncut, uncutCase, uncutResult, pathOr, following, followingTo}
@@ -83,6 +83,6 @@ pub record Going (d : Drawing) (ix : Index) (i j f : ℕ) (counts : List ℕ) (u
   pub first : isLive (cellAt (sheetOf d) i) ≡ true
   pub second : isLive (cellAt (sheetOf d) j) ≡ true
   pub building : Building counts u steps
-  pub stays : both i j f ≡ true
-  pub room : Roomy (rebuild (both i j) (replaced f (face (built counts u steps))) [] (sheetOf d))
+  pub stays : neither i j f ≡ true
+  pub room : Roomy (rebuild (neither i j) (replaced f (face (built counts u steps))) [] (sheetOf d))
   pub face : isFace (cellAt (sheetOf d) f) ≡ true

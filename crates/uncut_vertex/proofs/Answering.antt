@@ -10,7 +10,7 @@ use Rattle.coordinate.specs.declared.Position.{Position}
 use Rattle.complex.specs.Lists.{total}
 use Rattle.complex.specs.Cells.{openEdge, closedEdge, Sheet, cellAt, isLive, bendsOf, positionOf}
 use Rattle.complex.specs.Sound.{idsEnd, ceilings}
-use Rattle.complex.specs.Edits.{both, rewired, sameVertex, inPlaceOf, rebuild}
+use Rattle.complex.specs.Edits.{neither, rewired, sameVertex, inPlaceOf, rebuild}
 use Rattle.complex.specs.Uses.{stepUse}
 use Rattle.complex.specs.Decode.{uncut}
 use Rattle.complex.specs.Sizes.{sized, moreLess, changedBy, newByUncut, uncutChange}
@@ -122,8 +122,8 @@ module _ (d : Drawing) (z : Sizes d) (w : T (soundDrawing d)) (v e : ℕ) (h : u
         begin = began d z w ix x e b eb le first ef;
         count = counted d z w ix x e b eb le m em;
         room =
-            subst (λ (o : Position). RoomIn (remade (both v e) f s) (closedEdge (o ∷ bendsOf (cellAt s e)) ∷ [])) q
-            (room d z w (uncut v) r k y (both v e) f (closedEdge (positionOf (cellAt s v) ∷ bendsOf (cellAt s e)) ∷ []) (uncut-result s v (loop e) h));
+            subst (λ (o : Position). RoomIn (remade (neither v e) f s) (closedEdge (o ∷ bendsOf (cellAt s e)) ∷ [])) q
+            (room d z w (uncut v) r k y (neither v e) f (closedEdge (positionOf (cellAt s v) ∷ bendsOf (cellAt s e)) ∷ []) (uncut-result s v (loop e) h));
       }
 
 -- ---- one end each of the edges x and y

@@ -10,7 +10,7 @@ use lib.Dec.{T, leb, leb→le}
 use Rattle.coordinate.specs.declared.Position.{Position}
 use Rattle.complex.specs.Lists.{rising}
 use Rattle.complex.specs.Cells.{Halfedge, Figure, vertex, openEdge, closedEdge, face, Sheet, cellAt, bendsOf, startOf, endOf, headOf, positionOf, ids, origin}
-use Rattle.complex.specs.Edits.{both, rewired, sameVertex, inPlaceOf, rebuild}
+use Rattle.complex.specs.Edits.{neither, rewired, sameVertex, inPlaceOf, rebuild}
 use Rattle.complex.specs.Sound.{sound, idsEnd, ceilings, figuresOk}
 use Rattle.complex.specs.Uncut.{loop, joint, inOne, bendsAlong, uncutResult}
 use Rattle.complex.proofs.Bools.{both as twice}
@@ -64,7 +64,7 @@ abbrev pub loopRuns : Position → ℕ → ℕ → Runs
 loopRuns p first m = record { first = 0; count = 0; turned = false; middle = true; at = p; first2 = first; count2 = m; turned2 = false }
 
 module _ (d : Drawing) (z : Sizes d) (v a e b : ℕ) (p : Position) (first m : ℕ) (w : Looped d v a e b p first m)
-    (mid : Drawing) (zm : Sizes mid) (fm : Fits mid) (eo : sheetOf mid ≡ remade (both v e) (rewired sameVertex (inPlaceOf e (sheetOf d .next) false)) (sheetOf d)) where
+    (mid : Drawing) (zm : Sizes mid) (fm : Fits mid) (eo : sheetOf mid ≡ remade (neither v e) (rewired sameVertex (inPlaceOf e (sheetOf d .next) false)) (sheetOf d)) where
   loop-bends : runsOf (d .bends) (loopRuns p first m) ≡ p ∷ bendsOf (cellAt (sheetOf d) e)
   loop-bends =
       let f = sound-fits d (w .pair .sound) in
@@ -87,7 +87,7 @@ module _ (d : Drawing) (z : Sizes d) (v a e b : ℕ) (p : Position) (first m : �
   loop-result out g =
       g
       ∙ ap₂ (λ (t : Sheet) (l : List Position). appended t (closedEdge l)) eo loop-bends
-      ∙ ap (λ (q : Position). appended (remade (both v e) (rewired sameVertex (inPlaceOf e (sheetOf d .next) false)) (sheetOf d)) (closedEdge (q ∷ bendsOf (cellAt (sheetOf d) e)))) (sym (w .place))
+      ∙ ap (λ (q : Position). appended (remade (neither v e) (rewired sameVertex (inPlaceOf e (sheetOf d .next) false)) (sheetOf d)) (closedEdge (q ∷ bendsOf (cellAt (sheetOf d) e)))) (sym (w .place))
 
 -- ---- two edges
 module _ (d : Drawing) (v a x b y c start end : ℕ) (r : Runs) (w : Merged d v a x b y c start end r)

@@ -8,7 +8,7 @@ use lib.Dec.{T, leb}
 use Rattle.coordinate.specs.declared.Position.{Position}
 use Rattle.complex.specs.Cells.{Halfedge, openEdge, closedEdge, cellAt, bendsOf, positionOf, headOf, ids}
 use Rattle.complex.specs.Sound.{idsEnd, ceilings}
-use Rattle.complex.specs.Edits.{others, both, rewired, sameVertex, inPlaceOf, reshape}
+use Rattle.complex.specs.Edits.{others, neither, rewired, sameVertex, inPlaceOf, reshape}
 use Rattle.complex.specs.Uncut.{joint, inOne, uncutCase, uncutResult}
 use Rattle.number.specs.Readers.{spread}
 use Rattle.store.specs.Sheet.{allReal}
@@ -32,7 +32,7 @@ pub record Triple (d : Drawing) (i a j b k c : ℕ) : Type 0 where
 
 -- all but three
 abbrev pub allBut : ℕ → ℕ → ℕ → ℕ → Bool
-allBut i j k n = others i n && both j k n
+allBut i j k n = others i n && neither j k n
 
 -- the vertex v at p, in row a, becomes the first bend of the edge e, in row b, whose m bends begin at first
 pub record Looped (d : Drawing) (v a e b : ℕ) (p : Position) (first m : ℕ) : Type 0 where
@@ -41,7 +41,7 @@ pub record Looped (d : Drawing) (v a e b : ℕ) (p : Position) (first m : ℕ) :
   pub place : positionOf (cellAt (sheetOf d) v) ≡ p
   pub begin : first ≡ bendSum (take b (d .cells))
   pub count : m ≡ length (bendsIn (figureAt (sheetOf d) b))
-  pub room : RoomIn (remade (both v e) (rewired sameVertex (inPlaceOf e (sheetOf d .next) false)) (sheetOf d)) (closedEdge (p ∷ bendsOf (cellAt (sheetOf d) e)) ∷ [])
+  pub room : RoomIn (remade (neither v e) (rewired sameVertex (inPlaceOf e (sheetOf d .next) false)) (sheetOf d)) (closedEdge (p ∷ bendsOf (cellAt (sheetOf d) e)) ∷ [])
 
 -- the edges x and y, in rows b and c, become one through the vertex v, in row a: from start to end, with the bends of r
 pub record Merged (d : Drawing) (v a x b y c start end : ℕ) (r : Runs) : Type 0 where

@@ -3,7 +3,7 @@ ghost use mathlib.Core.Bool.{true, false, cond};
 ghost use Prim.Native.Nat.{_<_, _≤_};
 ghost use lib.Dec.{T};
 ghost use lib.ListN.{getD, set, take, replicate};
-ghost use Rattle.complex.specs.Edits.{both, rewired, sameVertex, inPlaceOf, reshape, rebuild};
+ghost use Rattle.complex.specs.Edits.{neither, rewired, sameVertex, inPlaceOf, reshape, rebuild};
 ghost use Rattle.complex.specs.Uncut.{loop, joint, inOne, uncutCase, uncutResult};
 ghost use Rattle.complex.specs.Lists.{total};
 ghost use Rattle.complex.specs.Uses.{stepUse};
@@ -34,7 +34,7 @@ use store::Index;
 fn swap_out(d: Drawing, v: u32, a: usize, e: u32, b: usize) -> Drawing
     requires { ⌜ Pair d v a e b ⌝ }
     requires { ⌜ e < 2147483648 ⌝ }
-    ensures { λ r. ⌜ sheetOf r ≡ remade (both v e) (rewired sameVertex (inPlaceOf e (sheetOf d .next) false)) (sheetOf d) ⌝ }
+    ensures { λ r. ⌜ sheetOf r ≡ remade (neither v e) (rewired sameVertex (inPlaceOf e (sheetOf d .next) false)) (sheetOf d) ⌝ }
     ensures { λ r. ⌜ Fits r ⌝ }
 {
     let next = d.next;
