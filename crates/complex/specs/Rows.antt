@@ -21,7 +21,7 @@ pub data Given : Type 0 where
   reading : List ℕ → Given
   -- what `edit` prints: four numbers for each line, the sign and size of the Euler number, the live cells
   editing : List (List ℕ) → Given
-  -- the file after the commands
+  -- the file after the commands; in the rows: next id and count, then cell by cell
   filing : List (List ℕ) → Given
   -- the four numbers of a command's answer, after others or on a drawing
   answering : List (List ℕ) → List ℕ → Given
@@ -162,13 +162,18 @@ marked =
     -- cycle a b b⁻ a⁻: done, n n⁻
     ∷ row (answering bentBack (0x0E ∷ 2 ∷ [])) (0 ∷ 7 ∷ 1 ∷ 3 ∷ [])
     ∷ row (filing (bentBack ++ (0x0E ∷ 2 ∷ []) ∷ []))
-    (8 ∷ 4 ∷ 1 ∷ 0 ∷ nought ++ (3 ∷ 0 ∷ nought ++ (6 ∷ 3 ∷ 1 ∷ 2 ∷ 14 ∷ 15 ∷ 7 ∷ 1 ∷ 1 ∷ 3 ∷ 1 ∷ nought)))
+    (joinedBytes
+    ((8 ∷ 4 ∷ []) ∷ (1 ∷ 0 ∷ nought) ∷ (3 ∷ 0 ∷ nought) ∷ (6 ∷ 3 ∷ 1 ∷ 2 ∷ 14 ∷ 15 ∷ []) ∷ (7 ∷ 1 ∷ 1 ∷ 3 ∷ 1 ∷ nought) ∷ []))
     -- lone vertex to itself by 0C: e⁻ and e in two faces
     ∷ row (answering pierced (0x0C ∷ 2 ∷ 0 ∷ 0 ∷ 0 ∷ 0 ∷ 0 ∷ 0 ∷ [])) (0 ∷ 3 ∷ 2 ∷ 0 ∷ [])
-    ∷ row (filing looped) (5 ∷ 4 ∷ 1 ∷ 0 ∷ nought ++ (2 ∷ 3 ∷ 1 ∷ 1 ∷ 7 ∷ 3 ∷ 1 ∷ 1 ∷ 1 ∷ 0 ∷ 4 ∷ 3 ∷ 1 ∷ 1 ∷ 6 ∷ []))
+    ∷ row (filing looped)
+    (joinedBytes
+    ((5 ∷ 4 ∷ []) ∷ (1 ∷ 0 ∷ nought) ∷ (2 ∷ 3 ∷ 1 ∷ 1 ∷ 7 ∷ []) ∷ (3 ∷ 1 ∷ 1 ∷ 1 ∷ 0 ∷ []) ∷ (4 ∷ 3 ∷ 1 ∷ 1 ∷ 6 ∷ []) ∷ []))
     -- two lone vertices: e e⁻
-    ∷ row (filing bridgedDots) (5 ∷ 4 ∷ 1 ∷ 0 ∷ nought ++ (2 ∷ 0 ∷ nought ++ (3 ∷ 3 ∷ 1 ∷ 2 ∷ 8 ∷ 9 ∷ 4 ∷ 1 ∷ 1 ∷ 2 ∷ 0 ∷ [])))
-    -- two triangular faces meeting at one vertex: unglue makes one vertex, 14, which gets the ends of the second: 9 starts and 11 ends there
+    ∷ row (filing bridgedDots)
+    (joinedBytes
+    ((5 ∷ 4 ∷ []) ∷ (1 ∷ 0 ∷ nought) ∷ (2 ∷ 0 ∷ nought) ∷ (3 ∷ 3 ∷ 1 ∷ 2 ∷ 8 ∷ 9 ∷ []) ∷ (4 ∷ 1 ∷ 1 ∷ 2 ∷ 0 ∷ []) ∷ []))
+    -- two triangular faces meeting at one vertex: unglue makes one vertex, 14; the second face's ends move: 9 starts and 11 ends there
     ∷ row (answering bowtie (0x09 ∷ 1 ∷ [])) (0 ∷ 14 ∷ 1 ∷ 0 ∷ [])
     ∷ row (filing (bowtie ++ (0x09 ∷ 1 ∷ []) ∷ []))
     (joinedBytes
@@ -197,14 +202,19 @@ further =
     ∷ row (answering ringed (0x09 ∷ 1 ∷ [])) (6 ∷ 0 ∷ 0 ∷ 0 ∷ [])
     -- a cut edge's steps: a b, backward b⁻ a⁻
     ∷ row (filing (sliver ++ (0x0A ∷ 3 ∷ 0 ∷ []) ∷ []))
-    (8 ∷ 6 ∷ 1 ∷ 0 ∷ nought ++ (2 ∷ 0 ∷ nought ++ (4 ∷ 3 ∷ 1 ∷ 4 ∷ 12 ∷ 14 ∷ 15 ∷ 13 ∷ 5 ∷ 0 ∷ nought ++ (6 ∷ 1 ∷ 1 ∷ 5 ∷ 0 ∷ 7 ∷ 1 ∷ 5 ∷ 2 ∷ 0 ∷ []))))
+    (joinedBytes
+    ((8 ∷ 6 ∷ []) ∷ (1 ∷ 0 ∷ nought) ∷ (2 ∷ 0 ∷ nought) ∷ (4 ∷ 3 ∷ 1 ∷ 4 ∷ 12 ∷ 14 ∷ 15 ∷ 13 ∷ [])
+    ∷ (5 ∷ 0 ∷ nought) ∷ (6 ∷ 1 ∷ 1 ∷ 5 ∷ 0 ∷ []) ∷ (7 ∷ 1 ∷ 5 ∷ 2 ∷ 0 ∷ []) ∷ []))
     -- a closed edge is unglued cycle by cycle: one cycle alone is refused, of two the later gets the copy
     ∷ row (answering twiceRound (0x09 ∷ 1 ∷ [])) (6 ∷ 0 ∷ 0 ∷ 0 ∷ [])
     ∷ row (filing (twiceRound ++ (0x04 ∷ 1 ∷ 1 ∷ 3 ∷ []) ∷ (0x09 ∷ 1 ∷ []) ∷ []))
-    (5 ∷ 4 ∷ 1 ∷ 2 ∷ 1 ∷ nought ++ (2 ∷ 3 ∷ 1 ∷ 2 ∷ 2 ∷ 2 ∷ 3 ∷ 3 ∷ 1 ∷ 1 ∷ 9 ∷ 4 ∷ 2 ∷ 1 ∷ nought))
+    (joinedBytes
+    ((5 ∷ 4 ∷ []) ∷ (1 ∷ 2 ∷ 1 ∷ nought) ∷ (2 ∷ 3 ∷ 1 ∷ 2 ∷ 2 ∷ 2 ∷ []) ∷ (3 ∷ 3 ∷ 1 ∷ 1 ∷ 9 ∷ []) ∷ (4 ∷ 2 ∷ 1 ∷ nought) ∷ []))
     -- 0C with s1 = s2: P is empty, Q the whole cycle
     ∷ row (filing (ringed ++ (0x0C ∷ 3 ∷ 0 ∷ 0 ∷ 0 ∷ 0 ∷ 0 ∷ 0 ∷ []) ∷ []))
-    (6 ∷ 5 ∷ 1 ∷ 0 ∷ nought ++ (2 ∷ 1 ∷ 1 ∷ 1 ∷ 0 ∷ 3 ∷ 3 ∷ 1 ∷ 1 ∷ 9 ∷ 4 ∷ 1 ∷ 1 ∷ 1 ∷ 0 ∷ 5 ∷ 3 ∷ 1 ∷ 2 ∷ 4 ∷ 8 ∷ []))
+    (joinedBytes
+    ((6 ∷ 5 ∷ []) ∷ (1 ∷ 0 ∷ nought) ∷ (2 ∷ 1 ∷ 1 ∷ 1 ∷ 0 ∷ []) ∷ (3 ∷ 3 ∷ 1 ∷ 1 ∷ 9 ∷ [])
+    ∷ (4 ∷ 1 ∷ 1 ∷ 1 ∷ 0 ∷ []) ∷ (5 ∷ 3 ∷ 1 ∷ 2 ∷ 4 ∷ 8 ∷ []) ∷ []))
     -- uncut in one cycle: nothing left after the backward step is the start, after the forward one the end
     ∷ row (answering sliver (0x0E ∷ 3 ∷ [])) (0 ∷ 0 ∷ 0 ∷ 1 ∷ [])
     ∷ row (filing (sliver ++ (0x0E ∷ 3 ∷ []) ∷ [])) (5 ∷ 3 ∷ 1 ∷ 0 ∷ nought ++ (2 ∷ 0 ∷ nought ++ (4 ∷ 3 ∷ 2 ∷ 0 ∷ 1 ∷ 0 ∷ 2 ∷ [])))
@@ -213,7 +223,9 @@ further =
     ∷ row (filing (looped ++ (0x0E ∷ 3 ∷ []) ∷ [])) (5 ∷ 2 ∷ 1 ∷ 0 ∷ nought ++ (2 ∷ 3 ∷ 1 ∷ 0 ∷ 1 ∷ []))
     -- the middle of −0 and −0 is −0, of −0 and 0 it is 0
     ∷ row (filing ((0x01 ∷ minusNought) ∷ (0x01 ∷ mixedNought) ∷ (0x02 ∷ 1 ∷ 2 ∷ 0 ∷ []) ∷ (0x0A ∷ 3 ∷ 0 ∷ []) ∷ []))
-    (7 ∷ 5 ∷ 1 ∷ 0 ∷ minusNought ++ (2 ∷ 0 ∷ mixedNought ++ (4 ∷ 0 ∷ mixedNought ++ (5 ∷ 1 ∷ 1 ∷ 4 ∷ 0 ∷ 6 ∷ 1 ∷ 4 ∷ 2 ∷ 0 ∷ []))))
+    (joinedBytes
+    ((7 ∷ 5 ∷ []) ∷ (1 ∷ 0 ∷ minusNought) ∷ (2 ∷ 0 ∷ mixedNought) ∷ (4 ∷ 0 ∷ mixedNought)
+    ∷ (5 ∷ 1 ∷ 1 ∷ 4 ∷ 0 ∷ []) ∷ (6 ∷ 1 ∷ 4 ∷ 2 ∷ 0 ∷ []) ∷ []))
     -- a delete takes what rests on its target, and no more
     ∷ row (answering sliver (0x06 ∷ 1 ∷ [])) (0 ∷ 0 ∷ 0 ∷ 3 ∷ [])
     ∷ row (filing (sliver ++ (0x06 ∷ 1 ∷ []) ∷ [])) (5 ∷ 1 ∷ 2 ∷ 0 ∷ nought)

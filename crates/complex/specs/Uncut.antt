@@ -7,8 +7,8 @@ use lib.ListN.{getD, take, drop}
 use lib.Dec.{eqb}
 use Rattle.coordinate.specs.declared.Position.{Position}
 use Rattle.complex.specs.Lists.{any, filter, one}
-use Rattle.complex.specs.Cells.{Halfedge, Cycle, lone, path, Figure, vertex, openEdge, closedEdge, face, LiveCell, Sheet, Look, cellAt}
-use Rattle.complex.specs.Cells.{startOf, endOf, bendsOf, cyclesOf, positionOf, stepsOf, flipped, same, headOf}
+use Rattle.complex.specs.Cells.{Halfedge, Cycle, lone, path, Figure, vertex, openEdge, closedEdge, face, LiveCell, Sheet}
+use Rattle.complex.specs.Cells.{Look, cellAt, startOf, endOf, bendsOf, cyclesOf, positionOf, stepsOf, flipped, same, headOf}
 use Rattle.complex.specs.Edits.{rebuild, others, neither, noneOf, cyclesBecome, cycleReplaced, withoutCycle}
 use Rattle.complex.specs.Edits.{rewired, sameVertex, inPlaceOf}
 use Rattle.complex.specs.Uses.{endsAt, Passage, passagesAt, loneUse, usesBy, Use, usesOf}
@@ -104,8 +104,8 @@ inOne a b n h = cond (eqb b (h .edge)) [] (one (cond (eqb a (h .edge)) (record {
 abbrev pub bendsAlong : Look → Halfedge → List Position
 bendsAlong look h = cond (h .backward) (reverse (bendsOf (look (h .edge)))) (bendsOf (look (h .edge)))
 
--- x and y leave the vertex at p. The edge of both, directed as x's edge: where x is backward, along that edge, by p, along y;
--- else back along y, by p, along that edge
+-- x and y leave the vertex at p. The edge of both, directed as x's edge a: if x is a⁻, along a, by p, along y; else back along y,
+-- by p, along a
 abbrev pub joined : Look → Position → Halfedge → Halfedge → Figure
 joined look p x y =
     let a = look (x .edge) in
@@ -148,7 +148,8 @@ uncutResult s i lonely = rebuild (others i) (withoutLone i) [] s
 uncutResult s i (loop e) =
     rebuild (neither i e) (rewired sameVertex (inPlaceOf e (s .next) false))
     (closedEdge (positionOf (cellAt s i) ∷ bendsOf (cellAt s e)) ∷ []) s
--- a new edge directed as a, with the bends of both in the order passed and the vertex's position between
+-- x an end of a, y of b: a new edge directed as a, with the bends of both in the order passed and the vertex's position between;
+-- steps of a become its steps, steps of b go
 uncutResult s i (joint x y) =
     rebuild (noneOf i (x .edge) (y .edge)) (rewired sameVertex (inOne (x .edge) (y .edge) (s .next)))
     (joined (cellAt s) (positionOf (cellAt s i)) x y ∷ []) s

@@ -3,7 +3,7 @@ ghost use mathlib.Core.Bool.{true, false, cond};
 ghost use Prim.Native.Nat.{_<_, _≤_};
 ghost use lib.Dec.{T};
 ghost use lib.ListN.{getD, set, take, replicate};
-ghost use Rattle.complex.specs.Edits.{neither, rewired, sameVertex, inPlaceOf, reshape, rebuild};
+ghost use Rattle.complex.specs.Edits.{neither, noneOf, rewired, sameVertex, inPlaceOf, reshape, rebuild};
 ghost use Rattle.complex.specs.Uncut.{loop, joint, inOne, uncutCase, uncutResult};
 ghost use Rattle.complex.specs.Lists.{total};
 ghost use Rattle.complex.specs.Uses.{stepUse};
@@ -22,7 +22,7 @@ ghost use Rattle.answer.specs.Late.{sizesBy, lateNo, Small};
 ghost use Rattle.cut.specs.Cuts.{placeOf, noCell, Counted};
 ghost use Rattle.complex.specs.Cells.{openEdge, cellAt, isLive};
 ghost use mathlib.Core.List.{_∷_, []};
-ghost use Rattle.uncut_vertex.specs.Needs.{Pair, Triple, allBut, Looped, Merged, leaving, Sided, runsAround, jointRuns, Joint};
+ghost use Rattle.uncut_vertex.specs.Needs.{Pair, Triple, Looped, Merged, leaving, Sided, runsAround, jointRuns, Joint};
 use answer::Answer;
 use answer::Totals;
 use append::Runs;
@@ -94,7 +94,7 @@ pub fn merge_out(d: Drawing, v: u32, a: usize, x: u32, b: usize, y: u32, c: usiz
     requires { ⌜ x < 2147483648 ⌝ }
     requires { ⌜ y < 2147483648 ⌝ }
     requires { ⌜ allReal (spread cyclesAt (reshape (rewired sameVertex (inOne x y (sheetOf d .next))) (sheetOf d .cells))) ≡ true ⌝ }
-    ensures { λ r. ⌜ sheetOf r ≡ remade (allBut v x y) (rewired sameVertex (inOne x y (sheetOf d .next))) (sheetOf d) ⌝ }
+    ensures { λ r. ⌜ sheetOf r ≡ remade (noneOf v x y) (rewired sameVertex (inOne x y (sheetOf d .next))) (sheetOf d) ⌝ }
     ensures { λ r. ⌜ Fits r ⌝ }
 {
     let next = d.next;
@@ -117,7 +117,7 @@ pub fn join_edges(
     r: Runs,
 ) -> Drawing
     requires { ⌜ Merged d v a x b y c start end r ⌝ }
-    ensures { λ q. ⌜ sheetOf q ≡ rebuild (allBut v x y) (rewired sameVertex (inOne x y (sheetOf d .next))) (openEdge start end (runsOf (d .bends) r) ∷ []) (sheetOf d) ⌝ }
+    ensures { λ q. ⌜ sheetOf q ≡ rebuild (noneOf v x y) (rewired sameVertex (inOne x y (sheetOf d .next))) (openEdge start end (runsOf (d .bends) r) ∷ []) (sheetOf d) ⌝ }
     ensures { λ q. ⌜ Fits q ⌝ }
 {
     let bends = d.bends;
