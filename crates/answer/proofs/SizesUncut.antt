@@ -14,7 +14,7 @@ use Rattle.complex.specs.Lists.{total, one, without}
 use Rattle.complex.specs.Cells.{Halfedge, Cycle, lone, path, Figure, vertex, openEdge, closedEdge, face, Sheet, Look, isOpen, isClosed, isEdge, startOf, endOf, bendsOf, cyclesOf, positionOf, stepsOf, same, headOf, cellAt}
 use Rattle.complex.specs.Sound.{Walk, cycleOk, stepCount, cyclesIn, stepsIn, bendsIn}
 use Rattle.complex.specs.Decode.{uncut}
-use Rattle.complex.specs.Edits.{sameVertex, inPlaceOf, others, both}
+use Rattle.complex.specs.Edits.{sameVertex, inPlaceOf, others, neither}
 use Rattle.complex.specs.Uses.{endsAt, edgeUse, loneUse, usesBy, Use, usesOf}
 use Rattle.complex.specs.Cut.{noCycle, noStep}
 use Rattle.complex.specs.Uncut.{Uncut, lonely, loop, joint, twoFaces, oneCycle, rings, opposite, withoutLone, inOne, bendsAlong, joined, pathOr, cycleOfUse, following, followingTo, uncutCase, uncutResult, uncutAt}
@@ -213,7 +213,7 @@ module _ (s : Sheet) (S : Sound s) (i : ℕ) where
       let o = open-at (cellAt s) (x .edge) (real-ends s S i p at x y e n .0 .0) in
       let t = openEdge (o .0) (o .1) (o .2) in
       let b = ap bendCount (o .3) in
-      rewired-sizes sameVertex (inPlaceOf (x .edge) (s .next) false) noStepMore noStepMore (λ h. refl) s (both i (x .edge)) (vertex p ∷ t ∷ [])
+      rewired-sizes sameVertex (inPlaceOf (x .edge) (s .next) false) noStepMore noStepMore (λ h. refl) s (neither i (x .edge)) (vertex p ∷ t ∷ [])
       (closedEdge (positionOf (cellAt s i) ∷ bendsOf (cellAt s (x .edge))) ∷ []) (loop-gone s S i p at x y e n k z t (o .3)) (uncutChange s i (loop (x .edge))) (omega arith)
   case-sizes c (is-joint p at x y e n k z) =
       let o = open-at (cellAt s) (x .edge) (real-ends s S i p at x y e n .0 .0) in
@@ -224,7 +224,7 @@ module _ (s : Sheet) (S : Sound s) (i : ℕ) where
       let b = ap bendCount (o .3) in
       let b′ = ap bendCount (o′ .3) in
       let d = none-used (s .cells) in
-      rewired-sizes sameVertex (inOne (x .edge) (y .edge) (s .next)) (edgeUse (y .edge)) noStepMore (one-fair (x .edge) (y .edge) (s .next)) s (λ (m : ℕ). others i m && both (x .edge) (y .edge) m) (vertex p ∷ t ∷ t′ ∷ [])
+      rewired-sizes sameVertex (inOne (x .edge) (y .edge) (s .next)) (edgeUse (y .edge)) noStepMore (one-fair (x .edge) (y .edge) (s .next)) s (λ (m : ℕ). others i m && neither (x .edge) (y .edge) m) (vertex p ∷ t ∷ t′ ∷ [])
       (joined (cellAt s) (positionOf (cellAt s i)) x y ∷ []) (joint-gone s S i p at x y e n k z t t′ (o .3) (o′ .3)) (uncutChange s i (joint x y)) (omega arith)
   case-sizes c (is-two a b bs at u w q k n) = two-sizes a b bs at u w q k n
   case-sizes c (is-one a b bs at u w ru rw′ L k ef ec) = one-sizes a b bs at u w ru rw′ L k ef ec

@@ -19,7 +19,8 @@ refusal d n = record { number = n; first = 0; new = 0; removed = 0; drawing = d 
 
 abbrev pub outcome : ℕ → ℕ → Drawing → Answer
 outcome next count out =
-    record { number = 0; first = cond (eqb (out .next - next) 0) 0 next; new = out .next - next; removed = count + (out .next - next) - out .count; drawing = out }
+    let n = out .next - next in
+    record { number = 0; first = cond (eqb n 0) 0 next; new = n; removed = count + n - out .count; drawing = out }
 
 -- the next id did not fall, and no more cells came than ids were issued
 pub record Counts (next count : ℕ) (out : Drawing) : Type 0 where

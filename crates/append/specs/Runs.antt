@@ -19,7 +19,10 @@ run first n l = take n (drop first l)
 
 -- a run, perhaps a position, and another run
 abbrev pub runsOf : List Position → Runs → List Position
-runsOf bs r = turn (r .turned) (run (r .first) (r .count) bs) ++ (cond (r .middle) (one (r .at)) [] ++ turn (r .turned2) (run (r .first2) (r .count2) bs))
+runsOf bs r =
+    turn (r .turned) (run (r .first) (r .count) bs)
+    ++ (cond (r .middle) (one (r .at)) []
+    ++ turn (r .turned2) (run (r .first2) (r .count2) bs))
 
 -- both runs are within the array
 pub record InRange (r : Runs) : Type 0 where

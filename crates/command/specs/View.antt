@@ -10,7 +10,8 @@ use Rattle.complex.specs.Cells.{vertex, openEdge, closedEdge, face}
 use Rattle.complex.specs.Decode as bytes
 use Rattle.command.specs.Lists.{Stand, numbersRead, cyclesRead}
 use Rattle.command.specs.declared.Command.{Command}
-use Rattle.command.specs.declared.Command.the-variants.{Vertex, Open, Closed, Face, Move, Delete, GlueVertices, GlueEdges, Unglue, CutEdge, CutFaceVertex, CutFaceOpen, CutFaceClosed, Uncut}
+use Rattle.command.specs.declared.Command.the-variants.{Vertex, Open, Closed, Face, Move, Delete, GlueVertices, GlueEdges, Unglue}
+use Rattle.command.specs.declared.Command.the-variants.{CutEdge, CutFaceVertex, CutFaceOpen, CutFaceClosed, Uncut}
 use Rattle.command.specs.declared.Decoded.{Decoded}
 use Rattle.command.specs.declared.Decoded.the-variants.{Whole, Malformed}
 

@@ -7,31 +7,30 @@ use mathlib.Core.Bool.{Bool, true, false, not, _&&_, _||_, cond, Bool·beq, true
 use mathlib.Core.List.{List, [], _∷_}
 use mathlib.Core.Option.{Option, none, some}
 use lib.Dec.{T, eqb, leb}
-use borrow.Author.Tests.{eq-eqb, eqb-true, eqb-false}
+use borrow.Author.Tests.{eq-eqb, ne-eqb, eqb-true, eqb-false}
 use Rattle.coordinate.specs.declared.Position.{Position}
-use Rattle.complex.specs.Lists.{any}
-use Rattle.complex.specs.Cells.{Halfedge, Cycle, Figure, vertex, openEdge, closedEdge, face, LiveCell, Sheet, isEdge, flipped, same, cellAt, isVertexOrEdge}
+use Rattle.complex.specs.Cells.{Halfedge, Cycle, Figure, vertex, openEdge, closedEdge, face, LiveCell, Sheet, isEdge, cellAt, isVertexOrEdge}
 use Rattle.complex.specs.Sound.{idsEnd, ceilings, over}
 use Rattle.complex.specs.Decode.{Command, uncut}
-use Rattle.complex.specs.Uses.{endsAt, Passage, passagesAt, loneUse, usesBy, Use, usesOf}
-use Rattle.complex.specs.Uncut.{Uncut, refused, lonely, loop, joint, twoFaces, oneCycle, rings, opposite, uncutVertex, uncutOpen, uncutClosed, uncutFigure, uncutCase, uncutResult, uncutAt, allowed}
+use Rattle.complex.specs.Uses.{endsAt, passagesAt, loneUse, usesBy, Use, usesOf}
+use Rattle.complex.specs.Uncut.{Uncut, refused, lonely, loop, joint, twoFaces, oneCycle, rings, endsOfOneEdge, doublesBack, staysOnEdge, opposite, uncutVertex, uncutOpen, uncutClosed, uncutFigure, uncutCase, uncutResult, uncutAt, allowed}
 use Rattle.complex.specs.Commands.{question4, question6, result}
 use Rattle.complex.proofs.Gains.{gain, loss}
-use Rattle.complex.proofs.Bools.{truth, true-of, both}
+use Rattle.complex.proofs.Bools.{truth, true-of, both, false-not}
 use Rattle.complex.proofs.Keep.{Sound}
 use Rattle.complex.proofs.Adds.{Passes}
 use Rattle.complex.proofs.Euler.{Balanced}
 use Rattle.complex.proofs.UncutFaces.{Placed, listed, real-u, real-w, placed-use, merged-sound, merged-over, rings-sound, rings-over}
 use Rattle.complex.proofs.UncutCycle.{Only, one-cycle-sound, one-cycle-over}
-use Rattle.complex.proofs.UncutVertex.{lonely-sound, lonely-over, loop-sound, loop-over, joint-sound, joint-over}
+use Rattle.complex.proofs.UncutVertex.{ends-of-one, lonely-sound, lonely-over, loop-sound, loop-over, joint-sound, joint-over}
 
 -- ---- what holds in each case that is not refused
 pub data Holds (s : Sheet) (i : ℕ) : Uncut → Type 0 where
   is-lonely : (p : Position) → cellAt s i ≡ some (vertex p) → endsAt (s .cells) i ≡ [] → usesBy (loneUse i) (s .cells) ≡ 1 → Holds s i lonely
   is-loop : (p : Position) → cellAt s i ≡ some (vertex p) → (x y : Halfedge) → endsAt (s .cells) i ≡ x ∷ y ∷ [] → usesBy (loneUse i) (s .cells) ≡ 0
-      → T (same (flipped x) y) → any (λ (t : Passage). same (t .arrives) (t .leaves)) (passagesAt (s .cells) i) ≡ false → Holds s i (loop (x .edge))
+      → T (endsOfOneEdge x y) → doublesBack (passagesAt (s .cells) i) ≡ false → Holds s i (loop (x .edge))
   is-joint : (p : Position) → cellAt s i ≡ some (vertex p) → (x y : Halfedge) → endsAt (s .cells) i ≡ x ∷ y ∷ [] → usesBy (loneUse i) (s .cells) ≡ 0
-      → eqb (x .edge) (y .edge) ≡ false → any (λ (t : Passage). eqb (t .arrives .edge) (t .leaves .edge)) (passagesAt (s .cells) i) ≡ false → Holds s i (joint x y)
+      → eqb (x .edge) (y .edge) ≡ false → staysOnEdge (passagesAt (s .cells) i) ≡ false → Holds s i (joint x y)
   is-two : (a b : ℕ) (bs : List Position) → cellAt s i ≡ some (openEdge a b bs) → (u w : Use) → usesOf (s .cells) i ≡ u ∷ w ∷ [] → T (opposite u w) → (u .face ≡ w .face → ⊥) → Holds s i (twoFaces u w)
   is-one : (a b : ℕ) (bs : List Position) → cellAt s i ≡ some (openEdge a b bs) → (u w : Use) → Placed (cellAt s) i u → Placed (cellAt s) i w → Only s i u w
       → T (opposite u w) → u .face ≡ w .face → u .cycle ≡ w .cycle → Holds s i (oneCycle u w)
@@ -56,17 +55,18 @@ module _ (s : Sheet) (S : Sound s) (i : ℕ) where
       go false z t = absurd t
   holds-vertex p at (x ∷ []) q t = absurd t
   holds-vertex p at (x ∷ y ∷ []) q t =
-      go (eqb (usesBy (loneUse i) (s .cells)) 0) (same (flipped x) y) (any (λ (h : Passage). same (h .arrives) (h .leaves)) (passagesAt (s .cells) i)) (eqb (x .edge) (y .edge)) (any (λ (h : Passage). eqb (h .arrives .edge) (h .leaves .edge)) (passagesAt (s .cells) i)) refl refl refl refl refl t
+      go (eqb (usesBy (loneUse i) (s .cells)) 0) (endsOfOneEdge x y) (doublesBack (passagesAt (s .cells) i)) (staysOnEdge (passagesAt (s .cells) i)) refl refl refl refl t
     where
-      go : (a b c d e : Bool) → eqb (usesBy (loneUse i) (s .cells)) 0 ≡ a → same (flipped x) y ≡ b → any (λ (h : Passage). same (h .arrives) (h .leaves)) (passagesAt (s .cells) i) ≡ c → eqb (x .edge) (y .edge) ≡ d
-          → any (λ (h : Passage). eqb (h .arrives .edge) (h .leaves .edge)) (passagesAt (s .cells) i) ≡ e
-          → T (allowed (cond (not a) refused (cond b (cond c refused (loop (x .edge))) (cond (d || e) refused (joint x y))))) → Holds s i (cond (not a) refused (cond b (cond c refused (loop (x .edge))) (cond (d || e) refused (joint x y))))
-      go false b c d e z₀ z₁ z₂ z₃ z₄ t = absurd t
-      go true true true d e z₀ z₁ z₂ z₃ z₄ t = absurd t
-      go true true false d e z₀ z₁ z₂ z₃ z₄ t = is-loop p at x y q (eqb-true (usesBy (loneUse i) (s .cells)) 0 z₀) (truth z₁) z₂
-      go true false c true e z₀ z₁ z₂ z₃ z₄ t = absurd t
-      go true false c false true z₀ z₁ z₂ z₃ z₄ t = absurd t
-      go true false c false false z₀ z₁ z₂ z₃ z₄ t = is-joint p at x y q (eqb-true (usesBy (loneUse i) (s .cells)) 0 z₀) z₃ z₄
+      distinct : endsOfOneEdge x y ≡ false → eqb (x .edge) (y .edge) ≡ false
+      distinct z = ne-eqb (x .edge) (y .edge) (λ e. false-not z (ends-of-one 0 (s .cells) (s .next) i x y (S .rises) q e))
+
+      go : (a b c d : Bool) → eqb (usesBy (loneUse i) (s .cells)) 0 ≡ a → endsOfOneEdge x y ≡ b → doublesBack (passagesAt (s .cells) i) ≡ c → staysOnEdge (passagesAt (s .cells) i) ≡ d
+          → T (allowed (cond (not a) refused (cond b (cond c refused (loop (x .edge))) (cond d refused (joint x y))))) → Holds s i (cond (not a) refused (cond b (cond c refused (loop (x .edge))) (cond d refused (joint x y))))
+      go false b c d z₀ z₁ z₂ z₃ t = absurd t
+      go true true true d z₀ z₁ z₂ z₃ t = absurd t
+      go true true false d z₀ z₁ z₂ z₃ t = is-loop p at x y q (eqb-true (usesBy (loneUse i) (s .cells)) 0 z₀) (truth z₁) z₂
+      go true false c true z₀ z₁ z₂ z₃ t = absurd t
+      go true false c false z₀ z₁ z₂ z₃ t = is-joint p at x y q (eqb-true (usesBy (loneUse i) (s .cells)) 0 z₀) (distinct z₁) z₃
   holds-vertex p at (x ∷ y ∷ z ∷ zs) q t = absurd t
 
   holds-open : (a b : ℕ) (bs : List Position) → cellAt s i ≡ some (openEdge a b bs) → (us : List Use) → usesOf (s .cells) i ≡ us → T (allowed (uncutOpen us)) → Holds s i (uncutOpen us)

@@ -14,7 +14,7 @@ use Rattle.coordinate.specs.Bounds.{within}
 use Rattle.complex.specs.Lists.{all, places, one, without}
 use Rattle.complex.specs.Cells.{Halfedge, Cycle, lone, path, Figure, vertex, openEdge, closedEdge, face, Sheet, Look, lookup, isVertex, isOpen, isClosed, isEdge, isFace, startOf, endOf, cyclesOf, stepsOf, same, tailOf, headOf, flipped, cellAt}
 use Rattle.complex.specs.Sound.{Walk, idsEnd, cycleOk, figureOk, ceilings, joins, over}
-use Rattle.complex.specs.Edits.{keepIds, reshape, rebuild, replaced, others, both}
+use Rattle.complex.specs.Edits.{keepIds, reshape, rebuild, replaced, others, neither}
 use Rattle.complex.specs.Uses.{Use, usesOf}
 use Rattle.complex.specs.Cut.{noCycle, noStep}
 use Rattle.complex.specs.Uncut.{opposite, pathOr, cycleOfUse, following}
@@ -209,7 +209,7 @@ module _ (s : Sheet) (S : Sound s) (e : ℕ) (u w : Use) (U : usesOf (s .cells) 
   ks2 = cyclesOf (cellAt s (w .face))
 
   abbrev p₂ : ℕ → Bool
-  p₂ = both e (w .face)
+  p₂ = neither e (w .face)
 
   keeps₂ : (x : ℕ) → (x ≡ e → ⊥) → (T (isVertex (cellAt s x)) ⊎ T (isEdge (cellAt s x))) → T (p₂ x)
   keeps₂ x n k = pair (others e x) (others (w .face) x) (rw (ne-eqb e x (λ z. n (sym z))) tt) (rw (ne-eqb (w .face) x (λ z. no-face s S e E p₂′ (w .face) ks2 (rw′ .0) ks2 (λ y a b. tt) x k z)) tt)

@@ -6,18 +6,18 @@ use mathlib.Core.Logic.{_⊎_, inl, inr}
 use mathlib.Core.Bool.{Bool, true, false, not, _&&_, _||_, cond, Bool·beq, true≢false, false≢true}
 use mathlib.Core.List.{List, [], _∷_, _++_, map, reverse, reverseAux}
 use mathlib.Core.Option.{Option, none, some}
-use lib.ListN.{length, getD}
-use lib.Dec.{T, eqb, ltb, leb, eqb→eq, eqb-refl}
+use lib.ListN.{length, getD, drop}
+use lib.Dec.{T, eqb, ltb, leb, eqb→eq, eqb-refl, ltb→lt}
 use borrow.Author.Tests.{eq-eqb, ne-eqb, eqb-true, eqb-false}
 use Rattle.number.specs.Readers.{spread}
 use Rattle.coordinate.specs.declared.Position.{Position}
 use Rattle.coordinate.specs.Bounds.{within}
-use Rattle.complex.specs.Lists.{all, any, filter, consIf, total, one, isEmpty}
+use Rattle.complex.specs.Lists.{all, any, filter, consIf, total, one, isEmpty, rising}
 use Rattle.complex.specs.Cells.{Halfedge, Cycle, lone, path, Figure, vertex, openEdge, closedEdge, face, LiveCell, Sheet, Look, someIf, lookup, ids, isVertex, isOpen, isClosed, isEdge, startOf, endOf, bendsOf, cyclesOf, positionOf, stepsOf, along, against, flipped, same, tailOf, headOf, cellAt}
 use Rattle.complex.specs.Sound.{Walk, idsEnd, cycleOk, figureOk, ceilings, joins, stepCount, over}
-use Rattle.complex.specs.Edits.{keepIds, numbered, rebuild, rewired, rewiredCycle, sameVertex, others, both, inPlaceOf}
+use Rattle.complex.specs.Edits.{keepIds, numbered, rebuild, rewired, rewiredCycle, sameVertex, others, neither, inPlaceOf}
 use Rattle.complex.specs.Uses.{figureEnds, endsAt, Passage, passage, passagesFrom, passages, allCycles, passagesAt, isIn, loneUse, usesBy}
-use Rattle.complex.specs.Uncut.{isLone, withoutLone, inOne, bendsAlong, joined}
+use Rattle.complex.specs.Uncut.{endsOfOneEdge, isLone, withoutLone, inOne, bendsAlong, joined}
 use Rattle.complex.proofs.Gains.{gain, loss}
 use Rattle.complex.proofs.Bools.{truth, true-of, either, pair, cases, or-left, or-right, equal, all-map, all-append}
 use Rattle.complex.proofs.Bools.{both as parts}
@@ -54,6 +54,59 @@ ends-real look v (c ∷ cs) h = every-both (λ (x : Halfedge). T (isOpen (look (
         first false z r = r
     go (closedEdge bs) q = tt
     go (face ks) q = tt
+
+-- they are of edges above lo
+ends-above : (lo : ℕ) (cs : List LiveCell) (hi v : ℕ) → T (rising lo (ids cs) hi) → Every (λ (h : Halfedge). lo < h .edge) (endsAt cs v)
+ends-above lo [] hi v t = tt
+ends-above lo (c ∷ cs) hi v t =
+    let b = parts (ltb lo (c .id)) (rising (c .id) (ids cs) hi) t in
+    let l = ltb→lt lo (c .id) (b .0) in
+    every-both (λ (h : Halfedge). lo < h .edge) (figureEnds v (c .id) (c .figure)) (endsAt cs v) (own (c .figure) l)
+    (every-more (λ (h : Halfedge). c .id < h .edge) (λ (h : Halfedge). lo < h .edge) (λ h m. omega arith) (endsAt cs v) (ends-above (c .id) cs hi v (b .1)))
+  where
+    own : (t : Figure) → lo < c .id → Every (λ (h : Halfedge). lo < h .edge) (figureEnds v (c .id) t)
+    own (vertex p) l = tt
+    own (openEdge a b bs) l = go (eqb a v) (eqb b v)
+      where
+        go : (y z : Bool) → Every (λ (h : Halfedge). lo < h .edge) (consIf y (along (c .id)) (consIf z (against (c .id)) []))
+        go true true = (l, (l, tt))
+        go true false = (l, tt)
+        go false true = (l, tt)
+        go false false = tt
+    own (closedEdge bs) l = tt
+    own (face ks) l = tt
+
+-- two ends of a vertex that are of one edge are that edge's two ends
+pub ends-of-one : (lo : ℕ) (cs : List LiveCell) (hi v : ℕ) (x y : Halfedge) → T (rising lo (ids cs) hi) → endsAt cs v ≡ x ∷ y ∷ [] → x .edge ≡ y .edge → T (endsOfOneEdge x y)
+ends-of-one lo [] hi v x y t e q = absurd (let z : _≡_ {A = ℕ} 0 2 = ap length e in omega arith)
+ends-of-one lo (c ∷ cs) hi v x y t e q =
+    let b = parts (ltb lo (c .id)) (rising (c .id) (ids cs) hi) t in
+    go (ends-above (c .id) cs hi v (b .1)) (λ e. ends-of-one (c .id) cs hi v x y (b .1) e q) (c .figure) e
+  where
+    -- after one end of c the next is of a later edge
+    later : Every (λ (k : Halfedge). c .id < k .edge) (endsAt cs v) → (h : Halfedge) → h .edge ≡ c .id → h ∷ endsAt cs v ≡ x ∷ y ∷ [] → ⊥
+    later r h i e =
+        let z : h ≡ x = cc in
+        let w = ap (λ (k : Halfedge). k .edge) z in
+        let m = subst (Every (λ (k : Halfedge). c .id < k .edge)) (ap (drop 1) e) r .0 in
+        omega arith
+
+    two : Every (λ (k : Halfedge). c .id < k .edge) (endsAt cs v) → (endsAt cs v ≡ x ∷ y ∷ [] → T (endsOfOneEdge x y))
+        → (m n : Bool) → consIf m (along (c .id)) (consIf n (against (c .id)) []) ++ endsAt cs v ≡ x ∷ y ∷ [] → T (endsOfOneEdge x y)
+    two r rec true true e =
+        let z : along (c .id) ≡ x = cc in
+        let w : against (c .id) ≡ y = cc in
+        subst (λ (h : Halfedge). T (endsOfOneEdge h y)) z (subst (λ (h : Halfedge). T (endsOfOneEdge (along (c .id)) h)) w (same-refl (against (c .id))))
+    two r rec true false e = absurd (later r (along (c .id)) refl e)
+    two r rec false true e = absurd (later r (against (c .id)) refl e)
+    two r rec false false e = rec e
+
+    go : Every (λ (k : Halfedge). c .id < k .edge) (endsAt cs v) → (endsAt cs v ≡ x ∷ y ∷ [] → T (endsOfOneEdge x y))
+        → (t : Figure) → figureEnds v (c .id) t ++ endsAt cs v ≡ x ∷ y ∷ [] → T (endsOfOneEdge x y)
+    go r rec (vertex p) e = rec e
+    go r rec (openEdge a b bs) e = two r rec (eqb a v) (eqb b v) e
+    go r rec (closedEdge bs) e = rec e
+    go r rec (face ks) e = rec e
 
 pub end-listed : (s : Sheet) (v : ℕ) (h : Halfedge) → T (isOpen (cellAt s (h .edge))) → tailOf (cellAt s) h ≡ v → T (isIn (endsAt (s .cells) v) h)
 end-listed s v h o q =
@@ -292,7 +345,7 @@ module _ (s : Sheet) (S : Sound s) (v : ℕ) (p : Position) (at : cellAt s v ≡
     ye = ap (λ (h : Halfedge). h .edge) y-is
 
     abbrev keepˡ : ℕ → Bool
-    keepˡ = both v eˡ
+    keepˡ = neither v eˡ
 
     abbrev σˡ : Halfedge → List Halfedge
     σˡ = inPlaceOf eˡ (s .next) false
@@ -447,7 +500,7 @@ module _ (s : Sheet) (S : Sound s) (v : ℕ) (p : Position) (at : cellAt s v ≡
     far = headOf (cellAt s) y
 
     abbrev keepʲ : ℕ → Bool
-    keepʲ j = others v j && both a b j
+    keepʲ j = others v j && neither a b j
 
     abbrev σʲ : Halfedge → List Halfedge
     σʲ = inOne a b (s .next)
@@ -463,11 +516,11 @@ module _ (s : Sheet) (S : Sound s) (v : ℕ) (p : Position) (at : cellAt s v ≡
 
     goneʲ : (j : ℕ) → T (keepʲ j) → (j ≡ x .edge → ⊥) × (j ≡ y .edge → ⊥)
     goneʲ j k =
-        let m = parts (others a j) (others b j) (parts (others v j) (both a b j) k .1) in
+        let m = parts (others a j) (others b j) (parts (others v j) (neither a b j) k .1) in
         ((λ z. lib.Dec.T-not (eqb a j) (m .0) (equal (sym z))), (λ z. lib.Dec.T-not (eqb b j) (m .1) (equal (sym z))))
 
     keptʲ : (j : ℕ) → (j ≡ v → ⊥) → (j ≡ x .edge → ⊥) → (j ≡ y .edge → ⊥) → T (keepʲ j)
-    keptʲ j m n o = pair (others v j) (both a b j) (rw (ne-eqb v j (λ z. m (sym z))) tt) (pair (others a j) (others b j) (rw (ne-eqb a j (λ z. n (sym z))) tt) (rw (ne-eqb b j (λ z. o (sym z))) tt))
+    keptʲ j m n o = pair (others v j) (neither a b j) (rw (ne-eqb v j (λ z. m (sym z))) tt) (pair (others a j) (others b j) (rw (ne-eqb a j (λ z. n (sym z))) tt) (rw (ne-eqb b j (λ z. o (sym z))) tt))
 
     abbrev lookʲ : Look
     lookʲ = look² keepʲ σʲ tʲ Qʲ goneʲ keptʲ
@@ -681,9 +734,9 @@ module _ (s : Sheet) (S : Sound s) (v : ℕ) (p : Position) (at : cellAt s v ≡
     joint-gone ta tb ka kb =
         let va : a ≡ v → ⊥ = edge-not-v² keepʲ σʲ tʲ Qʲ goneʲ keptʲ a (or-left (isOpen (cellAt s a)) (isClosed (cellAt s a)) (real-ends .0 .0)) in
         let vb : b ≡ v → ⊥ = edge-not-v² keepʲ σʲ tʲ Qʲ goneʲ keptʲ b (or-left (isOpen (cellAt s b)) (isClosed (cellAt s b)) (real-ends .1 .0 .0)) in
-        let nv : T (both a b v) = pair (others a v) (others b v) (rw (ne-eqb a v va) tt) (rw (ne-eqb b v vb) tt) in
+        let nv : T (neither a b v) = pair (others a v) (others b v) (rw (ne-eqb a v va) tt) (rw (ne-eqb b v vb) tt) in
         let na : T (others b a) = rw (ne-eqb b a (λ z. apart-ab (sym z))) tt in
-        without-more v (vertex p) (both a b) (ta ∷ tb ∷ []) s S at nv (without-more a ta (others b) (one tb) s S ka na (without-one b tb s S kb))
+        without-more v (vertex p) (neither a b) (ta ∷ tb ∷ []) s S at nv (without-more a ta (others b) (one tb) s S ka na (without-one b tb s S kb))
 
     pub joint-over : over gain (rebuild keepʲ (rewired sameVertex σʲ) (tʲ ∷ []) s .cells) + over loss (s .cells) ≡ over gain (s .cells) + over loss (rebuild keepʲ (rewired sameVertex σʲ) (tʲ ∷ []) s .cells)
     joint-over =

@@ -31,7 +31,8 @@ filled xs buffer =
 -- star asks 1, 4, 9
 unfoldable pub starCall : Sheet → ℕ → List ℕ → Filled
 unfolding sound
-starCall s i buffer = cond (sound s) (cond (isLive (cellAt s i)) (filled (star (s .cells) i) buffer) (unfilled 4 buffer)) (unfilled 1 buffer)
+starCall s i buffer =
+    cond (sound s) (cond (isLive (cellAt s i)) (filled (star (s .cells) i) buffer) (unfilled 4 buffer)) (unfilled 1 buffer)
 
 -- write asks 1, 9
 unfoldable pub writeCall : Sheet → List ℕ → Filled

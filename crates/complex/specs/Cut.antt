@@ -3,13 +3,14 @@ use Prim.Native.Nat.{ℕ, zero, suc, _+_, _-_, _*_, _/_, _%_}
 use mathlib.Core.Bool.{Bool, true, false, not, _&&_, _||_, cond}
 use mathlib.Core.List.{List, [], _∷_, _++_}
 use mathlib.Core.Option.{Option, none, some}
-use lib.ListN.{length, getD, take, drop, set}
+use lib.ListN.{length, getD, take, drop}
 use lib.Dec.{eqb, ltb, leb}
 use Rattle.coordinate.specs.declared.Position.{Position}
 use Rattle.coordinate.specs.Bounds.{middle}
 use Rattle.complex.specs.Lists.{isEmpty, holds, places, one, rotated, without, chosen, distance}
-use Rattle.complex.specs.Cells.{Halfedge, Cycle, lone, path, Figure, vertex, openEdge, closedEdge, face, Sheet, origin, Look, cellAt, isOpen, isClosed, bendsOf, cyclesOf, positionOf, stepsOf, along, against, tailOf}
-use Rattle.complex.specs.Edits.{rebuild, everyId, others, replaced, rewired, sameVertex, inPlaceOf}
+use Rattle.complex.specs.Cells.{Halfedge, Cycle, lone, path, Figure, vertex, openEdge, closedEdge, face, Sheet, origin, Look, cellAt}
+use Rattle.complex.specs.Cells.{isOpen, isClosed, bendsOf, cyclesOf, positionOf, stepsOf, along, against, tailOf}
+use Rattle.complex.specs.Edits.{rebuild, everyId, others, cyclesBecome, cycleReplaced, withoutCycle, rewired, sameVertex, inPlaceOf}
 
 -- ---- 0A
 -- the points that an edge passes; segment i leaves point i
@@ -61,7 +62,7 @@ edgeCut s e q = cutFigure s e q (cellAt s e)
 
 -- ---- 0B: the new vertex's lone cycle goes last
 unfoldable pub faceCutAt : Sheet → ℕ → Position → Sheet
-faceCutAt s f p = rebuild everyId (replaced f (face (cyclesOf (cellAt s f) ++ one (lone (s .next))))) (vertex p ∷ []) s
+faceCutAt s f p = rebuild everyId (cyclesBecome f (cyclesOf (cellAt s f) ++ one (lone (s .next)))) (vertex p ∷ []) s
 
 -- ---- 0C
 abbrev pub noCycle : Cycle
@@ -75,44 +76,54 @@ abbrev pub corner : Look → Cycle → ℕ → ℕ
 corner look (lone v) n = v
 corner look (path hs) n = tailOf look (getD hs n noStep)
 
--- the steps from corner s on to before corner t, and those from t on to before s. Where s = t the second is the whole cycle
+-- P: the steps from s to before t, round the end; empty if s = t
 abbrev pub stretch : ℕ → ℕ → List Halfedge → List Halfedge
 stretch s t hs = take (distance (length hs) s t) (rotated s hs)
 
+-- Q: the steps from t to before s, round the end; the whole cycle if s = t
 abbrev pub remainder : ℕ → ℕ → List Halfedge → List Halfedge
 remainder s t hs = drop (distance (length hs) s t) (rotated s hs)
 
--- one cycle: P e⁻ takes its place, Q e and the moved cycles go to a new face
+-- the moved cycles, and the others
+abbrev pub movedCycles : List ℕ → List Cycle → List Cycle
+movedCycles ms ks = chosen noCycle ms ks
+
+abbrev pub stayingCycles : List ℕ → List Cycle → List Cycle
+stayingCycles ms ks = without ms 0 ks
+
+-- c1 = c2: P e⁻ takes the cycle's place; a new face gets Q e and then the moved cycles
 abbrev pub splitInTwo : Sheet → ℕ → ℕ → ℕ → ℕ → List Position → List ℕ → List Cycle → Sheet
 splitInTwo s f c s1 s2 bs ms ks =
     let k = getD ks c noCycle in
     let e = s .next in
-    rebuild everyId
-    (replaced f (face (without ms 0 (set ks c (path (stretch s1 s2 (stepsOf k) ++ one (against e)))))))
-    (openEdge (corner (cellAt s) k s1) (corner (cellAt s) k s2) bs ∷ face (path (remainder s1 s2 (stepsOf k) ++ one (along e)) ∷ chosen noCycle ms ks) ∷ []) s
+    let P = stretch s1 s2 (stepsOf k) in
+    let Q = remainder s1 s2 (stepsOf k) in
+    rebuild everyId (cyclesBecome f (stayingCycles ms (cycleReplaced c (path (P ++ one (against e))) ks)))
+    (openEdge (corner (cellAt s) k s1) (corner (cellAt s) k s2) bs
+    ∷ face (path (Q ++ one (along e)) ∷ movedCycles ms ks) ∷ []) s
 
--- two cycles: c1 from s1, e, c2 from s2, e⁻
+-- otherwise: cycle c1 from s1, e, cycle c2 from s2, e⁻ take c1's place, c2 goes
 abbrev pub bridged : Sheet → ℕ → ℕ → ℕ → ℕ → ℕ → List Position → List Cycle → Sheet
 bridged s f c1 s1 c2 s2 bs ks =
     let k1 = getD ks c1 noCycle in
     let k2 = getD ks c2 noCycle in
     let e = s .next in
-    rebuild everyId
-    (replaced f (face (without (one c2) 0 (set ks c1 (path (rotated s1 (stepsOf k1) ++ (along e ∷ rotated s2 (stepsOf k2) ++ one (against e))))))))
+    let k = path (rotated s1 (stepsOf k1) ++ (along e ∷ rotated s2 (stepsOf k2) ++ one (against e))) in
+    rebuild everyId (cyclesBecome f (withoutCycle c2 (cycleReplaced c1 k ks)))
     (openEdge (corner (cellAt s) k1 s1) (corner (cellAt s) k2 s2) bs ∷ []) s
 
 unfoldable pub faceCutAlong : Sheet → ℕ → ℕ → ℕ → ℕ → ℕ → List Position → List ℕ → Sheet
 faceCutAlong s f c1 s1 c2 s2 bs ms =
-    cond (eqb c1 c2) (splitInTwo s f c1 s1 s2 bs ms (cyclesOf (cellAt s f))) (bridged s f c1 s1 c2 s2 bs (cyclesOf (cellAt s f)))
+    let ks = cyclesOf (cellAt s f) in
+    cond (eqb c1 c2) (splitInTwo s f c1 s1 s2 bs ms ks) (bridged s f c1 s1 c2 s2 bs ks)
 
--- ---- 0D: e goes last, a new face gets e⁻ and the moved cycles
+-- ---- 0D: e, forward, goes last; a new face gets e⁻ and the moved cycles
 unfoldable pub faceCutRound : Sheet → ℕ → List Position → List ℕ → Sheet
 faceCutRound s f bs ms =
     let ks = cyclesOf (cellAt s f) in
     let e = s .next in
-    rebuild everyId
-    (replaced f (face (without ms 0 ks ++ one (path (one (along e))))))
-    (closedEdge bs ∷ face (path (one (against e)) ∷ chosen noCycle ms ks) ∷ []) s
+    rebuild everyId (cyclesBecome f (stayingCycles ms ks ++ one (path (one (along e)))))
+    (closedEdge bs ∷ face (path (one (against e)) ∷ movedCycles ms ks) ∷ []) s
 
 -- ---- what exists to be cut, as question 5 asks
 -- a bend, or a segment: an open edge has one more than it has bends

@@ -13,17 +13,17 @@ use Rattle.complex.specs.Cells.{Halfedge, Cycle, lone, path, Figure, ver
 
 -- the fourteen kinds, with their fields in the order of the bytes; kinds 01 to 04 create a cell
 pub data Command : Type 0 where
-  create : Figure → Command
-  move : ℕ → Position → Command
-  delete : ℕ → Command
-  glueVertices : ℕ → ℕ → Command
-  glueEdges : ℕ → ℕ → ℕ → Command
-  unglue : ℕ → Command
-  cutEdge : ℕ → ℕ → Command
-  cutFaceVertex : ℕ → Position → Command
-  cutFaceOpen : ℕ → ℕ → ℕ → ℕ → ℕ → List Position → List ℕ → Command
-  cutFaceClosed : ℕ → List Position → List ℕ → Command
-  uncut : ℕ → Command
+  create : Figure → Command  -- 01 to 04
+  move : ℕ → Position → Command  -- 05
+  delete : ℕ → Command  -- 06
+  glueVertices : ℕ → ℕ → Command  -- 07
+  glueEdges : ℕ → ℕ → ℕ → Command  -- 08
+  unglue : ℕ → Command  -- 09
+  cutEdge : ℕ → ℕ → Command  -- 0A
+  cutFaceVertex : ℕ → Position → Command  -- 0B
+  cutFaceOpen : ℕ → ℕ → ℕ → ℕ → ℕ → List Position → List ℕ → Command  -- 0C
+  cutFaceClosed : ℕ → List Position → List ℕ → Command  -- 0D
+  uncut : ℕ → Command  -- 0E
 
 -- ---- steps and cycles
 -- 2 × id, plus 1 if backward
@@ -90,35 +90,38 @@ readGlueEdges s = andThen (readNumber s) λ a t. andThen (readNumber t) λ b u. 
 -- 0C: face, cycle c1, step s1, c2, s2, bend list, list of moved cycles
 abbrev pub readCutFaceOpen : List ℕ → Read Command
 readCutFaceOpen s =
-    andThen (readNumber s) λ f t. andThen (readNumber t) λ c1 t1. andThen (readNumber t1) λ s1 t2. andThen (readNumber t2) λ c2 t3. andThen (readNumber t3) λ s2 t4.
+    andThen (readNumber s) λ f t.
+    andThen (readNumber t) λ c1 t1. andThen (readNumber t1) λ s1 t2.
+    andThen (readNumber t2) λ c2 t3. andThen (readNumber t3) λ s2 t4.
     andThen (readBends t4) λ bs t5. andThen (counted readNumber t5) λ ms t6. got (cutFaceOpen f c1 s1 c2 s2 bs ms) t6
 
 -- 0D: face, bend list, moved cycles
 abbrev pub readCutFaceClosed : List ℕ → Read Command
-readCutFaceClosed s = andThen (readNumber s) λ f t. andThen (readBends t) λ bs u. andThen (counted readNumber u) λ ms v. got (cutFaceClosed f bs ms) v
+readCutFaceClosed s =
+    andThen (readNumber s) λ f t. andThen (readBends t) λ bs u. andThen (counted readNumber u) λ ms v. got (cutFaceClosed f bs ms) v
 
 -- ---- a kind byte, then its fields
 abbrev pub unreadable : List ℕ → Read Command
 unreadable s = bad
 
--- from 00 on
+-- the reader of each kind byte, from 00 on
 abbrev pub kinds : List (List ℕ → Read Command)
 kinds =
-    unreadable
-    ∷ readCreate readVertex
-    ∷ readCreate readOpenEdge
-    ∷ readCreate readClosedEdge
-    ∷ readCreate readFace
-    ∷ readPlace move
-    ∷ readCellOnly delete
-    ∷ readTwo glueVertices
-    ∷ readGlueEdges
-    ∷ readCellOnly unglue
-    ∷ readTwo cutEdge
-    ∷ readPlace cutFaceVertex
-    ∷ readCutFaceOpen
-    ∷ readCutFaceClosed
-    ∷ readCellOnly uncut
+    unreadable  -- 00
+    ∷ readCreate readVertex  -- 01
+    ∷ readCreate readOpenEdge  -- 02
+    ∷ readCreate readClosedEdge  -- 03
+    ∷ readCreate readFace  -- 04
+    ∷ readPlace move  -- 05
+    ∷ readCellOnly delete  -- 06
+    ∷ readTwo glueVertices  -- 07
+    ∷ readGlueEdges  -- 08
+    ∷ readCellOnly unglue  -- 09
+    ∷ readTwo cutEdge  -- 0A
+    ∷ readPlace cutFaceVertex  -- 0B
+    ∷ readCutFaceOpen  -- 0C
+    ∷ readCutFaceClosed  -- 0D
+    ∷ readCellOnly uncut  -- 0E
     ∷ []
 
 unfoldable pub decode : List ℕ → Read Command

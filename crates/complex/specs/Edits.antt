@@ -2,10 +2,10 @@
 use Prim.Native.Nat.{ℕ, zero, suc, _+_}
 use mathlib.Core.Bool.{Bool, true, false, not, _&&_, cond}
 use mathlib.Core.List.{List, [], _∷_, _++_, map}
-use lib.ListN.{length}
+use lib.ListN.{length, set}
 use lib.Dec.{eqb}
 use Rattle.number.specs.Readers.{spread}
-use Rattle.complex.specs.Lists.{filter, one}
+use Rattle.complex.specs.Lists.{filter, one, without}
 use Rattle.complex.specs.Cells.{Halfedge, Cycle, lone, path, Figure, vertex, openEdge, closedEdge, face, LiveCell, Sheet}
 
 -- the cells whose ids p keeps
@@ -29,11 +29,17 @@ rebuild p f new s = record { next = s .next + length new; cells = reshape f (kee
 abbrev pub everyId : ℕ → Bool
 everyId i = true
 
+-- all but i
 abbrev pub others : ℕ → ℕ → Bool
-others i j = not (eqb i j)
+others i n = not (eqb i n)
 
-abbrev pub both : ℕ → ℕ → ℕ → Bool
-both i j k = others i k && others j k
+-- all but i and j
+abbrev pub neither : ℕ → ℕ → ℕ → Bool
+neither i j n = others i n && others j n
+
+-- all but i, j and k
+abbrev pub noneOf : ℕ → ℕ → ℕ → ℕ → Bool
+noneOf i j k n = others i n && neither j k n
 
 -- ---- how cells change
 abbrev pub asItIs : ℕ → Figure → Figure
@@ -42,6 +48,18 @@ asItIs i x = x
 -- the cell i becomes y
 abbrev pub replaced : ℕ → Figure → ℕ → Figure → Figure
 replaced i y j x = cond (eqb i j) y x
+
+-- the face f gets the cycles ks
+abbrev pub cyclesBecome : ℕ → List Cycle → ℕ → Figure → Figure
+cyclesBecome f ks = replaced f (face ks)
+
+-- cycle n becomes k
+abbrev pub cycleReplaced : ℕ → Cycle → List Cycle → List Cycle
+cycleReplaced n k ks = set ks n k
+
+-- cycle n goes
+abbrev pub withoutCycle : ℕ → List Cycle → List Cycle
+withoutCycle n ks = without (one n) 0 ks
 
 -- every use of a vertex by r, every step by σ
 abbrev pub rewiredCycle : (ℕ → ℕ) → (Halfedge → List Halfedge) → Cycle → Cycle

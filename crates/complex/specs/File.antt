@@ -35,7 +35,9 @@ abbrev pub figureReaders : List (List ℕ → Read Figure)
 figureReaders = readVertex ∷ readOpenEdge ∷ readClosedEdge ∷ readFace ∷ []
 
 abbrev pub readCell : List ℕ → Read LiveCell
-readCell s = andThen (readNumber s) λ i t. andThen (readNumber t) λ k u. andThen (getD figureReaders k noFigure u) λ x v. got (record { id = i; figure = x }) v
+readCell s =
+    andThen (readNumber s) λ i t. andThen (readNumber t) λ k u.
+    andThen (getD figureReaders k noFigure u) λ x v. got (record { id = i; figure = x }) v
 
 abbrev pub readSheet : List ℕ → Read Sheet
 readSheet s = andThen (readNumber s) λ n t. andThen (counted readCell t) λ cs u. got (record { next = n; cells = cs }) u

@@ -21,7 +21,7 @@ pub data Given : Type 0 where
   reading : List ℕ → Given
   -- what `edit` prints: four numbers for each line, the sign and size of the Euler number, the live cells
   editing : List (List ℕ) → Given
-  -- the file after the commands
+  -- the file after the commands; in the rows: next id and count, then cell by cell
   filing : List (List ℕ) → Given
   -- the four numbers of a command's answer, after others or on a drawing
   answering : List (List ℕ) → List ℕ → Given
@@ -103,6 +103,10 @@ sliver = segment ++ (0x04 ∷ 1 ∷ 2 ∷ 6 ∷ 7 ∷ []) ∷ []
 abbrev pub bent : List (List ℕ)
 bent = dot ∷ dot ∷ dot ∷ (0x02 ∷ 1 ∷ 2 ∷ 0 ∷ []) ∷ (0x02 ∷ 2 ∷ 3 ∷ 0 ∷ []) ∷ []
 
+-- and face 6 along both and back
+abbrev pub bentBack : List (List ℕ)
+bentBack = bent ++ (0x04 ∷ 1 ∷ 4 ∷ 8 ∷ 10 ∷ 11 ∷ 9 ∷ []) ∷ []
+
 -- vertex 1, edge 2 from it to itself, face 3 with that step
 abbrev pub ringed : List (List ℕ)
 ringed = dot ∷ (0x02 ∷ 1 ∷ 1 ∷ 0 ∷ []) ∷ (0x04 ∷ 1 ∷ 1 ∷ 4 ∷ []) ∷ []
@@ -114,6 +118,10 @@ pierced = dot ∷ (0x04 ∷ 1 ∷ 0 ∷ 1 ∷ []) ∷ []
 -- and the face cut from the vertex to itself: edge 3, face 4
 abbrev pub looped : List (List ℕ)
 looped = pierced ++ (0x0C ∷ 2 ∷ 0 ∷ 0 ∷ 0 ∷ 0 ∷ 0 ∷ 0 ∷ []) ∷ []
+
+-- vertices 1 and 2, face 3 with both alone, cut from one to the other: edge 4
+abbrev pub bridgedDots : List (List ℕ)
+bridgedDots = dot ∷ dot ∷ (0x04 ∷ 2 ∷ 0 ∷ 1 ∷ 0 ∷ 2 ∷ []) ∷ (0x0C ∷ 3 ∷ 0 ∷ 0 ∷ 1 ∷ 0 ∷ 0 ∷ 0 ∷ []) ∷ []
 
 -- closed edge 1 with a bend at zero, face 2 round it twice in one cycle
 abbrev pub twiceRound : List (List ℕ)
@@ -141,6 +149,9 @@ marked =
     row (spelling 127) (0x7F ∷ [])
     ∷ row (spelling 128) (0x80 ∷ 0x01 ∷ [])
     ∷ row (spelling 2097151) (0xFF ∷ 0xFF ∷ 0x7F ∷ [])
+    ∷ row (reading (0x7F ∷ [])) (127 ∷ 0 ∷ [])
+    ∷ row (reading (0x80 ∷ 0x01 ∷ [])) (128 ∷ 0 ∷ [])
+    ∷ row (reading (0xFF ∷ 0xFF ∷ 0x7F ∷ [])) (2097151 ∷ 0 ∷ [])
     ∷ row (reading (0x80 ∷ 0x00 ∷ [])) []
     ∷ row (answering [] (0x06 ∷ 0x80 ∷ 0x00 ∷ [])) (2 ∷ 0 ∷ 0 ∷ 0 ∷ [])
     -- files
@@ -149,33 +160,61 @@ marked =
     -- cycle a a⁻ turning at v, where b also ends: uncut v gets 6
     ∷ row (answering (bent ++ (0x04 ∷ 1 ∷ 2 ∷ 8 ∷ 9 ∷ []) ∷ []) (0x0E ∷ 2 ∷ [])) (6 ∷ 0 ∷ 0 ∷ 0 ∷ [])
     -- cycle a b b⁻ a⁻: done, n n⁻
-    ∷ row (answering (bent ++ (0x04 ∷ 1 ∷ 4 ∷ 8 ∷ 10 ∷ 11 ∷ 9 ∷ []) ∷ []) (0x0E ∷ 2 ∷ [])) (0 ∷ 7 ∷ 1 ∷ 3 ∷ [])
-    ∷ row (filing (bent ++ (0x04 ∷ 1 ∷ 4 ∷ 8 ∷ 10 ∷ 11 ∷ 9 ∷ []) ∷ (0x0E ∷ 2 ∷ []) ∷ [])) (8 ∷ 4 ∷ 1 ∷ 0 ∷ nought ++ (3 ∷ 0 ∷ nought ++ (6 ∷ 3 ∷ 1 ∷ 2 ∷ 14 ∷ 15 ∷ 7 ∷ 1 ∷ 1 ∷ 3 ∷ 1 ∷ nought)))
+    ∷ row (answering bentBack (0x0E ∷ 2 ∷ [])) (0 ∷ 7 ∷ 1 ∷ 3 ∷ [])
+    ∷ row (filing (bentBack ++ (0x0E ∷ 2 ∷ []) ∷ []))
+    (joinedBytes
+    ((8 ∷ 4 ∷ []) ∷ (1 ∷ 0 ∷ nought) ∷ (3 ∷ 0 ∷ nought) ∷ (6 ∷ 3 ∷ 1 ∷ 2 ∷ 14 ∷ 15 ∷ []) ∷ (7 ∷ 1 ∷ 1 ∷ 3 ∷ 1 ∷ nought) ∷ []))
     -- lone vertex to itself by 0C: e⁻ and e in two faces
     ∷ row (answering pierced (0x0C ∷ 2 ∷ 0 ∷ 0 ∷ 0 ∷ 0 ∷ 0 ∷ 0 ∷ [])) (0 ∷ 3 ∷ 2 ∷ 0 ∷ [])
-    ∷ row (filing looped) (5 ∷ 4 ∷ 1 ∷ 0 ∷ nought ++ (2 ∷ 3 ∷ 1 ∷ 1 ∷ 7 ∷ 3 ∷ 1 ∷ 1 ∷ 1 ∷ 0 ∷ 4 ∷ 3 ∷ 1 ∷ 1 ∷ 6 ∷ []))
+    ∷ row (filing looped)
+    (joinedBytes
+    ((5 ∷ 4 ∷ []) ∷ (1 ∷ 0 ∷ nought) ∷ (2 ∷ 3 ∷ 1 ∷ 1 ∷ 7 ∷ []) ∷ (3 ∷ 1 ∷ 1 ∷ 1 ∷ 0 ∷ []) ∷ (4 ∷ 3 ∷ 1 ∷ 1 ∷ 6 ∷ []) ∷ []))
     -- two lone vertices: e e⁻
-    ∷ row (filing (dot ∷ dot ∷ (0x04 ∷ 2 ∷ 0 ∷ 1 ∷ 0 ∷ 2 ∷ []) ∷ (0x0C ∷ 3 ∷ 0 ∷ 0 ∷ 1 ∷ 0 ∷ 0 ∷ 0 ∷ []) ∷ [])) (5 ∷ 4 ∷ 1 ∷ 0 ∷ nought ++ (2 ∷ 0 ∷ nought ++ (3 ∷ 3 ∷ 1 ∷ 2 ∷ 8 ∷ 9 ∷ 4 ∷ 1 ∷ 1 ∷ 2 ∷ 0 ∷ [])))
-    -- two triangular faces meeting at one vertex: unglue makes one vertex
+    ∷ row (filing bridgedDots)
+    (joinedBytes
+    ((5 ∷ 4 ∷ []) ∷ (1 ∷ 0 ∷ nought) ∷ (2 ∷ 0 ∷ nought) ∷ (3 ∷ 3 ∷ 1 ∷ 2 ∷ 8 ∷ 9 ∷ []) ∷ (4 ∷ 1 ∷ 1 ∷ 2 ∷ 0 ∷ []) ∷ []))
+    -- two triangular faces meeting at one vertex: unglue makes one vertex, 14; the second face's ends move: 9 starts and 11 ends there
     ∷ row (answering bowtie (0x09 ∷ 1 ∷ [])) (0 ∷ 14 ∷ 1 ∷ 0 ∷ [])
+    ∷ row (filing (bowtie ++ (0x09 ∷ 1 ∷ []) ∷ []))
+    (joinedBytes
+    ((15 ∷ 14 ∷ []) ∷ (1 ∷ 0 ∷ nought) ∷ (2 ∷ 0 ∷ nought) ∷ (3 ∷ 0 ∷ nought) ∷ (4 ∷ 0 ∷ nought) ∷ (5 ∷ 0 ∷ nought)
+    ∷ (6 ∷ 1 ∷ 1 ∷ 2 ∷ 0 ∷ []) ∷ (7 ∷ 1 ∷ 2 ∷ 3 ∷ 0 ∷ []) ∷ (8 ∷ 1 ∷ 3 ∷ 1 ∷ 0 ∷ [])
+    ∷ (9 ∷ 1 ∷ 14 ∷ 4 ∷ 0 ∷ []) ∷ (10 ∷ 1 ∷ 4 ∷ 5 ∷ 0 ∷ []) ∷ (11 ∷ 1 ∷ 5 ∷ 14 ∷ 0 ∷ [])
+    ∷ (12 ∷ 3 ∷ 1 ∷ 3 ∷ 12 ∷ 14 ∷ 16 ∷ []) ∷ (13 ∷ 3 ∷ 1 ∷ 3 ∷ 18 ∷ 20 ∷ 22 ∷ []) ∷ (14 ∷ 0 ∷ nought) ∷ []))
     -- the worked example
-    ∷ row (editing (ringed ++ (0x0A ∷ 2 ∷ 0 ∷ []) ∷ (0x0E ∷ 4 ∷ []) ∷ [])) (0 ∷ 1 ∷ 1 ∷ 0 ∷ 0 ∷ 2 ∷ 1 ∷ 0 ∷ 0 ∷ 3 ∷ 1 ∷ 0 ∷ 0 ∷ 4 ∷ 3 ∷ 1 ∷ 0 ∷ 7 ∷ 1 ∷ 3 ∷ 0 ∷ 1 ∷ 3 ∷ [])
+    ∷ row (editing (ringed ++ (0x0A ∷ 2 ∷ 0 ∷ []) ∷ (0x0E ∷ 4 ∷ []) ∷ []))
+    (0 ∷ 1 ∷ 1 ∷ 0
+    ∷ 0 ∷ 2 ∷ 1 ∷ 0
+    ∷ 0 ∷ 3 ∷ 1 ∷ 0
+    ∷ 0 ∷ 4 ∷ 3 ∷ 1
+    ∷ 0 ∷ 7 ∷ 1 ∷ 3
+    ∷ 0 ∷ 1 ∷ 3 ∷ [])
     ∷ []
 
 -- ---- points that are easily mistaken
 abbrev pub further : List Row
 further =
+    -- a number ends with its first byte below 80
+    row (reading (0x80 ∷ 0x01 ∷ 0x00 ∷ [])) (128 ∷ 1 ∷ [])
     -- a loop has two ends, which no cycle joins here
-    row (filing (dot ∷ (0x02 ∷ 1 ∷ 1 ∷ 0 ∷ []) ∷ (0x09 ∷ 1 ∷ []) ∷ [])) (4 ∷ 3 ∷ 1 ∷ 0 ∷ nought ++ (2 ∷ 1 ∷ 1 ∷ 3 ∷ 0 ∷ 3 ∷ 0 ∷ nought))
+    ∷ row (filing (dot ∷ (0x02 ∷ 1 ∷ 1 ∷ 0 ∷ []) ∷ (0x09 ∷ 1 ∷ []) ∷ [])) (4 ∷ 3 ∷ 1 ∷ 0 ∷ nought ++ (2 ∷ 1 ∷ 1 ∷ 3 ∷ 0 ∷ 3 ∷ 0 ∷ nought))
     -- and which the cycle of the single step joins here
     ∷ row (answering ringed (0x09 ∷ 1 ∷ [])) (6 ∷ 0 ∷ 0 ∷ 0 ∷ [])
     -- a cut edge's steps: a b, backward b⁻ a⁻
-    ∷ row (filing (sliver ++ (0x0A ∷ 3 ∷ 0 ∷ []) ∷ [])) (8 ∷ 6 ∷ 1 ∷ 0 ∷ nought ++ (2 ∷ 0 ∷ nought ++ (4 ∷ 3 ∷ 1 ∷ 4 ∷ 12 ∷ 14 ∷ 15 ∷ 13 ∷ 5 ∷ 0 ∷ nought ++ (6 ∷ 1 ∷ 1 ∷ 5 ∷ 0 ∷ 7 ∷ 1 ∷ 5 ∷ 2 ∷ 0 ∷ []))))
+    ∷ row (filing (sliver ++ (0x0A ∷ 3 ∷ 0 ∷ []) ∷ []))
+    (joinedBytes
+    ((8 ∷ 6 ∷ []) ∷ (1 ∷ 0 ∷ nought) ∷ (2 ∷ 0 ∷ nought) ∷ (4 ∷ 3 ∷ 1 ∷ 4 ∷ 12 ∷ 14 ∷ 15 ∷ 13 ∷ [])
+    ∷ (5 ∷ 0 ∷ nought) ∷ (6 ∷ 1 ∷ 1 ∷ 5 ∷ 0 ∷ []) ∷ (7 ∷ 1 ∷ 5 ∷ 2 ∷ 0 ∷ []) ∷ []))
     -- a closed edge is unglued cycle by cycle: one cycle alone is refused, of two the later gets the copy
     ∷ row (answering twiceRound (0x09 ∷ 1 ∷ [])) (6 ∷ 0 ∷ 0 ∷ 0 ∷ [])
-    ∷ row (filing (twiceRound ++ (0x04 ∷ 1 ∷ 1 ∷ 3 ∷ []) ∷ (0x09 ∷ 1 ∷ []) ∷ [])) (5 ∷ 4 ∷ 1 ∷ 2 ∷ 1 ∷ nought ++ (2 ∷ 3 ∷ 1 ∷ 2 ∷ 2 ∷ 2 ∷ 3 ∷ 3 ∷ 1 ∷ 1 ∷ 9 ∷ 4 ∷ 2 ∷ 1 ∷ nought))
+    ∷ row (filing (twiceRound ++ (0x04 ∷ 1 ∷ 1 ∷ 3 ∷ []) ∷ (0x09 ∷ 1 ∷ []) ∷ []))
+    (joinedBytes
+    ((5 ∷ 4 ∷ []) ∷ (1 ∷ 2 ∷ 1 ∷ nought) ∷ (2 ∷ 3 ∷ 1 ∷ 2 ∷ 2 ∷ 2 ∷ []) ∷ (3 ∷ 3 ∷ 1 ∷ 1 ∷ 9 ∷ []) ∷ (4 ∷ 2 ∷ 1 ∷ nought) ∷ []))
     -- 0C with s1 = s2: P is empty, Q the whole cycle
-    ∷ row (filing (ringed ++ (0x0C ∷ 3 ∷ 0 ∷ 0 ∷ 0 ∷ 0 ∷ 0 ∷ 0 ∷ []) ∷ [])) (6 ∷ 5 ∷ 1 ∷ 0 ∷ nought ++ (2 ∷ 1 ∷ 1 ∷ 1 ∷ 0 ∷ 3 ∷ 3 ∷ 1 ∷ 1 ∷ 9 ∷ 4 ∷ 1 ∷ 1 ∷ 1 ∷ 0 ∷ 5 ∷ 3 ∷ 1 ∷ 2 ∷ 4 ∷ 8 ∷ []))
+    ∷ row (filing (ringed ++ (0x0C ∷ 3 ∷ 0 ∷ 0 ∷ 0 ∷ 0 ∷ 0 ∷ 0 ∷ []) ∷ []))
+    (joinedBytes
+    ((6 ∷ 5 ∷ []) ∷ (1 ∷ 0 ∷ nought) ∷ (2 ∷ 1 ∷ 1 ∷ 1 ∷ 0 ∷ []) ∷ (3 ∷ 3 ∷ 1 ∷ 1 ∷ 9 ∷ [])
+    ∷ (4 ∷ 1 ∷ 1 ∷ 1 ∷ 0 ∷ []) ∷ (5 ∷ 3 ∷ 1 ∷ 2 ∷ 4 ∷ 8 ∷ []) ∷ []))
     -- uncut in one cycle: nothing left after the backward step is the start, after the forward one the end
     ∷ row (answering sliver (0x0E ∷ 3 ∷ [])) (0 ∷ 0 ∷ 0 ∷ 1 ∷ [])
     ∷ row (filing (sliver ++ (0x0E ∷ 3 ∷ []) ∷ [])) (5 ∷ 3 ∷ 1 ∷ 0 ∷ nought ++ (2 ∷ 0 ∷ nought ++ (4 ∷ 3 ∷ 2 ∷ 0 ∷ 1 ∷ 0 ∷ 2 ∷ [])))
@@ -183,7 +222,10 @@ further =
     ∷ row (answering looped (0x0E ∷ 3 ∷ [])) (0 ∷ 0 ∷ 0 ∷ 2 ∷ [])
     ∷ row (filing (looped ++ (0x0E ∷ 3 ∷ []) ∷ [])) (5 ∷ 2 ∷ 1 ∷ 0 ∷ nought ++ (2 ∷ 3 ∷ 1 ∷ 0 ∷ 1 ∷ []))
     -- the middle of −0 and −0 is −0, of −0 and 0 it is 0
-    ∷ row (filing ((0x01 ∷ minusNought) ∷ (0x01 ∷ mixedNought) ∷ (0x02 ∷ 1 ∷ 2 ∷ 0 ∷ []) ∷ (0x0A ∷ 3 ∷ 0 ∷ []) ∷ [])) (7 ∷ 5 ∷ 1 ∷ 0 ∷ minusNought ++ (2 ∷ 0 ∷ mixedNought ++ (4 ∷ 0 ∷ mixedNought ++ (5 ∷ 1 ∷ 1 ∷ 4 ∷ 0 ∷ 6 ∷ 1 ∷ 4 ∷ 2 ∷ 0 ∷ []))))
+    ∷ row (filing ((0x01 ∷ minusNought) ∷ (0x01 ∷ mixedNought) ∷ (0x02 ∷ 1 ∷ 2 ∷ 0 ∷ []) ∷ (0x0A ∷ 3 ∷ 0 ∷ []) ∷ []))
+    (joinedBytes
+    ((7 ∷ 5 ∷ []) ∷ (1 ∷ 0 ∷ minusNought) ∷ (2 ∷ 0 ∷ mixedNought) ∷ (4 ∷ 0 ∷ mixedNought)
+    ∷ (5 ∷ 1 ∷ 1 ∷ 4 ∷ 0 ∷ []) ∷ (6 ∷ 1 ∷ 4 ∷ 2 ∷ 0 ∷ []) ∷ []))
     -- a delete takes what rests on its target, and no more
     ∷ row (answering sliver (0x06 ∷ 1 ∷ [])) (0 ∷ 0 ∷ 0 ∷ 3 ∷ [])
     ∷ row (filing (sliver ++ (0x06 ∷ 1 ∷ []) ∷ [])) (5 ∷ 1 ∷ 2 ∷ 0 ∷ nought)

@@ -9,7 +9,8 @@ use lib.Ieee.{binary64, fits}
 use Rattle.coordinate.specs.declared.Position.{Position}
 use Rattle.coordinate.specs.Bounds.{within}
 use Rattle.complex.specs.Lists.{all, isEmpty, total, rising}
-use Rattle.complex.specs.Cells.{Halfedge, Cycle, lone, path, Figure, vertex, openEdge, closedEdge, face, LiveCell, Sheet, Look, lookup, ids, isVertex, isOpen, isClosed, same, tailOf, headOf}
+use Rattle.complex.specs.Cells.{Halfedge, Cycle, lone, path, Figure, vertex, openEdge, closedEdge, face, LiveCell, Sheet}
+use Rattle.complex.specs.Cells.{Look, lookup, ids, isVertex, isOpen, isClosed, same, tailOf, headOf}
 
 -- ids run 1 to 65,535
 abbrev pub idsEnd : ℕ
@@ -82,7 +83,11 @@ abbrev pub over : (Figure → ℕ) → List LiveCell → ℕ
 over f cs = total (λ (c : LiveCell). f (c .figure)) cs
 
 abbrev pub ceilings : List LiveCell → Bool
-ceilings cs = leb (length cs) cellsMost && (leb (over cyclesIn cs) cyclesMost && (leb (over stepsIn cs) stepsMost && leb (over bendsIn cs) bendsMost))
+ceilings cs =
+    leb (length cs) cellsMost
+    && (leb (over cyclesIn cs) cyclesMost
+    && (leb (over stepsIn cs) stepsMost
+    && leb (over bendsIn cs) bendsMost))
 
 -- ---- all of it
 abbrev pub figuresOk : List LiveCell → Bool

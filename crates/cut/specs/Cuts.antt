@@ -39,7 +39,16 @@ closedPlace l base m q = closedBetween (getD l (base + q / 2) origin) (getD l (n
 -- the bends of the loop that it becomes
 abbrev pub closedRuns : Position → ℕ → ℕ → ℕ → Runs
 closedRuns p base m q =
-    record { first = base + (q / 2 + 1); count = m - (q / 2 + 1); turned = false; middle = false; at = p; first2 = base; count2 = q / 2 + (1 - q % 2); turned2 = false }
+    record {
+      first = base + (q / 2 + 1);
+      count = m - (q / 2 + 1);
+      turned = false;
+      middle = false;
+      at = p;
+      first2 = base;
+      count2 = q / 2 + (1 - q % 2);
+      turned2 = false;
+    }
 
 -- the edge e stands in a row, its m bends from base on; place q exists on it, and the result of the cut keeps the ceilings
 pub record Cuts (d : Drawing) (e row base m q : ℕ) : Type 0 where
@@ -81,11 +90,14 @@ openPoint pa pb l base m k = pointOf pa pb (getD l (base + (k - 1)) origin) m k
 
 -- where its place q lies
 abbrev pub openPlace : Position → Position → List Position → ℕ → ℕ → ℕ → Position
-openPlace pa pb l base m q = cond (eqb (q % 2) 1) (getD l (base + q / 2) origin) (middle (openPoint pa pb l base m (q / 2)) (openPoint pa pb l base m (q / 2 + 1)))
+openPlace pa pb l base m q =
+    cond (eqb (q % 2) 1) (getD l (base + q / 2) origin)
+    (middle (openPoint pa pb l base m (q / 2)) (openPoint pa pb l base m (q / 2 + 1)))
 
 -- one run
 abbrev pub partRun : Position → ℕ → ℕ → Runs
-partRun p first count = record { first = first; count = count; turned = false; middle = false; at = p; first2 = 0; count2 = 0; turned2 = false }
+partRun p first count =
+    record { first = first; count = count; turned = false; middle = false; at = p; first2 = 0; count2 = 0; turned2 = false }
 
 -- e is an open edge from s to f
 pub record Ends (d : Drawing) (e s f : ℕ) : Type 0 where

@@ -38,7 +38,8 @@ pub record RoundCut (d : Drawing) (ix : Index) (script : List ℕ) (f bends firs
   pub cycleRoom : cycleTotal d + 2 ≤ cyclesMost
   pub stepRoom : stepTotal d + 2 ≤ stepsMost
   pub room : RoomIn (recycled (sheetOf d) f (stayed (numbersRead script place moved) (cyclesOf (cellAt (sheetOf d) f)) (sheetOf d .next)))
-      (closedEdge (positionsAt script first bends) ∷ face (left (numbersRead script place moved) (cyclesOf (cellAt (sheetOf d) f)) (sheetOf d .next)) ∷ [])
+      (closedEdge (positionsAt script first bends)
+      ∷ face (left (numbersRead script place moved) (cyclesOf (cellAt (sheetOf d) f)) (sheetOf d .next)) ∷ [])
 
 -- questions 4 and 5, by the rows of an index: the number of the first no, or 0
 abbrev pub roundNo : Index → ℕ → ℕ → ℕ → List ℕ → ℕ

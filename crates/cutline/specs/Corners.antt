@@ -18,7 +18,9 @@ cornerOn look ks c s = ltb c (length ks) && cornerExists look (getD ks c noCycle
 
 -- the same of spans in two arrays, by the rows of an index
 abbrev pub cornerAt : Index → ℕ → List ℕ → List ℕ → Spans → ℕ → ℕ → Bool
-cornerAt ix n cycles steps t c s = ltb c (t .cycles .count) && cornerIn ix n (getD cycles (t .cycles .first + c) 0) steps (t .steps .first + widthSum (take c (drop (t .cycles .first) cycles))) s
+cornerAt ix n cycles steps t c s =
+    ltb c (t .cycles .count)
+    && cornerIn ix n (getD cycles (t .cycles .first + c) 0) steps (t .steps .first + widthSum (take c (drop (t .cycles .first) cycles))) s
 
 -- 1 if cycle c of the spans is a lone vertex, else 0
 abbrev pub loneAt : List ℕ → Spans → ℕ → ℕ

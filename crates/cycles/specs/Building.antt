@@ -30,4 +30,5 @@ more u w = record { cycles = u .cycles + 1; steps = u .steps + w }
 
 -- with the counts out, the m steps after those in use are a cycle more, whatever steps stand there
 pub record Closes (counts : List ℕ) (u : Used) (m : ℕ) (out : List ℕ) : Type 0 where
-  pub list : (steps : List ℕ) → Building counts u steps → Built (built counts u steps ++ (path (map halfedgeOf (take m (drop (u .steps) steps))) ∷ [])) out (more u m) steps
+  pub list : (steps : List ℕ) → Building counts u steps
+      → Built (built counts u steps ++ (path (map halfedgeOf (take m (drop (u .steps) steps))) ∷ [])) out (more u m) steps

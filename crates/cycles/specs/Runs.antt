@@ -1,4 +1,4 @@
--- Where the bends, cycles and steps of a cell stand in a drawing's arrays, and one run of numbers in the place of another. Definitions only.
+-- Where the bends, cycles and steps of a cell stand in a drawing's arrays, and one run of numbers in another's place. Definitions only.
 use Prim.Native.Nat.{ℕ, _+_, _-_, _<_, _≤_}
 use mathlib.Core.Path.{_≡_}
 use mathlib.Core.List.{List, _++_, map}

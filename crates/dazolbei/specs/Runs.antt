@@ -80,4 +80,6 @@ runDone t lines out = runAs 0 (front (t .numbers) lines) (front (fileOf (t .shee
 -- a run asks 10, 9
 abbrev pub runAt : List ℕ → List ℕ → List ℕ → List ℕ → RunAnswer
 runAt file script lines out =
-    cond (isFile file) (cond (roomFor (length script) (length lines) (length out)) (runDone (toldOf (drawn file) script) lines out) (runAs 9 lines out 0 0)) (runAs 10 lines out 0 0)
+    cond (isFile file)
+    (cond (roomFor (length script) (length lines) (length out)) (runDone (toldOf (drawn file) script) lines out) (runAs 9 lines out 0 0))
+    (runAs 10 lines out 0 0)

@@ -1,4 +1,5 @@
--- A number: groups of seven bits, low group first, the top bit set on all but the last byte, shortest form, at most three bytes. Definitions only.
+-- A number: groups of seven bits, low group first, the top bit set on all but the last byte, shortest form, at most three bytes.
+-- Definitions only.
 use Prim.Native.Nat.{ℕ, zero, suc, _+_, _-_, _*_, _/_, _%_, _^_}
 use mathlib.Core.Bool.{Bool, true, false, cond}
 use mathlib.Core.List.{List, [], _∷_, _++_}

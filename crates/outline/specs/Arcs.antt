@@ -57,7 +57,8 @@ pub record CopyRoom (cycles steps : List ℕ) (from k step : ℕ) (skip : List B
   pub stepRoom : u .steps + widthSum (kept (take k skip) (take k (drop from cycles))) ≤ 2048
 
 -- cycle c of the spans has m steps at a place, it is not flagged, and there is room for the one cycle of a list instead
-pub record Placed (cycles steps : List ℕ) (t : Spans) (flags : List Bool) (c m at : ℕ) (counts : List ℕ) (u : Used) (out : List ℕ) : Type 0 where
+pub record Placed (cycles steps : List ℕ) (t : Spans) (flags : List Bool) (c m at : ℕ)
+    (counts : List ℕ) (u : Used) (out : List ℕ) : Type 0 where
   pub within : Within cycles steps t
   pub flagsSize : length flags ≡ 512
   pub cycle : c < t .cycles .count
@@ -66,15 +67,20 @@ pub record Placed (cycles steps : List ℕ) (t : Spans) (flags : List Bool) (c m
   pub stays : getD flags c false ≡ false
   pub building : Building counts u out
   pub single : u .cycles ≡ 1
-  pub room : total stepCount (kept (take (t .cycles .count) flags) (set (cyclesAt cycles steps t) c (getD (built counts u out) 0 noCycle))) ≤ 2048
+  pub room : total stepCount
+      (kept (take (t .cycles .count) flags) (set (cyclesAt cycles steps t) c (getD (built counts u out) 0 noCycle))) ≤ 2048
 
 -- whether a cycle of m steps at a place has the corner s, by the rows of an index
 abbrev pub cornerIn : Index → ℕ → ℕ → List ℕ → ℕ → ℕ → Bool
-cornerIn ix n m steps at s = cond (eqb m 0) (eqb s 0) (ltb s m && eqb (valueAt 4 (take n (ix .ids)) (take n (ix .kinds)) (getD steps (at + s) 0 / 2)) 1)
+cornerIn ix n m steps at s =
+    cond (eqb m 0) (eqb s 0)
+    (ltb s m && eqb (valueAt 4 (take n (ix .ids)) (take n (ix .kinds)) (getD steps (at + s) 0 / 2)) 1)
 
 -- the vertex of that corner
 abbrev pub cornerVertex : Index → ℕ → ℕ → List ℕ → ℕ → ℕ → ℕ
 cornerVertex ix n m steps at s =
     let h = getD steps (at + s) 0 in
     cond (eqb m 0) (getD steps at 0)
-    (cond (eqb (h % 2) 1) (valueAt 0 (take n (ix .ids)) (take n (ix .ends)) (h / 2)) (valueAt 0 (take n (ix .ids)) (take n (ix .starts)) (h / 2)))
+    (cond (eqb (h % 2) 1)
+    (valueAt 0 (take n (ix .ids)) (take n (ix .ends)) (h / 2))
+    (valueAt 0 (take n (ix .ids)) (take n (ix .starts)) (h / 2)))

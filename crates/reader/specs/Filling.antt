@@ -39,7 +39,8 @@ NumbersPut s at m out used out′ (Upto next) = NumbersIn s at m out used out′
 NumbersPut s at m out used out′ Malformed = times readNumber m (drop at s) ≡ bad
 
 -- ---- cycles: how many steps each has, and the steps
-pub record CyclesIn (q : Read (List Cycle)) (s counts steps : List ℕ) (used : Used) (counts′ steps′ : List ℕ) (next : ℕ) (used′ : Used) : Type 0 where
+pub record CyclesIn (q : Read (List Cycle)) (s counts steps : List ℕ) (used : Used)
+    (counts′ steps′ : List ℕ) (next : ℕ) (used′ : Used) : Type 0 where
   pub cycles : List Cycle
   pub read : q ≡ got cycles (drop next s)
   pub inside : next ≤ length s
@@ -53,7 +54,8 @@ pub record CyclesIn (q : Read (List Cycle)) (s counts steps : List ℕ) (used : 
 -- whatever cycles are read, the arrays have no room for them
 abbrev pub CyclesOver : Read (List Cycle) → Used → Type 0
 CyclesOver q used =
-    (ks : List Cycle) (t : List ℕ) → q ≡ got ks t → used .cycles + length ks ≤ cyclesMost → used .steps + length (spread stepsIn ks) ≤ stepsMost → ⊥
+    (ks : List Cycle) (t : List ℕ) → q ≡ got ks t
+    → used .cycles + length ks ≤ cyclesMost → used .steps + length (spread stepsIn ks) ≤ stepsMost → ⊥
 
 abbrev pub CyclesLoaded : Read (List Cycle) → List ℕ → List ℕ → List ℕ → Used → List ℕ → List ℕ → Loaded → Type 0
 CyclesLoaded q s counts steps used counts′ steps′ (Next next used′) = CyclesIn q s counts steps used counts′ steps′ next used′
@@ -68,18 +70,22 @@ spotsFrom first (suc n) = first ∷ spotsFrom (first + 16) n
 abbrev pub withBends : Used → ℕ → Used
 withBends used b = record { bends = used .bends + b; cycles = used .cycles; steps = used .steps }
 
-pub record PartsIn (s : List ℕ) (first : ℕ) (x : Shape) (spots counts steps : List ℕ) (used : Used) (spots′ counts′ steps′ : List ℕ) (next : ℕ) (used′ : Used) : Type 0 where
+pub record PartsIn (s : List ℕ) (first : ℕ) (x : Shape) (spots counts steps : List ℕ) (used : Used)
+    (spots′ counts′ steps′ : List ℕ) (next : ℕ) (used′ : Used) : Type 0 where
   pub inside : first + 16 * bendCount x ≤ length s
   pub spotted : Added spots (used .bends) (spotsFrom first (bendCount x)) spots′
-  pub filled : CyclesIn (times readCycle (cycleCount x) (drop (first + 16 * bendCount x) s)) s counts steps (withBends used (bendCount x)) counts′ steps′ next used′
+  pub filled : CyclesIn (times readCycle (cycleCount x) (drop (first + 16 * bendCount x) s))
+      s counts steps (withBends used (bendCount x)) counts′ steps′ next used′
 
 abbrev pub PartsOver : List ℕ → ℕ → Shape → Used → Type 0
 PartsOver s first x used =
-    (bs : List Position) (ks : List Cycle) (t u : List ℕ) → times readPosition (bendCount x) (drop first s) ≡ got bs t → times readCycle (cycleCount x) t ≡ got ks u
+    (bs : List Position) (ks : List Cycle) (t u : List ℕ)
+    → times readPosition (bendCount x) (drop first s) ≡ got bs t → times readCycle (cycleCount x) t ≡ got ks u
     → used .bends + length bs ≤ bendsMost → used .cycles + length ks ≤ cyclesMost → used .steps + length (spread stepsIn ks) ≤ stepsMost → ⊥
 
 abbrev pub PartsLoaded : List ℕ → ℕ → Shape → List ℕ → List ℕ → List ℕ → Used → List ℕ → List ℕ → List ℕ → Loaded → Type 0
-PartsLoaded s first x spots counts steps used spots′ counts′ steps′ (Next next used′) = PartsIn s first x spots counts steps used spots′ counts′ steps′ next used′
+PartsLoaded s first x spots counts steps used spots′ counts′ steps′ (Next next used′) =
+    PartsIn s first x spots counts steps used spots′ counts′ steps′ next used′
 PartsLoaded s first x spots counts steps used spots′ counts′ steps′ Refused = PartsOver s first x used
 
 -- the arrays have room for so much

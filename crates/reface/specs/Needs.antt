@@ -4,7 +4,7 @@ use mathlib.Core.Path.{_≡_}
 use mathlib.Core.Bool.{true}
 use mathlib.Core.List.{List, []}
 use Rattle.complex.specs.Cells.{face, cellAt, isFace}
-use Rattle.complex.specs.Edits.{both, replaced, rebuild}
+use Rattle.complex.specs.Edits.{neither, replaced, rebuild}
 use Rattle.store.specs.declared.Drawing.{Drawing}
 use Rattle.store.specs.View.{sheetOf}
 use Rattle.cycles.specs.declared.Used.{Used}
@@ -16,6 +16,6 @@ use Rattle.outline.specs.Faces.{Roomy}
 pub record Refaced (d : Drawing) (i a j b f : ℕ) (counts : List ℕ) (u : Used) (steps : List ℕ) : Type 0 where
   pub pair : Pair d i a j b
   pub building : Building counts u steps
-  pub stays : both i j f ≡ true
-  pub room : Roomy (rebuild (both i j) (replaced f (face (built counts u steps))) [] (sheetOf d))
+  pub stays : neither i j f ≡ true
+  pub room : Roomy (rebuild (neither i j) (replaced f (face (built counts u steps))) [] (sheetOf d))
   pub face : isFace (cellAt (sheetOf d) f) ≡ true

@@ -14,7 +14,9 @@ use mathlib.Core.Bool.{Bool, not, cond}
 
 -- what the step s becomes: the edge's own steps n others each way, any other step itself
 abbrev pub swapWord : Swap → ℕ → List ℕ
-swapWord t s = cond (eqb s (t .fore)) (take (t .n) (t .f1 ∷ t .f2 ∷ [])) (cond (eqb s (t .back)) (take (t .n) (t .b1 ∷ t .b2 ∷ [])) (s ∷ []))
+swapWord t s =
+    cond (eqb s (t .fore)) (take (t .n) (t .f1 ∷ t .f2 ∷ []))
+    (cond (eqb s (t .back)) (take (t .n) (t .b1 ∷ t .b2 ∷ [])) (s ∷ []))
 
 abbrev pub swapHalf : Swap → Halfedge → List Halfedge
 swapHalf t h = map halfedgeOf (swapWord t (word h))

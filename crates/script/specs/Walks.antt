@@ -35,7 +35,8 @@ pub record Room (s : List ℕ) (at n : ℕ) (counts : List ℕ) (i : ℕ) (steps
   pub places : used + total stepCount (cyclesRead s at n) ≤ length steps
 
 -- one cycle of the script stands in the arrays
-pub record Loaded (s : List ℕ) (at : ℕ) (counts₀ : List ℕ) (i : ℕ) (steps₀ : List ℕ) (used : ℕ) (counts steps : List ℕ) (next : ℕ) : Type 0 where
+pub record Loaded (s : List ℕ) (at : ℕ) (counts₀ : List ℕ) (i : ℕ) (steps₀ : List ℕ) (used : ℕ)
+    (counts steps : List ℕ) (next : ℕ) : Type 0 where
   pub lengths : counts ≡ sets counts₀ i (map numOf (cyclesRead s at 1))
   pub places : steps ≡ sets steps₀ used (spread stepsIn (cyclesRead s at 1))
   pub reach : Reaches readCycle s at 1 next

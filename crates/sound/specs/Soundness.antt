@@ -38,7 +38,9 @@ capped m n = cond (leb n m) n (m + 1)
 -- the sums of the cells' bends and cycles, where ns are the numbers of the cycles' steps
 abbrev pub sumsOf : List ℕ → List ℕ → List ℕ → Sums
 sumsOf bs ks ns =
-    cond (sumsFit (total (placesOf 0) bs) (total (placesOf 0) ks) (total (placesOf 1) (take (total (placesOf 0) ks) ns))) (Within (total (placesOf 0) bs) (total (placesOf 0) ks)) Above
+    cond (sumsFit (total (placesOf 0) bs) (total (placesOf 0) ks) (total (placesOf 1) (take (total (placesOf 0) ks) ns)))
+    (Within (total (placesOf 0) bs) (total (placesOf 0) ks))
+    Above
 
 -- ---- positions
 -- a vertex lies in bounds

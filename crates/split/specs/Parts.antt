@@ -19,7 +19,8 @@ use Rattle.split.specs.Along.{nearSide, farSide, bridge}
 
 -- the place of cycle c of the spans
 abbrev pub placeOf : List ℕ → Spans → ℕ → Place
-placeOf cycles t c = record { m = getD cycles (t .cycles .first + c) 0; at = t .steps .first + widthSum (take c (drop (t .cycles .first) cycles)) }
+placeOf cycles t c =
+    record { m = getD cycles (t .cycles .first + c) 0; at = t .steps .first + widthSum (take c (drop (t .cycles .first) cycles)) }
 
 -- the cycle at a place
 abbrev pub cycleAt : List ℕ → Place → Cycle

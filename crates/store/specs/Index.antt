@@ -33,7 +33,8 @@ endOf (Face k) = 0
 
 -- the index r has the numbers of the first n cells
 pub record CellRows (cells : List Cell) (n : ℕ) (r : Index) : Type 0 where
-  pub sizes : (length (r .ids) ≡ 256) × (length (r .kinds) ≡ 256) × (length (r .starts) ≡ 256) × (length (r .ends) ≡ 256) × (length (r .bends) ≡ 256) × (length (r .cycles) ≡ 256)
+  pub sizes : (length (r .ids) ≡ 256) × (length (r .kinds) ≡ 256) × (length (r .starts) ≡ 256) × (length (r .ends) ≡ 256)
+      × (length (r .bends) ≡ 256) × (length (r .cycles) ≡ 256)
   pub ids : take n (r .ids) ≡ map (λ (c : Cell). c .id) (take n cells)
   pub kinds : take n (r .kinds) ≡ map (λ (c : Cell). kindOf (c .shape)) (take n cells)
   pub starts : take n (r .starts) ≡ map (λ (c : Cell). startOf (c .shape)) (take n cells)

@@ -54,7 +54,8 @@ figureOf (Face k) ks bs = face (take k ks)
 abbrev pub cellsOf : List Cell → List Cycle → List Position → List Entry
 cellsOf [] ks bs = []
 cellsOf (c ∷ cs) ks bs =
-    record { id = c .id; figure = figureOf (c .shape) ks bs } ∷ cellsOf cs (drop (cycleCount (c .shape)) ks) (drop (bendCount (c .shape)) bs)
+    record { id = c .id; figure = figureOf (c .shape) ks bs }
+    ∷ cellsOf cs (drop (cycleCount (c .shape)) ks) (drop (bendCount (c .shape)) bs)
 
 unfoldable pub sheetOf : Drawing → Sheet
 sheetOf d = record { next = d .next; cells = cellsOf (take (d .count) (d .cells)) (cyclesOf (d .cycles) (d .steps)) (d .bends) }

@@ -1,14 +1,13 @@
 -- From the case that the code finds to the case of the definitions. Assumes nothing.
 use Prim.Native.Nat.{ℕ}
 use mathlib.Core.Path.{_≡_, refl, ap, ap₂, sym, _∙_}
-use mathlib.Core.Bool.{Bool, true, false, not, _&&_, _||_, cond, false≢true}
+use mathlib.Core.Bool.{Bool, true, false, not, _&&_, cond, false≢true}
 use mathlib.Core.List.{List, [], _∷_}
 use mathlib.Core.Option.{Option, none, some}
 use lib.Dec.{eqb}
-use Rattle.complex.specs.Lists.{any}
-use Rattle.complex.specs.Cells.{Halfedge, Figure, vertex, openEdge, closedEdge, face, LiveCell, Sheet, cellAt, isVertex, isOpen, isClosed, same, flipped}
+use Rattle.complex.specs.Cells.{Halfedge, Figure, vertex, openEdge, closedEdge, face, LiveCell, Sheet, cellAt, isVertex, isOpen, isClosed}
 use Rattle.complex.specs.Uses.{Passage, passagesAt, endsAt, loneUse, usesBy, usesOf, Use as Used}
-use Rattle.complex.specs.Uncut.{Uncut, refused, lonely, loop, joint, twoFaces, oneCycle, rings, opposite, uncutVertex, uncutOpen, uncutClosed, uncutFigure, uncutCase}
+use Rattle.complex.specs.Uncut.{Uncut, refused, lonely, loop, joint, twoFaces, oneCycle, rings, endsOfOneEdge, doublesBack, staysOnEdge, opposite, uncutVertex, uncutOpen, uncutClosed, uncutFigure, uncutCase}
 use Rattle.complex.proofs.Every.{Every}
 use Rattle.complex.proofs.UncutEdge.{every-more, Real, own-cells, uses-real}
 use Rattle.complex.proofs.Keep.{Sound}
@@ -28,7 +27,7 @@ vertex-back ts n [] = go (eqb n 1)
     go false = refl
 vertex-back ts n (x ∷ []) = refl
 vertex-back ts n (x ∷ y ∷ []) =
-    go (eqb n 0) (same (flipped x) y) (any (λ (t : Passage). same (t .arrives) (t .leaves)) ts) (eqb (x .edge) (y .edge) || any (λ (t : Passage). eqb (t .arrives .edge) (t .leaves .edge)) ts)
+    go (eqb n 0) (endsOfOneEdge x y) (doublesBack ts) (staysOnEdge ts)
   where
     go : (a b c d : Bool) → let k = cond (not a) refused (cond b (cond c refused (loop (x .edge))) (cond d refused (joint x y))) in k ≡ vertexOf (vertexCase k)
     go false b c d = refl

@@ -1,15 +1,15 @@
 -- Which case of 0E holds: the numbers tell what the sheet's definitions ask. Assumes nothing.
 use Prim.Native.Nat.{ℕ}
 use mathlib.Core.Path.{_≡_, refl, ap, ap₂, sym, _∙_}
-use mathlib.Core.Bool.{Bool, true, false, not, _&&_, _||_, cond, Bool·beq}
+use mathlib.Core.Bool.{Bool, true, false, not, _&&_, cond, Bool·beq}
 use mathlib.Core.List.{List, [], _∷_}
 use native.Mathlib.Omega.{arith}
 use lib.Dec.{eqb}
 use borrow.Author.Tests.{eq-eqb, ne-eqb}
 use Rattle.complex.specs.Lists.{any}
-use Rattle.complex.specs.Cells.{Halfedge, same, flipped}
+use Rattle.complex.specs.Cells.{Halfedge}
 use Rattle.complex.specs.Uses.{Passage, Use as Used}
-use Rattle.complex.specs.Uncut.{refused, lonely, loop, joint, twoFaces, oneCycle, rings, uncutVertex, uncutOpen, uncutClosed}
+use Rattle.complex.specs.Uncut.{refused, lonely, loop, joint, twoFaces, oneCycle, rings, endsOfOneEdge, uncutVertex, uncutOpen, uncutClosed}
 use Rattle.uncut_case.specs.declared.Ends.{Ends}
 use Rattle.uncut_case.specs.declared.Use.{Use}
 use Rattle.uncut_case.specs.declared.AtEdge.{AtEdge}
@@ -29,28 +29,30 @@ opposite-forth p true e = sym (ap (λ (b : Bool). Bool·beq (not b) true) e)
 opposite-forth p false e = sym (ap (λ (b : Bool). Bool·beq (not b) false) e)
 
 -- ---- two ends
+pub of-one-edge : (a : ℕ) (p : Bool) (b : ℕ) (q r : Bool) → a ≡ b → r ≡ Bool·beq (not p) q → r ≡ endsOfOneEdge (record { edge = a; backward = p }) (record { edge = b; backward = q })
+of-one-edge a p b q r e g = g ∙ sym (ap (λ (t : Bool). t && Bool·beq (not p) q) (eq-eqb a b e))
+
+pub of-two-edges : (a : ℕ) (p : Bool) (b : ℕ) (q : Bool) → (a ≡ b → ⊥) → false ≡ endsOfOneEdge (record { edge = a; backward = p }) (record { edge = b; backward = q })
+of-two-edges a p b q e = sym (ap (λ (t : Bool). t && Bool·beq (not p) q) (ne-eqb a b e))
+
 module _ (x : Ends) (whole edge : Bool) where
-  pub pair-loop : x .one ≡ x .two → Bool·beq (not (x .back1)) (x .back2) ≡ true → whole ≡ false → Loop (x .one) ≡ pairCase whole edge x
-  pair-loop e o w =
-      sym (ap₂ (λ (a b : Bool). cond (a && b) (cond whole Refused (Loop (x .one))) (cond (a || edge) Refused (Joint (x .one) (x .back1) (x .two) (x .back2)))) (eq-eqb (x .one) (x .two) e) o
-      ∙ ap (λ (b : Bool). cond b Refused (Loop (x .one))) w)
+  abbrev oneEdge : Bool
+  oneEdge = endsOfOneEdge (record { edge = x .one; backward = x .back1 }) (record { edge = x .two; backward = x .back2 })
 
-  pub pair-turns : x .one ≡ x .two → Bool·beq (not (x .back1)) (x .back2) ≡ true → whole ≡ true → Refused ≡ pairCase whole edge x
-  pair-turns e o w =
-      sym (ap₂ (λ (a b : Bool). cond (a && b) (cond whole Refused (Loop (x .one))) (cond (a || edge) Refused (Joint (x .one) (x .back1) (x .two) (x .back2)))) (eq-eqb (x .one) (x .two) e) o
-      ∙ ap (λ (b : Bool). cond b Refused (Loop (x .one))) w)
+  abbrev pick : Bool → Bool → Bool → AtVertex
+  pick a b c = cond a (cond b Refused (Loop (x .one))) (cond c Refused (Joint (x .one) (x .back1) (x .two) (x .back2)))
 
-  pub pair-same : x .one ≡ x .two → Bool·beq (not (x .back1)) (x .back2) ≡ false → Refused ≡ pairCase whole edge x
-  pair-same e o =
-      sym (ap₂ (λ (a b : Bool). cond (a && b) (cond whole Refused (Loop (x .one))) (cond (a || edge) Refused (Joint (x .one) (x .back1) (x .two) (x .back2)))) (eq-eqb (x .one) (x .two) e) o)
+  pub pair-loop : oneEdge ≡ true → whole ≡ false → Loop (x .one) ≡ pairCase whole edge x
+  pair-loop e w = sym (ap₂ (λ (a b : Bool). pick a b edge) e w)
 
-  pub pair-back : (x .one ≡ x .two → ⊥) → edge ≡ true → Refused ≡ pairCase whole edge x
-  pair-back e w =
-      sym (ap₂ (λ (a b : Bool). cond (a && Bool·beq (not (x .back1)) (x .back2)) (cond whole Refused (Loop (x .one))) (cond (a || b) Refused (Joint (x .one) (x .back1) (x .two) (x .back2)))) (ne-eqb (x .one) (x .two) e) w)
+  pub pair-turns : oneEdge ≡ true → whole ≡ true → Refused ≡ pairCase whole edge x
+  pair-turns e w = sym (ap₂ (λ (a b : Bool). pick a b edge) e w)
 
-  pub pair-joint : (x .one ≡ x .two → ⊥) → edge ≡ false → Joint (x .one) (x .back1) (x .two) (x .back2) ≡ pairCase whole edge x
-  pair-joint e w =
-      sym (ap₂ (λ (a b : Bool). cond (a && Bool·beq (not (x .back1)) (x .back2)) (cond whole Refused (Loop (x .one))) (cond (a || b) Refused (Joint (x .one) (x .back1) (x .two) (x .back2)))) (ne-eqb (x .one) (x .two) e) w)
+  pub pair-back : oneEdge ≡ false → edge ≡ true → Refused ≡ pairCase whole edge x
+  pair-back e w = sym (ap₂ (λ (a c : Bool). pick a whole c) e w)
+
+  pub pair-joint : oneEdge ≡ false → edge ≡ false → Joint (x .one) (x .back1) (x .two) (x .back2) ≡ pairCase whole edge x
+  pair-joint e w = sym (ap₂ (λ (a c : Bool). pick a whole c) e w)
 
 -- ---- any number of ends
 module _ (whole edge : Bool) (lones : ℕ) (x : Ends) where
@@ -94,7 +96,7 @@ pub vertex-case : (ts : List Passage) (lones : ℕ) (l : List Halfedge) → ends
 vertex-case ts lones [] = case-lonely (eqb lones 1)
 vertex-case ts lones (x ∷ []) = refl
 vertex-case ts lones (x ∷ y ∷ []) =
-    case-pair x y (eqb lones 0) (same (flipped x) y) (any (turnsBack true) ts) (eqb (x .edge) (y .edge) || any (turnsBack false) ts)
+    case-pair x y (eqb lones 0) (endsOfOneEdge x y) (any (turnsBack true) ts) (any (turnsBack false) ts)
 vertex-case ts lones (x ∷ y ∷ z ∷ l) =
     sym (ends-many (any (turnsBack true) ts) (any (turnsBack false) ts) lones (endsOf (x ∷ y ∷ z ∷ l)) (λ e. omega arith) (λ e. omega arith))
 

@@ -1,8 +1,8 @@
 -- Which case of 0E holds, by the numbers that the readers give. Definitions only.
 use Prim.Native.Nat.{ℕ}
-use mathlib.Core.Bool.{Bool, not, _&&_, _||_, cond, Bool·beq}
+use mathlib.Core.Bool.{Bool, not, _&&_, cond, Bool·beq}
 use lib.Dec.{eqb}
-use Rattle.complex.specs.Uncut.{Uncut, refused, lonely, loop, joint, twoFaces, oneCycle, rings}
+use Rattle.complex.specs.Uncut.{Uncut, refused, lonely, loop, joint, twoFaces, oneCycle, rings, endsOfOneEdge}
 use Rattle.uncut_case.specs.Found.{useOf}
 use Rattle.uncut_case.specs.declared.Ends.{Ends}
 use Rattle.uncut_case.specs.declared.Use.{Use}
@@ -25,8 +25,9 @@ vertexCase (rings u w) = Refused
 -- two ends x; some passage turns back by the whole end, by the edge
 abbrev pub pairCase : Bool → Bool → Ends → AtVertex
 pairCase whole edge x =
-    cond (eqb (x .one) (x .two) && Bool·beq (not (x .back1)) (x .back2)) (cond whole Refused (Loop (x .one)))
-    (cond (eqb (x .one) (x .two) || edge) Refused (Joint (x .one) (x .back1) (x .two) (x .back2)))
+    cond (endsOfOneEdge (record { edge = x .one; backward = x .back1 }) (record { edge = x .two; backward = x .back2 }))
+    (cond whole Refused (Loop (x .one)))
+    (cond edge Refused (Joint (x .one) (x .back1) (x .two) (x .back2)))
 
 -- the ends x, and so many lone cycles
 abbrev pub endsCase : Bool → Bool → ℕ → Ends → AtVertex

@@ -5,6 +5,7 @@ ghost use mathlib.Core.Bool.{true, false, not, Bool·beq};
 ghost use mathlib.Core.List.{_∷_, [], map};
 ghost use Rattle.complex.specs.Lists.{any, consIf, total};
 ghost use Rattle.complex.specs.Cells.{stepsOf};
+ghost use Rattle.complex.specs.Uncut.{endsOfOneEdge};
 ghost use Rattle.complex.specs.Uses.{passage, passages, loneUse, stepUses, cycleUses};
 ghost use Rattle.store.specs.View.{halfedgeOf, width, widthSum, cycleOf, cyclesOf};
 ghost use Rattle.sound.specs.Rows.{rowsOf};
@@ -319,6 +320,16 @@ fn opposite(p: bool, q: bool) -> bool
     q
 }
 
+// Whether two ends are those of one edge.
+fn one_edge(a: u32, back1: bool, b: u32, back2: bool) -> bool
+    ensures { λ r. ⌜ r ≡ endsOfOneEdge (record { edge = a; backward = back1 }) (record { edge = b; backward = back2 }) ⌝ }
+{
+    if a == b {
+        return opposite(back1, back2);
+    }
+    false
+}
+
 // The case of two ends.
 fn pair_case(
     ids: &[u32; 256],
@@ -341,14 +352,11 @@ fn pair_case(
 {
     let a = x.one;
     let b = x.two;
-    if a == b {
-        if opposite(x.back1, x.back2) {
-            if turns(ids, kinds, starts, ends, n, true, cycles, m, steps, v) {
-                return AtVertex::Refused;
-            }
-            return AtVertex::Loop(a);
+    if one_edge(a, x.back1, b, x.back2) {
+        if turns(ids, kinds, starts, ends, n, true, cycles, m, steps, v) {
+            return AtVertex::Refused;
         }
-        return AtVertex::Refused;
+        return AtVertex::Loop(a);
     }
     if turns(ids, kinds, starts, ends, n, false, cycles, m, steps, v) {
         return AtVertex::Refused;

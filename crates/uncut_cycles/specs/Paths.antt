@@ -5,6 +5,7 @@ use mathlib.Core.List.{List, _++_, map}
 use lib.ListN.{length, take, drop, getD, set}
 use Rattle.complex.specs.Lists.{total, one, without, distance}
 use Rattle.complex.specs.Cells.{Halfedge, Cycle}
+use Rattle.complex.specs.Edits.{cycleReplaced, withoutCycle}
 use Rattle.complex.specs.Sound.{cyclesMost, stepsMost, stepCount}
 use Rattle.complex.specs.Cut.{noCycle, stretch}
 use Rattle.complex.specs.Uncut.{pathOr}
@@ -86,7 +87,8 @@ followingIn n hs = drop (suc n) hs ++ take n hs
 -- two faces become one along the step s of p and the step t of q
 abbrev pub mergedList : List ℕ → List ℕ → Place → ℕ → Place → ℕ → ℕ → List Cycle
 mergedList cycles steps p s q t v =
-    set (listAt cycles steps p) (p .cycle) (pathOr v (followingIn s (stepsAt steps p) ++ followingIn t (stepsAt steps q))) ++ without (one (q .cycle)) 0 (listAt cycles steps q)
+    cycleReplaced (p .cycle) (pathOr v (followingIn s (stepsAt steps p) ++ followingIn t (stepsAt steps q))) (listAt cycles steps p)
+    ++ withoutCycle (q .cycle) (listAt cycles steps q)
 
 pub record Merging (cycles steps : List ℕ) (p : Place) (s : ℕ) (q : Place) (t v : ℕ) : Type 0 where
   pub first : Lies cycles steps p
@@ -98,7 +100,8 @@ pub record Merging (cycles steps : List ℕ) (p : Place) (s : ℕ) (q : Place) (
 -- a cycle becomes two, from its step s up to t and from t up to s
 abbrev pub partedList : List ℕ → List ℕ → Place → ℕ → ℕ → ℕ → ℕ → List Cycle
 partedList cycles steps p s t v w =
-    set (listAt cycles steps p) (p .cycle) (pathOr v (stretch (suc s) t (stepsAt steps p))) ++ one (pathOr w (stretch (suc t) s (stepsAt steps p)))
+    cycleReplaced (p .cycle) (pathOr v (stretch (suc s) t (stepsAt steps p))) (listAt cycles steps p)
+    ++ one (pathOr w (stretch (suc t) s (stepsAt steps p)))
 
 pub record Parting (cycles steps : List ℕ) (p : Place) (s t v w : ℕ) : Type 0 where
   pub first : Lies cycles steps p
@@ -108,7 +111,7 @@ pub record Parting (cycles steps : List ℕ) (p : Place) (s t v w : ℕ) : Type 
 
 -- two faces become one without a cycle of each
 abbrev pub ringedList : List ℕ → List ℕ → Place → Place → List Cycle
-ringedList cycles steps p q = without (one (p .cycle)) 0 (listAt cycles steps p) ++ without (one (q .cycle)) 0 (listAt cycles steps q)
+ringedList cycles steps p q = withoutCycle (p .cycle) (listAt cycles steps p) ++ withoutCycle (q .cycle) (listAt cycles steps q)
 
 pub record Ringing (cycles steps : List ℕ) (p q : Place) : Type 0 where
   pub first : Lies cycles steps p

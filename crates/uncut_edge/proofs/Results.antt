@@ -10,7 +10,7 @@ use lib.Dec.{T, eqb}
 use lib.ListN.{length, getD, set}
 use Rattle.complex.specs.Lists.{one, without}
 use Rattle.complex.specs.Cells.{Cycle, Figure, face, LiveCell, Sheet, someIf, lookup, cellAt, cyclesOf, stepsOf, isEdge}
-use Rattle.complex.specs.Edits.{others, both, replaced, rebuild}
+use Rattle.complex.specs.Edits.{others, neither, replaced, rebuild}
 use Rattle.complex.specs.Sound.{cyclesIn, stepsIn, over}
 use Rattle.complex.specs.Cut.{noCycle, stretch}
 use Rattle.complex.specs.Uncut.{twoFaces, oneCycle, rings, uncutResult, pathOr}
@@ -81,16 +81,16 @@ module _ (d : Drawing) (z : Sizes d) (ix : Index) (e : ℕ) (u w : Use) (t : T (
   pub has-second : Has d ix (w .face) (w .cycle)
   has-second = has d z ix e t x (a .edge) w (a .second)
 
-  first-stays : both e (w .face) (u .face) ≡ true
+  first-stays : neither e (w .face) (u .face) ≡ true
   first-stays = stays-with (sheetOf d) e (a .edge) (useAt e u) (a .first) (w .face) (λ q. a .apart (sym q))
 
-  module _ (ks : List Cycle) (r : Roomy (rebuild (both e (w .face)) (replaced (u .face) (face ks)) [] (sheetOf d))) where
+  module _ (ks : List Cycle) (r : Roomy (rebuild (neither e (w .face)) (replaced (u .face) (face ks)) [] (sheetOf d))) where
     pub apart-few : Few ks
-    apart-few = few-in (both e (w .face)) (u .face) ks (sheetOf d) first-stays (face (cyclesOf (cellAt (sheetOf d) (u .face)))) (a .first .0) r
+    apart-few = few-in (neither e (w .face)) (u .face) ks (sheetOf d) first-stays (face (cyclesOf (cellAt (sheetOf d) (u .face)))) (a .first .0) r
 
     module _ {counts : List ℕ} {v : Taken} {steps : List ℕ} (b : Built ks counts v steps) where
-      pub apart-with : rebuild (both e (w .face)) (replaced (u .face) (face (built counts v steps))) [] (sheetOf d) ≡ rebuild (both e (w .face)) (replaced (u .face) (face ks)) [] (sheetOf d)
-      apart-with = ap (λ (l : List Cycle). rebuild (both e (w .face)) (replaced (u .face) (face l)) [] (sheetOf d)) (b .list)
+      pub apart-with : rebuild (neither e (w .face)) (replaced (u .face) (face (built counts v steps))) [] (sheetOf d) ≡ rebuild (neither e (w .face)) (replaced (u .face) (face ks)) [] (sheetOf d)
+      apart-with = ap (λ (l : List Cycle). rebuild (neither e (w .face)) (replaced (u .face) (face l)) [] (sheetOf d)) (b .list)
 
       pub apart-going : Going d ix e (w .face) (u .face) counts v steps
       apart-going =
@@ -147,7 +147,7 @@ module _ (d : Drawing) (z : Sizes d) (ix : Index) (e : ℕ) (u w : Use) (c : Cas
     pub joined-going : Going d ix e (w .face) (u .face) counts t steps
     joined-going = apart-going d z ix e u w (c .sound) (c .index) two joined-list (c .room) b
 
-    pub joined-result : (s : Sheet) → s ≡ rebuild (both e (w .face)) (replaced (u .face) (face (built counts t steps))) [] (sheetOf d) → s ≡ uncutResult (sheetOf d) e (twoFaces (useAt e u) (useAt e w))
+    pub joined-result : (s : Sheet) → s ≡ rebuild (neither e (w .face)) (replaced (u .face) (face (built counts t steps))) [] (sheetOf d) → s ≡ uncutResult (sheetOf d) e (twoFaces (useAt e u) (useAt e w))
     joined-result s q = q ∙ apart-with d z ix e u w (c .sound) (c .index) two joined-list (c .room) b
 
 -- ---- an open edge with both steps in one cycle
@@ -164,11 +164,11 @@ module _ (d : Drawing) (z : Sizes d) (ix : Index) (e : ℕ) (u w : Use) (c : Cas
   pub parted-has : Has d ix (u .face) (u .cycle)
   parted-has = has d z ix e (c .sound) (c .index) (one-of .edge) u (one-of .first)
 
-  alone-stays : both e e (u .face) ≡ true
+  alone-stays : neither e e (u .face) ≡ true
   alone-stays = stays-alone (sheetOf d) e (one-of .edge) (useAt e u) (one-of .first)
 
   -- the edge goes, named twice or once
-  once : (f : ℕ → Figure → Figure) → rebuild (both e e) f [] (sheetOf d) ≡ rebuild (others e) f [] (sheetOf d)
+  once : (f : ℕ → Figure → Figure) → rebuild (neither e e) f [] (sheetOf d) ≡ rebuild (others e) f [] (sheetOf d)
   once f = ap (λ (p : ℕ → Bool). rebuild p f [] (sheetOf d)) (λ i k. same-twice (others e k) i)
     where
       same-twice : (b : Bool) → b && b ≡ b
@@ -197,7 +197,7 @@ module _ (d : Drawing) (z : Sizes d) (ix : Index) (e : ℕ) (u w : Use) (c : Cas
           there = step-in d z ix e (c .sound) (c .index) (one-of .edge) w (one-of .second) p gw;
           room =
               subst Few (sym parted-is)
-              (few-in (both e e) (u .face) parted-list (sheetOf d) alone-stays (face (cyclesOf (cellAt (sheetOf d) (u .face)))) (one-of .first .0)
+              (few-in (neither e e) (u .face) parted-list (sheetOf d) alone-stays (face (cyclesOf (cellAt (sheetOf d) (u .face)))) (one-of .first .0)
               (subst Roomy (sym (once (replaced (u .face) (face parted-list)))) (c .room)));
         }
 
@@ -205,7 +205,7 @@ module _ (d : Drawing) (z : Sizes d) (ix : Index) (e : ℕ) (u w : Use) (c : Cas
     parted-built {counts} {t} {steps} = built-as parted-is
 
   module _ {counts : List ℕ} {t : Taken} {steps : List ℕ} (b : Built parted-list counts t steps) where
-    parted-with : rebuild (both e e) (replaced (u .face) (face (built counts t steps))) [] (sheetOf d) ≡ uncutResult (sheetOf d) e (oneCycle (useAt e u) (useAt e w))
+    parted-with : rebuild (neither e e) (replaced (u .face) (face (built counts t steps))) [] (sheetOf d) ≡ uncutResult (sheetOf d) e (oneCycle (useAt e u) (useAt e w))
     parted-with = once (replaced (u .face) (face (built counts t steps))) ∙ ap (λ (ks : List Cycle). rebuild (others e) (replaced (u .face) (face ks)) [] (sheetOf d)) (b .list)
 
     pub parted-going : Going d ix e e (u .face) counts t steps
@@ -221,7 +221,7 @@ module _ (d : Drawing) (z : Sizes d) (ix : Index) (e : ℕ) (u w : Use) (c : Cas
           face = face-of (sheetOf d) e (one-of .edge) (useAt e u) (one-of .first);
         }
 
-    pub parted-result : (s : Sheet) → s ≡ rebuild (both e e) (replaced (u .face) (face (built counts t steps))) [] (sheetOf d) → s ≡ uncutResult (sheetOf d) e (oneCycle (useAt e u) (useAt e w))
+    pub parted-result : (s : Sheet) → s ≡ rebuild (neither e e) (replaced (u .face) (face (built counts t steps))) [] (sheetOf d) → s ≡ uncutResult (sheetOf d) e (oneCycle (useAt e u) (useAt e w))
     parted-result s q = q ∙ parted-with
 
 -- ---- a closed edge between two faces
@@ -252,5 +252,5 @@ module _ (d : Drawing) (z : Sizes d) (ix : Index) (e : ℕ) (u w : Use) (c : Cas
     pub ringless-going : Going d ix e (w .face) (u .face) counts t steps
     ringless-going = apart-going d z ix e u w (c .sound) (c .index) ring ringless-list (c .room) b
 
-    pub ringless-result : (s : Sheet) → s ≡ rebuild (both e (w .face)) (replaced (u .face) (face (built counts t steps))) [] (sheetOf d) → s ≡ uncutResult (sheetOf d) e (rings (useAt e u) (useAt e w))
+    pub ringless-result : (s : Sheet) → s ≡ rebuild (neither e (w .face)) (replaced (u .face) (face (built counts t steps))) [] (sheetOf d) → s ≡ uncutResult (sheetOf d) e (rings (useAt e u) (useAt e w))
     ringless-result s q = q ∙ apart-with d z ix e u w (c .sound) (c .index) ring ringless-list (c .room) b

@@ -8,7 +8,7 @@ use borrow.Author.Tests.{ne-eqb}
 use lib.Dec.{T}
 use lib.ListN.{length, getD}
 use Rattle.complex.specs.Cells.{Figure, vertex, openEdge, closedEdge, face, Sheet, cellAt, cyclesOf, stepsOf, isEdge, isFace, isLive}
-use Rattle.complex.specs.Edits.{both}
+use Rattle.complex.specs.Edits.{neither}
 use Rattle.complex.specs.Uses.{Use as Used}
 use Rattle.complex.specs.Cut.{noCycle}
 use Rattle.complex.specs.Uncut.{Uncut, refused, lonely, loop, joint, twoFaces, oneCycle, rings, uncutCase, allowed}
@@ -90,8 +90,8 @@ module _ (s : Sheet) (e : ℕ) (t : T (isEdge (cellAt s e))) where
     other-cell q = edge-no-face (cellAt s e) t (ap (λ (i : ℕ). isFace (cellAt s i)) q ∙ face-of)
 
     -- the face stays where the edge goes, alone or with another
-    pub stays-alone : both e e (u .face) ≡ true
+    pub stays-alone : neither e e (u .face) ≡ true
     stays-alone = ap₂ (λ (x y : Bool). not x && not y) (ne-eqb e (u .face) other-cell) (ne-eqb e (u .face) other-cell)
 
-    pub stays-with : (g : ℕ) → (g ≡ u .face → ⊥) → both e g (u .face) ≡ true
+    pub stays-with : (g : ℕ) → (g ≡ u .face → ⊥) → neither e g (u .face) ≡ true
     stays-with g n = ap₂ (λ (x y : Bool). not x && not y) (ne-eqb e (u .face) other-cell) (ne-eqb g (u .face) n)

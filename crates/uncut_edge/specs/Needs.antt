@@ -4,13 +4,13 @@ use mathlib.Core.Path.{_≡_}
 use mathlib.Core.Bool.{Bool, true, cond}
 use mathlib.Core.List.{List, [], _++_}
 use lib.Dec.{T}
-use lib.ListN.{length, getD, set, take}
-use Rattle.complex.specs.Lists.{one, without}
-use Rattle.complex.specs.Cells.{Cycle, face, Look, cellAt, cyclesOf, stepsOf, isLive, isFace, headOf}
-use Rattle.complex.specs.Edits.{both, replaced, rebuild}
+use lib.ListN.{length, getD, take}
+use Rattle.complex.specs.Lists.{one}
+use Rattle.complex.specs.Cells.{Cycle, face, Look, cellAt, cyclesOf, stepsOf, isLive, isFace}
+use Rattle.complex.specs.Edits.{neither, replaced, cycleReplaced, withoutCycle, rebuild}
 use Rattle.complex.specs.Uses.{Use as Used}
 use Rattle.complex.specs.Cut.{noCycle}
-use Rattle.complex.specs.Uncut.{Uncut, uncutCase, uncutResult, pathOr, following, followingTo}
+use Rattle.complex.specs.Uncut.{Uncut, uncutCase, uncutResult, faceCycles, leftAfter, following, followingTo}
 use Rattle.store.specs.declared.Drawing.{Drawing}
 use Rattle.store.specs.declared.Index.{Index}
 use Rattle.store.specs.Index.{Indexes, valueAt}
@@ -35,14 +35,16 @@ headIn ix n e back = cond back (valueAt 0 (take n (ix .ids)) (take n (ix .starts
 -- ---- the cycles of the face that stays
 abbrev pub joinedCycles : Look → Used → Used → List Cycle
 joinedCycles look u w =
-    set (cyclesOf (look (u .face))) (u .cycle) (pathOr (headOf look (u .halfedge)) (following look u ++ following look w)) ++ without (one (w .cycle)) 0 (cyclesOf (look (w .face)))
+    cycleReplaced (u .cycle) (leftAfter look u (following look u ++ following look w)) (faceCycles look u)
+    ++ withoutCycle (w .cycle) (faceCycles look w)
 
 abbrev pub partedCycles : Look → Used → Used → List Cycle
 partedCycles look u w =
-    set (cyclesOf (look (u .face))) (u .cycle) (pathOr (headOf look (u .halfedge)) (followingTo look u w)) ++ one (pathOr (headOf look (w .halfedge)) (followingTo look w u))
+    cycleReplaced (u .cycle) (leftAfter look u (followingTo look u w)) (faceCycles look u)
+    ++ one (leftAfter look w (followingTo look w u))
 
 abbrev pub ringlessCycles : Look → Used → Used → List Cycle
-ringlessCycles look u w = without (one (u .cycle)) 0 (cyclesOf (look (u .face))) ++ without (one (w .cycle)) 0 (cyclesOf (look (w .face)))
+ringlessCycles look u w = withoutCycle (u .cycle) (faceCycles look u) ++ withoutCycle (w .cycle) (faceCycles look w)
 
 -- ---- what is needed
 -- the case of e in a sound drawing is k, and there is room for its result
@@ -83,6 +85,6 @@ pub record Going (d : Drawing) (ix : Index) (i j f : ℕ) (counts : List ℕ) (u
   pub first : isLive (cellAt (sheetOf d) i) ≡ true
   pub second : isLive (cellAt (sheetOf d) j) ≡ true
   pub building : Building counts u steps
-  pub stays : both i j f ≡ true
-  pub room : Roomy (rebuild (both i j) (replaced f (face (built counts u steps))) [] (sheetOf d))
+  pub stays : neither i j f ≡ true
+  pub room : Roomy (rebuild (neither i j) (replaced f (face (built counts u steps))) [] (sheetOf d))
   pub face : isFace (cellAt (sheetOf d) f) ≡ true

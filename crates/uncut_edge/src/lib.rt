@@ -2,7 +2,7 @@ ghost use mathlib.Core.Path.{_≡_};
 ghost use mathlib.Core.List.{[]};
 ghost use lib.Dec.{T};
 ghost use Rattle.complex.specs.Cells.{face, cellAt};
-ghost use Rattle.complex.specs.Edits.{both, replaced, rebuild};
+ghost use Rattle.complex.specs.Edits.{neither, replaced, rebuild};
 ghost use Rattle.complex.specs.Decode.{uncut};
 ghost use Rattle.complex.specs.Uncut.{uncutCase, uncutResult, twoFaces, oneCycle, rings};
 ghost use Rattle.store.specs.View.{sheetOf, Fits};
@@ -54,7 +54,7 @@ fn head_of(ix: Index, n: usize, e: u32, back: bool) -> u32
 // The cells i and j go, and the face f gets the cycles of a list.
 fn without_cells(d: Drawing, ix: Index, i: u32, j: u32, f: u32, l: Listed) -> Drawing
     requires { ⌜ Going d ix i j f (l .counts) (l .used) (l .steps) ⌝ }
-    ensures { λ r. ⌜ sheetOf r ≡ rebuild (both i j) (replaced f (face (built (l .counts) (l .used) (l .steps)))) [] (sheetOf d) ⌝ }
+    ensures { λ r. ⌜ sheetOf r ≡ rebuild (neither i j) (replaced f (face (built (l .counts) (l .used) (l .steps)))) [] (sheetOf d) ⌝ }
     ensures { λ r. ⌜ Fits r ⌝ }
 {
     let ids = ix.ids;

@@ -13,7 +13,7 @@ use Rattle.coordinate.specs.declared.Position.{Position}
 use Rattle.complex.specs.Lists.{total, one, without}
 use Rattle.complex.specs.Cells.{Cycle, vertex, face, Sheet, cellAt, ids, isFace, isLive}
 use Rattle.complex.specs.Cells as cells
-use Rattle.complex.specs.Edits.{rebuild, both, replaced}
+use Rattle.complex.specs.Edits.{rebuild, neither, replaced}
 use Rattle.complex.specs.Sound.{idsEnd, cellsMost, cyclesMost, stepsMost, bendsMost}
 use Rattle.answer.specs.Sizes.{sized, sizesFit, moreLess, changedBy}
 use Rattle.complex.specs.Decode.{uncut}
@@ -100,8 +100,8 @@ module _ (d : Drawing) (z : Sizes d) (w : T (soundDrawing d)) (v : ℕ) (e : unc
         pub a-face : isFace (cellAt (sheetOf d) f) ≡ true
         a-face = ap (λ (i : ℕ). isFace (cellAt (sheetOf d) i)) (sym f-is) ∙ lonely-face (sheetOf d) v h o
 
-        pub it-stays : both v v f ≡ true
-        it-stays = ap (both v v) (sym f-is) ∙ lonely-stays (sheetOf d) v h o (parts .0) (parts .1)
+        pub it-stays : neither v v f ≡ true
+        it-stays = ap (neither v v) (sym f-is) ∙ lonely-stays (sheetOf d) v h o (parts .0) (parts .1)
 
         pub named : Named d ix f
         named = named-in d z w ix x f a-face
@@ -118,10 +118,10 @@ module _ (d : Drawing) (z : Sizes d) (w : T (soundDrawing d)) (v : ℕ) (e : unc
               omega arith
 
           -- ---- the result
-          pub refaced : (ks : List Cycle) → ks ≡ without (one (h .place)) 0 (cyclesAt (d .cycles) (d .steps) t) → uncutResult (sheetOf d) v lonely ≡ rebuild (both v v) (replaced f (face ks)) [] (sheetOf d)
+          pub refaced : (ks : List Cycle) → ks ≡ without (one (h .place)) 0 (cyclesAt (d .cycles) (d .steps) t) → uncutResult (sheetOf d) v lonely ≡ rebuild (neither v v) (replaced f (face ks)) [] (sheetOf d)
           refaced ks q =
               lonely-refaced (sheetOf d) v h o
-              ∙ ap₂ (λ (i : ℕ) (l : List Cycle). rebuild (both v v) (replaced i (face l)) [] (sheetOf d)) f-is (sym (q ∙ ap (without (one (h .place)) 0) (s .list ∙ cycles-of)))
+              ∙ ap₂ (λ (i : ℕ) (l : List Cycle). rebuild (neither v v) (replaced i (face l)) [] (sheetOf d)) f-is (sym (q ∙ ap (without (one (h .place)) 0) (s .list ∙ cycles-of)))
 
     -- ---- questions 7 and 8 get a yes
     pub asked : Asked d z w (uncut v) 0
@@ -148,7 +148,7 @@ module _ (d : Drawing) (z : Sizes d) (w : T (soundDrawing d)) (v : ℕ) (e : unc
             ap₂ _&&_ (le-leb (a + 0 - 1) cellsMost (omega arith))
             (ap₂ _&&_ (le-leb (b + 0 - 1) cyclesMost (omega arith)) (ap₂ _&&_ (le-leb (k + 0 - 1) stepsMost (omega arith)) (le-leb (c + 0 - 0) bendsMost (omega arith))))
 
-    pub roomed : (f : ℕ) (ks : List Cycle) → uncutResult (sheetOf d) v lonely ≡ rebuild (both v v) (replaced f (face ks)) [] (sheetOf d) → Roomy (rebuild (both v v) (replaced f (face ks)) [] (sheetOf d))
+    pub roomed : (f : ℕ) (ks : List Cycle) → uncutResult (sheetOf d) v lonely ≡ rebuild (neither v v) (replaced f (face ks)) [] (sheetOf d) → Roomy (rebuild (neither v v) (replaced f (face ks)) [] (sheetOf d))
     roomed f ks q =
         let g = replaced f (face ks) in
-        subst Roomy (remade-rebuild (both v v) g (sheetOf d)) (roomy (remade (both v v) g (sheetOf d)) [] (room d z w (uncut v) 0 asked refl (both v v) g [] (uncut-result (sheetOf d) v lonely e ∙ q)))
+        subst Roomy (remade-rebuild (neither v v) g (sheetOf d)) (roomy (remade (neither v v) g (sheetOf d)) [] (room d z w (uncut v) 0 asked refl (neither v v) g [] (uncut-result (sheetOf d) v lonely e ∙ q)))

@@ -11,7 +11,7 @@ use borrow.Author.Tests.{eq-eqb, ne-eqb, eqb-true, eqb-false, lt-ltb, le-ltb}
 use Rattle.complex.specs.Lists.{consIf, filter, total, one, rising, without}
 use Rattle.coordinate.specs.declared.Position.{Position}
 use Rattle.complex.specs.Cells.{Cycle, lone, path, Figure, vertex, openEdge, closedEdge, face, LiveCell, Sheet, lookup, cellAt, someIf, ids, cyclesOf, isFace}
-use Rattle.complex.specs.Edits.{keepIds, reshape, rebuild, others, both, replaced}
+use Rattle.complex.specs.Edits.{keepIds, reshape, rebuild, others, neither, replaced}
 use Rattle.complex.specs.Uses.{loneUse, usesBy, allCycles}
 use Rattle.complex.specs.Uncut.{isLone, withoutLone, lonely, uncutResult}
 use Rattle.complex.proofs.Bools.{both as parts}
@@ -204,7 +204,7 @@ twice : (b : Bool) → b ≡ b && b
 twice true = refl
 twice false = refl
 
-keep-twice : (v : ℕ) (cs : List LiveCell) → keepIds (others v) cs ≡ keepIds (both v v) cs
+keep-twice : (v : ℕ) (cs : List LiveCell) → keepIds (others v) cs ≡ keepIds (neither v v) cs
 keep-twice v [] = refl
 keep-twice v (c ∷ cs) = ap₂ (λ (b : Bool) (l : List LiveCell). consIf b c l) (twice (others v (c .id))) (keep-twice v cs)
 
@@ -212,13 +212,13 @@ module _ (s : Sheet) (v : ℕ) (h : Held) (o : Found v 0 (s .cells) h) where
   abbrev pub faceOf : ℕ
   faceOf = getD (ids (s .cells)) (h .row) 0
 
-  pub lonely-refaced : uncutResult s v lonely ≡ rebuild (both v v) (replaced faceOf (face (without (one (h .place)) 0 (o .cycles)))) [] s
-  lonely-refaced = ap (λ (l : List LiveCell). record { next = s .next + 0; cells = l ++ [] }) (ap (reshape (withoutLone v)) (keep-twice v (s .cells)) ∙ o .cells (both v v))
+  pub lonely-refaced : uncutResult s v lonely ≡ rebuild (neither v v) (replaced faceOf (face (without (one (h .place)) 0 (o .cycles)))) [] s
+  lonely-refaced = ap (λ (l : List LiveCell). record { next = s .next + 0; cells = l ++ [] }) (ap (reshape (withoutLone v)) (keep-twice v (s .cells)) ∙ o .cells (neither v v))
 
   pub lonely-face : isFace (cellAt s faceOf) ≡ true
   lonely-face = ap isFace (o .figure)
 
-  pub lonely-stays : (p : Position) → cellAt s v ≡ some (vertex p) → both v v faceOf ≡ true
+  pub lonely-stays : (p : Position) → cellAt s v ≡ some (vertex p) → neither v v faceOf ≡ true
   lonely-stays p at = ap (λ (b : Bool). not b && not b) (ne-eqb v faceOf apart)
     where
       apart : v ≡ faceOf → ⊥

@@ -10,7 +10,7 @@ use Rattle.coordinate.specs.declared.Position.{Position}
 use Rattle.complex.specs.Lists.{total}
 use Rattle.complex.specs.Cells.{openEdge, closedEdge, Sheet, cellAt, isLive, bendsOf, positionOf}
 use Rattle.complex.specs.Sound.{idsEnd, ceilings}
-use Rattle.complex.specs.Edits.{both, rewired, sameVertex, inPlaceOf, rebuild}
+use Rattle.complex.specs.Edits.{neither, noneOf, rewired, sameVertex, inPlaceOf, rebuild}
 use Rattle.complex.specs.Uses.{stepUse}
 use Rattle.complex.specs.Decode.{uncut}
 use Rattle.answer.specs.Sizes.{sized, moreLess, changedBy, newByUncut, uncutChange}
@@ -41,7 +41,7 @@ use Rattle.outline.proofs.Late.{sound-in, Asked, room}
 use Rattle.uncut_case.proofs.Passing.{uncut-passed, uncut-result}
 use Rattle.answer.proofs.SizesUncut.{uncut-new, uncut-change}
 use Rattle.uncut_vertex.specs.declared.Side.{Side}
-use Rattle.uncut_vertex.specs.Needs.{Pair, Triple, allBut, Looped, Merged, leaving, Sided, jointRuns, Joint}
+use Rattle.uncut_vertex.specs.Needs.{Pair, Triple, Looped, Merged, leaving, Sided, jointRuns, Joint}
 use Rattle.uncut_vertex.proofs.Joining.{pair-bends, joined-back, joined-forth, joint-back, joint-forth}
 use Rattle.uncut_vertex.proofs.Told.{AtLoop, AtJoint, loop-told, joint-told, vertex-live, first-live, second-live, second-open, joint-real}
 
@@ -123,15 +123,15 @@ module _ (d : Drawing) (z : Sizes d) (w : T (soundDrawing d)) (v e : ℕ) (h : u
         begin = began d z w ix x e b eb le first ef;
         count = counted d z w ix x e b eb le m em;
         room =
-            subst (λ (o : Position). RoomIn (remade (both v e) f s) (closedEdge (o ∷ bendsOf (cellAt s e)) ∷ [])) q
-            (room d z w (uncut v) r k y (both v e) f (closedEdge (positionOf (cellAt s v) ∷ bendsOf (cellAt s e)) ∷ []) (uncut-result s v (loop e) h));
+            subst (λ (o : Position). RoomIn (remade (neither v e) f s) (closedEdge (o ∷ bendsOf (cellAt s e)) ∷ [])) q
+            (room d z w (uncut v) r k y (neither v e) f (closedEdge (positionOf (cellAt s v) ∷ bendsOf (cellAt s e)) ∷ []) (uncut-result s v (loop e) h));
       }
 
 -- ---- one end each of the edges x and y
 -- the edge of both
 edge-made : (d : Drawing) → Sizes d → (v a x y : ℕ) (p : Position) → positionOf (cellAt (sheetOf d) v) ≡ p → (back1 back2 : Bool) (s t : Side) → Triple d v a x (s .row) y (t .row) → Sided d x back1 s → Sided d y back2 t
     → (start end : ℕ) → start ≡ cond back1 (s .far) (t .far) → end ≡ cond back1 (t .far) (s .far) → (r : Runs) → r ≡ jointRuns p s back1 t back2
-    → rebuild (allBut v x y) (rewired sameVertex (inOne x y (sheetOf d .next))) (openEdge start end (runsOf (d .bends) r) ∷ []) (sheetOf d) ≡ uncutResult (sheetOf d) v (joint (leaving x back1) (leaving y back2))
+    → rebuild (noneOf v x y) (rewired sameVertex (inOne x y (sheetOf d .next))) (openEdge start end (runsOf (d .bends) r) ∷ []) (sheetOf d) ≡ uncutResult (sheetOf d) v (joint (leaving x back1) (leaving y back2))
 edge-made d z v a x y p q true back2 s t w es et start end e1 e2 r er =
     joint-back (sheetOf d) v (leaving x true) (leaving y back2) p q start end (runsOf (d .bends) r) refl (e1 ∙ es .far) (e2 ∙ et .far)
     (ap (runsOf (d .bends)) er ∙ joined-back d z v a x (s .row) y (t .row) w p back2 (s .first) (s .count) (t .first) (t .count) (es .first) (es .count) (et .first) (et .count))
@@ -179,7 +179,7 @@ module _ (d : Drawing) (z : Sizes d) (ix : Index) (v x : ℕ) (back1 : Bool) (y 
           thirdIn = et .rowIn;
         }
 
-    pub joint-made : rebuild (allBut v x y) (rewired sameVertex (inOne x y (sheetOf d .next))) (openEdge start end (runsOf (d .bends) r) ∷ []) (sheetOf d) ≡ uncutResult (sheetOf d) v (joint (leaving x back1) (leaving y back2))
+    pub joint-made : rebuild (noneOf v x y) (rewired sameVertex (inOne x y (sheetOf d .next))) (openEdge start end (runsOf (d .bends) r) ∷ []) (sheetOf d) ≡ uncutResult (sheetOf d) v (joint (leaving x back1) (leaving y back2))
     joint-made = edge-made d z v a x y p (placed d z (c .sound) ix (c .indexes) v a ea at-vertex p ep) back1 back2 s t triple es et start end e1 e2 r er
 
     pub joint-needs : Merged d v a x (s .row) y (t .row) start end r
@@ -215,5 +215,5 @@ module _ (d : Drawing) (z : Sizes d) (w : T (soundDrawing d)) (v x : ℕ) (back1
   pub joint-meets : (r : ℕ) → Asked d z w (uncut v) r → r ≡ 0 → (ix : Index) → Indexes d ix → Joint d ix v x back1 y back2
   joint-meets r k e ix i =
       let s = sheetOf d in
-      let f = room d z w (uncut v) r k e (allBut v x y) (rewired sameVertex (inOne x y (s .next))) (joined (cellAt s) (positionOf (cellAt s v)) (leaving x back1) (leaving y back2) ∷ []) (uncut-result s v (joint (leaving x back1) (leaving y back2)) h) in
+      let f = room d z w (uncut v) r k e (noneOf v x y) (rewired sameVertex (inOne x y (s .next))) (joined (cellAt s) (positionOf (cellAt s v)) (leaving x back1) (leaving y back2) ∷ []) (uncut-result s v (joint (leaving x back1) (leaving y back2)) h) in
       record { sound = w; indexes = i; holds = h; idsSuffice = f .ids; sizesHold = f .sizes }

@@ -8,7 +8,7 @@ use lib.ListN.{length, getD, take, set, replicate, length-map, length-replicate,
 use lib.Seq.{getD-take, length-take-le}
 use lib.Dec.{eqb}
 use Rattle.complex.specs.Cells.{Figure, LiveCell, Sheet, ids}
-use Rattle.complex.specs.Edits.{keepIds, reshape}
+use Rattle.complex.specs.Edits.{keepIds, noneOf, reshape}
 use Rattle.complex.proofs.Lookup.{ids-reshape}
 use Rattle.store.specs.declared.Drawing.{Drawing}
 use Rattle.store.specs.Index.{Rising, rowOf}
@@ -20,7 +20,7 @@ use Rattle.sound.proofs.Meaning.{sound-fits, sound-sheet, rising-is, sheet-risi
 use Rattle.append.specs.Appends.{remade}
 use Rattle.append.proofs.Appended.{keep-reshape}
 use Rattle.dropping.proofs.Dropped.{kept-by, marked-at, row-only}
-use Rattle.uncut_vertex.specs.Needs.{Triple, allBut}
+use Rattle.uncut_vertex.specs.Needs.{Triple}
 
 none-of : (x y z : Bool) → z || (y || (x || false)) ≡ not (not x && (not y && not z))
 none-of true true true = refl
@@ -33,7 +33,7 @@ none-of false false true = refl
 none-of false false false = refl
 
 pub kept-three : (cs : List LiveCell) → Rising (ids cs) → (i a j b k c n : ℕ) (dead : List Bool) → n ≡ length cs → n ≤ 256 → a ≡ rowOf i (ids cs) → a < n → b ≡ rowOf j (ids cs) → b < n → c ≡ rowOf k (ids cs) → c < n
-    → dead ≡ set (set (set (replicate 256 false) a true) b true) c true → kept (take n dead) cs ≡ keepIds (allBut i j k) cs
+    → dead ≡ set (set (set (replicate 256 false) a true) b true) c true → kept (take n dead) cs ≡ keepIds (noneOf i j k) cs
 kept-three cs r i a j b k c n dead en hn ea ha eb hb ec hc ed =
     let none = replicate 256 false in
     let l = length-map cs (λ (x : LiveCell). x .id) in
@@ -41,7 +41,7 @@ kept-three cs r i a j b k c n dead en hn ea ha eb hb ec hc ed =
     let l1 = length-set none a true in
     let l2 = length-set (set none a true) b true in
     let ld : length dead ≡ 256 = ap length ed ∙ length-set (set (set none a true) b true) c true ∙ l2 ∙ l1 ∙ l0 in
-    kept-by (allBut i j k) (take n dead) cs (let q = length-take-le n dead (omega arith) in omega arith)
+    kept-by (noneOf i j k) (take n dead) cs (let q = length-take-le n dead (omega arith) in omega arith)
     λ m h.
     getD-take n dead m false (omega arith)
     ∙ ap (λ (fs : List Bool). getD fs m false) ed
@@ -55,7 +55,7 @@ kept-three cs r i a j b k c n dead en hn ea ha eb hb ec hc ed =
 -- a drawing whose cells have changed by f, and then three cells go
 pub dropped-three : (d : Drawing) → Sizes d → (i a j b k c : ℕ) → Triple d i a j b k c → (f : ℕ → Figure → Figure) (mid : Drawing) → Sizes mid → Fits mid
     → sheetOf mid ≡ withEntries (sheetOf d) (reshape f (sheetOf d .cells)) → (dead : List Bool) → dead ≡ set (set (set (replicate 256 false) a true) b true) c true → (out : Drawing)
-    → sheetOf out ≡ withEntries (sheetOf mid) (kept (take (mid .count) dead) (sheetOf mid .cells)) → sheetOf out ≡ remade (allBut i j k) f (sheetOf d)
+    → sheetOf out ≡ withEntries (sheetOf mid) (kept (take (mid .count) dead) (sheetOf mid .cells)) → sheetOf out ≡ remade (noneOf i j k) f (sheetOf d)
 dropped-three d z i a j b k c t f mid zm gm em dead ed out eo =
     let cs = sheetOf d .cells in
     let ds = reshape f cs in
@@ -74,4 +74,4 @@ dropped-three d z i a j b k c t f mid zm gm em dead ed out eo =
     ∙ ap (λ (s : Sheet). withEntries s (kept (take (mid .count) dead) (s .cells))) em
     ∙ ap (withEntries (sheetOf d))
     (kept-three ds r i a j b k c (mid .count) dead ml (gm .cells) (p .first ∙ ap (rowOf i) (sym is)) (omega arith) (p .second ∙ ap (rowOf j) (sym is)) (omega arith) (t .third ∙ ap (rowOf k) (sym is)) (omega arith) ed
-    ∙ keep-reshape (allBut i j k) f cs)
+    ∙ keep-reshape (noneOf i j k) f cs)

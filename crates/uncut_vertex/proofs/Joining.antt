@@ -10,8 +10,8 @@ use lib.Dec.{T, leb, leb→le}
 use Rattle.coordinate.specs.declared.Position.{Position}
 use Rattle.complex.specs.Lists.{rising}
 use Rattle.complex.specs.Cells.{Halfedge, Figure, vertex, openEdge, closedEdge, face, Sheet, cellAt, bendsOf, startOf, endOf, headOf, positionOf, ids, origin}
-use Rattle.complex.specs.Edits.{both, rewired, sameVertex, inPlaceOf, rebuild}
-use Rattle.complex.specs.Sound.{idsEnd, sound, ceilings, figuresOk}
+use Rattle.complex.specs.Edits.{neither, noneOf, rewired, sameVertex, inPlaceOf, rebuild}
+use Rattle.complex.specs.Sound.{sound, idsEnd, ceilings, figuresOk}
 use Rattle.complex.specs.Uncut.{loop, joint, inOne, bendsAlong, uncutResult}
 use Rattle.complex.proofs.Bools.{both as twice}
 use Rattle.store.specs.declared.Drawing.{Drawing}
@@ -30,7 +30,7 @@ use Rattle.append.specs.Runs.{turn, run, runsOf}
 use Rattle.append.specs.Requirements.{RunsRoom}
 use Rattle.append.proofs.Rooms.{room-first}
 use Rattle.append.proofs.Copied.{row-bends, row-range, row-lookup}
-use Rattle.uncut_vertex.specs.Needs.{Pair, Triple, allBut, Looped, Merged}
+use Rattle.uncut_vertex.specs.Needs.{Pair, Triple, Looped, Merged}
 
 -- the next id is below the end of the ids
 pub next-most : (d : Drawing) → T (soundDrawing d) → d .next ≤ idsEnd
@@ -64,7 +64,7 @@ abbrev pub loopRuns : Position → ℕ → ℕ → Runs
 loopRuns p first m = record { first = 0; count = 0; turned = false; middle = true; at = p; first2 = first; count2 = m; turned2 = false }
 
 module _ (d : Drawing) (z : Sizes d) (v a e b : ℕ) (p : Position) (first m : ℕ) (w : Looped d v a e b p first m)
-    (mid : Drawing) (zm : Sizes mid) (fm : Fits mid) (eo : sheetOf mid ≡ remade (both v e) (rewired sameVertex (inPlaceOf e (sheetOf d .next) false)) (sheetOf d)) where
+    (mid : Drawing) (zm : Sizes mid) (fm : Fits mid) (eo : sheetOf mid ≡ remade (neither v e) (rewired sameVertex (inPlaceOf e (sheetOf d .next) false)) (sheetOf d)) where
   loop-bends : runsOf (d .bends) (loopRuns p first m) ≡ p ∷ bendsOf (cellAt (sheetOf d) e)
   loop-bends =
       let f = sound-fits d (w .pair .sound) in
@@ -87,18 +87,18 @@ module _ (d : Drawing) (z : Sizes d) (v a e b : ℕ) (p : Position) (first m : �
   loop-result out g =
       g
       ∙ ap₂ (λ (t : Sheet) (l : List Position). appended t (closedEdge l)) eo loop-bends
-      ∙ ap (λ (q : Position). appended (remade (both v e) (rewired sameVertex (inPlaceOf e (sheetOf d .next) false)) (sheetOf d)) (closedEdge (q ∷ bendsOf (cellAt (sheetOf d) e)))) (sym (w .place))
+      ∙ ap (λ (q : Position). appended (remade (neither v e) (rewired sameVertex (inPlaceOf e (sheetOf d .next) false)) (sheetOf d)) (closedEdge (q ∷ bendsOf (cellAt (sheetOf d) e)))) (sym (w .place))
 
 -- ---- two edges
 module _ (d : Drawing) (v a x b y c start end : ℕ) (r : Runs) (w : Merged d v a x b y c start end r)
-    (mid : Drawing) (zm : Sizes mid) (fm : Fits mid) (eo : sheetOf mid ≡ remade (allBut v x y) (rewired sameVertex (inOne x y (sheetOf d .next))) (sheetOf d)) where
+    (mid : Drawing) (zm : Sizes mid) (fm : Fits mid) (eo : sheetOf mid ≡ remade (noneOf v x y) (rewired sameVertex (inOne x y (sheetOf d .next))) (sheetOf d)) where
   pub merged-room : RunsRoom mid r (openEdge start end (runsOf (d .bends) r))
   merged-room =
       let t = openEdge start end (runsOf (d .bends) r) in
       record { room = room-first mid zm fm t [] (subst (λ (s : Sheet). RoomIn s (t ∷ [])) (sym eo) (w .room)); range = w .range }
 
   pub merged-result : (out : Drawing) → sheetOf out ≡ appended (sheetOf mid) (openEdge start end (runsOf (d .bends) r))
-      → sheetOf out ≡ rebuild (allBut v x y) (rewired sameVertex (inOne x y (sheetOf d .next))) (openEdge start end (runsOf (d .bends) r) ∷ []) (sheetOf d)
+      → sheetOf out ≡ rebuild (noneOf v x y) (rewired sameVertex (inOne x y (sheetOf d .next))) (openEdge start end (runsOf (d .bends) r) ∷ []) (sheetOf d)
   merged-result out g = g ∙ ap (λ (s : Sheet). appended s (openEdge start end (runsOf (d .bends) r))) eo
 
 turn-is : (b : Bool) (l : List Position) → turn b l ≡ cond b (reverse l) l
@@ -137,7 +137,7 @@ joined-forth d z v a x b y c t p back fx mx fy my ex hx ey hy =
 -- the edge of both is that of the definitions
 module _ (s : Sheet) (v : ℕ) (x y : Halfedge) (p : Position) (e : positionOf (cellAt s v) ≡ p) (start end : ℕ) (bs : List Position) where
   abbrev made : Figure → Sheet
-  made t = rebuild (allBut v (x .edge) (y .edge)) (rewired sameVertex (inOne (x .edge) (y .edge) (s .next))) (t ∷ []) s
+  made t = rebuild (noneOf v (x .edge) (y .edge)) (rewired sameVertex (inOne (x .edge) (y .edge) (s .next))) (t ∷ []) s
 
   open-is : (a b : ℕ) (cs : List Position) → start ≡ a → end ≡ b → bs ≡ cs → openEdge start end bs ≡ openEdge a b cs
   open-is a b cs f g h = λ i. openEdge (f i) (g i) (h i)

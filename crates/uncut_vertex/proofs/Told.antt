@@ -11,7 +11,7 @@ use Rattle.coordinate.specs.declared.Position.{Position}
 use Rattle.complex.specs.Lists.{any}
 use Rattle.complex.specs.Cells.{Halfedge, Figure, vertex, openEdge, closedEdge, face, LiveCell, Sheet, cellAt, lookup, isLive, isOpen, isFace, positionOf}
 use Rattle.complex.specs.Sound.{idsEnd, figureOk, ceilings}
-use Rattle.complex.specs.Edits.{reshape, rebuild, rewired, sameVertex}
+use Rattle.complex.specs.Edits.{noneOf, reshape, rebuild, rewired, sameVertex}
 use Rattle.complex.specs.Uses.{endsAt, Passage, passagesAt, loneUse, usesBy}
 use Rattle.complex.specs.Uncut.{Uncut, refused, lonely, loop, joint, twoFaces, oneCycle, rings, inOne, joined, uncutCase, uncutResult, allowed}
 use Rattle.complex.proofs.Bools.{truth, pair}
@@ -26,7 +26,6 @@ use Rattle.store.specs.Places.{cyclesIn, cyclesAt}
 use Rattle.store.proofs.Grow.{real-append}
 use Rattle.rewire.proofs.Asking.{cells-real}
 use Rattle.uncut_case.proofs.Passing.{uncut-passed}
-use Rattle.uncut_vertex.specs.Needs.{allBut}
 
 -- the vertex and the edge of a loop are live
 pub record AtLoop (s : Sheet) (v e : ℕ) : Type 0 where
@@ -117,13 +116,13 @@ module _ (s : Sheet) (S : Sound s) (v : ℕ) (x y : Halfedge) (m : AtJoint s v x
   second-live = open-live (cellAt s (y .edge)) second-open
 
   -- a face is none of the three
-  stays : (j : ℕ) → isFace (cellAt s j) ≡ true → allBut v (x .edge) (y .edge) j ≡ true
+  stays : (j : ℕ) → isFace (cellAt s j) ≡ true → noneOf v (x .edge) (y .edge) j ≡ true
   stays j f = rw (other v (ap isFace (m .at)), other (x .edge) (open-face (cellAt s (x .edge)) first-open), other (y .edge) (open-face (cellAt s (y .edge)) second-open))
     where
       other : (i : ℕ) → isFace (cellAt s i) ≡ false → eqb i j ≡ false
       other i g = ne-eqb i j (λ z. false≢true (sym g ∙ ap (λ (k : ℕ). isFace (cellAt s k)) z ∙ f))
 
-  bare : (j : ℕ) (t : Figure) → cellAt s j ≡ some t → allBut v (x .edge) (y .edge) j ≡ false → cyclesIn (rewired sameVertex (inOne (x .edge) (y .edge) (s .next)) j t) ≡ []
+  bare : (j : ℕ) (t : Figure) → cellAt s j ≡ some t → noneOf v (x .edge) (y .edge) j ≡ false → cyclesIn (rewired sameVertex (inOne (x .edge) (y .edge) (s .next)) j t) ≡ []
   bare j (vertex p) q e = refl
   bare j (openEdge a b bs) q e = refl
   bare j (closedEdge bs) q e = refl
@@ -131,4 +130,4 @@ module _ (s : Sheet) (S : Sound s) (v : ℕ) (x y : Halfedge) (m : AtJoint s v x
 
   -- no path is empty
   pub joint-real : T (leb (uncutResult s v (joint x y) .next) idsEnd) → T (ceilings (uncutResult s v (joint x y) .cells)) → allReal (spread cyclesAt (reshape (rewired sameVertex (inOne (x .edge) (y .edge) (s .next))) (s .cells))) ≡ true
-  joint-real seven eight = all-real s S (allBut v (x .edge) (y .edge)) (rewired sameVertex (inOne (x .edge) (y .edge) (s .next))) (joined (cellAt s) (positionOf (cellAt s v)) x y ∷ []) (joint-sound s S v (m .place) (m .at) x y (m .ends) (m .alone) (m .apart) (m .turnless) seven eight) bare
+  joint-real seven eight = all-real s S (noneOf v (x .edge) (y .edge)) (rewired sameVertex (inOne (x .edge) (y .edge) (s .next))) (joined (cellAt s) (positionOf (cellAt s v)) x y ∷ []) (joint-sound s S v (m .place) (m .at) x y (m .ends) (m .alone) (m .apart) (m .turnless) seven eight) bare

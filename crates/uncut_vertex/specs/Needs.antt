@@ -1,14 +1,14 @@
 -- What the results of 0E need of a drawing. Definitions only.
 use Prim.Native.Nat.{ℕ, _<_}
 use mathlib.Core.Path.{_≡_}
-use mathlib.Core.Bool.{Bool, true, false, not, _&&_}
+use mathlib.Core.Bool.{Bool, true, false, not}
 use mathlib.Core.List.{[], _∷_}
 use lib.ListN.{length, take}
 use lib.Dec.{T, leb}
 use Rattle.coordinate.specs.declared.Position.{Position}
 use Rattle.complex.specs.Cells.{Halfedge, openEdge, closedEdge, cellAt, bendsOf, positionOf, headOf, ids}
 use Rattle.complex.specs.Sound.{idsEnd, ceilings}
-use Rattle.complex.specs.Edits.{others, both, rewired, sameVertex, inPlaceOf, reshape}
+use Rattle.complex.specs.Edits.{neither, noneOf, rewired, sameVertex, inPlaceOf, reshape}
 use Rattle.complex.specs.Uncut.{joint, inOne, uncutCase, uncutResult}
 use Rattle.number.specs.Readers.{spread}
 use Rattle.store.specs.Sheet.{allReal}
@@ -30,10 +30,6 @@ pub record Triple (d : Drawing) (i a j b k c : ℕ) : Type 0 where
   pub third : c ≡ rowOf k (ids (sheetOf d .cells))
   pub thirdIn : c < d .count
 
--- all but three
-abbrev pub allBut : ℕ → ℕ → ℕ → ℕ → Bool
-allBut i j k n = others i n && both j k n
-
 -- the vertex v at p, in row a, becomes the first bend of the edge e, in row b, whose m bends begin at first
 pub record Looped (d : Drawing) (v a e b : ℕ) (p : Position) (first m : ℕ) : Type 0 where
   pub pair : Pair d v a e b
@@ -41,7 +37,8 @@ pub record Looped (d : Drawing) (v a e b : ℕ) (p : Position) (first m : ℕ) :
   pub place : positionOf (cellAt (sheetOf d) v) ≡ p
   pub begin : first ≡ bendSum (take b (d .cells))
   pub count : m ≡ length (bendsIn (figureAt (sheetOf d) b))
-  pub room : RoomIn (remade (both v e) (rewired sameVertex (inPlaceOf e (sheetOf d .next) false)) (sheetOf d)) (closedEdge (p ∷ bendsOf (cellAt (sheetOf d) e)) ∷ [])
+  pub room : RoomIn (remade (neither v e) (rewired sameVertex (inPlaceOf e (sheetOf d .next) false)) (sheetOf d))
+      (closedEdge (p ∷ bendsOf (cellAt (sheetOf d) e)) ∷ [])
 
 -- the edges x and y, in rows b and c, become one through the vertex v, in row a: from start to end, with the bends of r
 pub record Merged (d : Drawing) (v a x b y c start end : ℕ) (r : Runs) : Type 0 where
@@ -50,7 +47,8 @@ pub record Merged (d : Drawing) (v a x b y c start end : ℕ) (r : Runs) : Type 
   pub small2 : y < 2147483648
   pub real : allReal (spread cyclesAt (reshape (rewired sameVertex (inOne x y (sheetOf d .next))) (sheetOf d .cells))) ≡ true
   pub range : InRange r
-  pub room : RoomIn (remade (allBut v x y) (rewired sameVertex (inOne x y (sheetOf d .next))) (sheetOf d)) (openEdge start end (runsOf (d .bends) r) ∷ [])
+  pub room : RoomIn (remade (noneOf v x y) (rewired sameVertex (inOne x y (sheetOf d .next))) (sheetOf d))
+      (openEdge start end (runsOf (d .bends) r) ∷ [])
 
 -- ---- an edge as it leaves a vertex
 abbrev pub leaving : ℕ → Bool → Halfedge
@@ -67,7 +65,16 @@ pub record Sided (d : Drawing) (e : ℕ) (back : Bool) (s : Side) : Type 0 where
 -- the bends of two edges, each back to front if it is turned, with p between
 abbrev pub runsAround : Position → Side → Bool → Side → Bool → Runs
 runsAround p x turned y turned2 =
-    record { first = x .first; count = x .count; turned = turned; middle = true; at = p; first2 = y .first; count2 = y .count; turned2 = turned2 }
+    record {
+      first = x .first;
+      count = x .count;
+      turned = turned;
+      middle = true;
+      at = p;
+      first2 = y .first;
+      count2 = y .count;
+      turned2 = turned2;
+    }
 
 -- the bends of the edge that x and y become, directed as x
 abbrev pub jointRuns : Position → Side → Bool → Side → Bool → Runs

@@ -3,7 +3,7 @@ ghost use mathlib.Core.Bool.{true, false, cond};
 ghost use Prim.Native.Nat.{_<_, _≤_};
 ghost use lib.Dec.{T};
 ghost use lib.ListN.{getD, set, take, replicate};
-ghost use Rattle.complex.specs.Edits.{both, rewired, sameVertex, inPlaceOf, reshape, rebuild};
+ghost use Rattle.complex.specs.Edits.{neither, noneOf, rewired, sameVertex, inPlaceOf, reshape, rebuild};
 ghost use Rattle.complex.specs.Uncut.{loop, joint, inOne, uncutCase, uncutResult};
 ghost use Rattle.complex.specs.Lists.{total};
 ghost use Rattle.complex.specs.Uses.{stepUse};
@@ -23,7 +23,7 @@ ghost use Rattle.cut.specs.Cuts.{placeOf, noCell, Counted};
 ghost use Rattle.complex.specs.Cells.{openEdge, cellAt, isLive};
 ghost use Rattle.complex.specs.Sound.{idsEnd};
 ghost use mathlib.Core.List.{_∷_, []};
-ghost use Rattle.uncut_vertex.specs.Needs.{Pair, Triple, allBut, Looped, Merged, leaving, Sided, runsAround, jointRuns, Joint};
+ghost use Rattle.uncut_vertex.specs.Needs.{Pair, Triple, Looped, Merged, leaving, Sided, runsAround, jointRuns, Joint};
 use answer::Answer;
 use answer::Totals;
 use append::Runs;
@@ -35,7 +35,7 @@ use store::Index;
 fn swap_out(d: Drawing, v: u32, a: usize, e: u32, b: usize) -> Drawing
     requires { ⌜ Pair d v a e b ⌝ }
     requires { ⌜ e < 2147483648 ⌝ }
-    ensures { λ r. ⌜ sheetOf r ≡ remade (both v e) (rewired sameVertex (inPlaceOf e (sheetOf d .next) false)) (sheetOf d) ⌝ }
+    ensures { λ r. ⌜ sheetOf r ≡ remade (neither v e) (rewired sameVertex (inPlaceOf e (sheetOf d .next) false)) (sheetOf d) ⌝ }
     ensures { λ r. ⌜ Fits r ⌝ }
 {
     let next = d.next;
@@ -95,7 +95,7 @@ pub fn merge_out(d: Drawing, v: u32, a: usize, x: u32, b: usize, y: u32, c: usiz
     requires { ⌜ x < 2147483648 ⌝ }
     requires { ⌜ y < 2147483648 ⌝ }
     requires { ⌜ allReal (spread cyclesAt (reshape (rewired sameVertex (inOne x y (sheetOf d .next))) (sheetOf d .cells))) ≡ true ⌝ }
-    ensures { λ r. ⌜ sheetOf r ≡ remade (allBut v x y) (rewired sameVertex (inOne x y (sheetOf d .next))) (sheetOf d) ⌝ }
+    ensures { λ r. ⌜ sheetOf r ≡ remade (noneOf v x y) (rewired sameVertex (inOne x y (sheetOf d .next))) (sheetOf d) ⌝ }
     ensures { λ r. ⌜ Fits r ⌝ }
 {
     let next = d.next;
@@ -118,7 +118,7 @@ pub fn join_edges(
     r: Runs,
 ) -> Drawing
     requires { ⌜ Merged d v a x b y c start end r ⌝ }
-    ensures { λ q. ⌜ sheetOf q ≡ rebuild (allBut v x y) (rewired sameVertex (inOne x y (sheetOf d .next))) (openEdge start end (runsOf (d .bends) r) ∷ []) (sheetOf d) ⌝ }
+    ensures { λ q. ⌜ sheetOf q ≡ rebuild (noneOf v x y) (rewired sameVertex (inOne x y (sheetOf d .next))) (openEdge start end (runsOf (d .bends) r) ∷ []) (sheetOf d) ⌝ }
     ensures { λ q. ⌜ Fits q ⌝ }
 {
     let bends = d.bends;

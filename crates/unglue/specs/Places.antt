@@ -92,7 +92,8 @@ isEnd cs v h = isOpen (lookup cs (h .edge)) && eqb (tailOf (lookup cs) h) v
 -- the ends at v are marked, and G has the numbers of their groups from 1 on; g is how many groups there are
 pub record GroupedEnds (d : Drawing) (ix : Index) (v g : ℕ) (at : List Bool) (G : List ℕ) : Type 0 where
   pub marks : EndMarks (ix .kinds) (ix .starts) (ix .ends) v (d .count) at
-  pub number : (h : Halfedge) → T (isEnd (sheetOf d .cells) v h) → getD G (placeAt (take (d .count) (ix .ids)) h) 0 ≡ suc (groupOf (groups (sheetOf d .cells) v) h)
+  pub number : (h : Halfedge) → T (isEnd (sheetOf d .cells) v h)
+      → getD G (placeAt (take (d .count) (ix .ids)) h) 0 ≡ suc (groupOf (groups (sheetOf d .cells) v) h)
   pub count : g ≡ length (groups (sheetOf d .cells) v)
   pub most : (p : ℕ) → getD G p 0 ≤ g
 

@@ -64,7 +64,8 @@ run from n l = take n (drop from l)
 
 -- the cell c, whose bends, cycles and steps begin at a place of each array
 abbrev pub cellIn : Cell → Place → List ℕ → List ℕ → List Position → LiveCell
-cellIn c at ns st bs = record { id = c .id; figure = figureOf (c .shape) (cyclesOf (drop (at .cycles) ns) (drop (at .steps) st)) (drop (at .bends) bs) }
+cellIn c at ns st bs =
+    record { id = c .id; figure = figureOf (c .shape) (cyclesOf (drop (at .cycles) ns) (drop (at .steps) st)) (drop (at .bends) bs) }
 
 -- the place after those of a shape
 abbrev pub placeAfter : Shape → List ℕ → Place → Place
