@@ -24,7 +24,7 @@ use Rattle.complex.proofs.Gains.{gain, loss, shift, sub-equal, sub-add,
 use Rattle.complex.proofs.Bools.{truth, true-of, both}
 use Rattle.complex.proofs.Lookup.{lookup-upto, lookup-keep, rising-filter}
 use Rattle.complex.proofs.Keep.{Sound}
-use Rattle.complex.proofs.Adds.{Passes}
+use Rattle.complex.proofs.Passes.{Passes}
 use Rattle.complex.proofs.Split.{is-face}
 use Rattle.complex.proofs.Sums.{total-by, length-left}
 
@@ -151,7 +151,7 @@ pub split-balanced : (f c s1 s2 : ℕ) (bs : List Position) (ms : List ℕ) (s :
 unfolding question4 question5 result faceCutAlong
 split-balanced f c s1 s2 bs ms s S q =
     let E : eqb c c ≡ true = eq-eqb c c refl in
-    let a = both (ltb c (length ks)) _ (q .2) in
+    let a = both (ltb c (length ks)) _ (q .five) in
     let b = both (ltb c (length ks)) _ (a .1) in
     let d = both (cornerExists (cellAt s) (getD ks c noCycle) s1) _ (b .1) in
     let g = both (cornerExists (cellAt s) (getD ks c noCycle) s2) _ (d .1) in
@@ -169,7 +169,7 @@ split-balanced f c s1 s2 bs ms s S q =
         let x = set ks c (path (stretch s1 s2 (stepsOf k) ++ one (against (s .next)))) in
         let t = face (without ms 0 x) in
         let new = openEdge (corner (cellAt s) k s1) (corner (cellAt s) k s2) bs ∷ face (path (remainder s1 s2 (stepsOf k) ++ one (along (s .next))) ∷ chosen noCycle ms ks) ∷ [] in
-        let e = is-face s f (q .1) in
+        let e = is-face s f (q .four) in
         let u = over-changed gain f t (face ks) new s S e in
         let v = over-changed loss f t (face ks) new s S e in
         let l : length x ≡ length ks = length-set ks c _ in

@@ -3,6 +3,7 @@ pub mod Bools
 pub mod Lookup
 pub mod Walks
 pub mod Keep
+pub mod Passes
 pub mod Gains
 pub mod Adds
 pub mod Split

@@ -22,7 +22,7 @@ use Rattle.complex.specs.Calls.{starCall, eulerCall}
 use Rattle.complex.specs.Demands.{after, accepted, shareRead, shares, live, Took, DeleteExact, Deletes, AfterAll, Demand3}
 use Rattle.complex.proofs.Bools.{truth, true-of, either}
 use Rattle.complex.proofs.Keep.{Sound, sound-parts, parts-sound}
-use Rattle.complex.proofs.Adds.{Passes, KeepsSound}
+use Rattle.complex.proofs.Passes.{Passes, KeepsSound}
 use Rattle.complex.proofs.Euler.{Balanced, balanced-euler}
 use Rattle.complex.proofs.Delete.{deleted-took}
 use Rattle.complex.proofs.Star.{star-right}
@@ -46,7 +46,7 @@ asked s c = go (question3 c) (question4 s c) (question5 s c) (question6 s c) (le
     go true true true false q7 q8 a b d e f g = refusal 6 (λ z. omega arith) (rw (a, b, d, e))
     go true true true true false q8 a b d e f g = refusal 7 (λ z. omega arith) (rw (a, b, d, e, f))
     go true true true true true false a b d e f g = refusal 8 (λ z. omega arith) (rw (a, b, d, e, f, g))
-    go true true true true true true a b d e f g = passed (truth a, truth b, truth d, truth e, truth f, truth g) (rw (a, b, d, e, f, g))
+    go true true true true true true a b d e f g = passed (record { three = truth a; four = truth b; five = truth d; six = truth e; seven = truth f; eight = truth g }) (rw (a, b, d, e, f, g))
 
 pub outcome : (s : Sheet) (b : List ℕ) → T (sound s) → Outcome s b
 unfolding command
@@ -95,7 +95,7 @@ module _ (keeps : (c : Command) → KeepsSound c) (balances : (c : Command) (s :
   ]
     where
       took : (c : Command) → Passes s c → c ≡ delete i → Took s (result s c) i
-      took c p z = rw z (deleted-took s (sound-parts s S) i (subst (λ (x : Command). T (question4 s x)) z (p .1)))
+      took c p z = rw z (deleted-took s (sound-parts s S) i (subst (λ (x : Command). T (question4 s x)) z (p .four)))
 
   pub after-sound : (s : Sheet) (bs : List (List ℕ)) → T (sound s) → T (sound (after s bs))
   after-sound s [] S = S
