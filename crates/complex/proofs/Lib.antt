@@ -1,5 +1,6 @@
 pub mod Rows
 pub mod Bools
+pub mod Questions
 pub mod Lookup
 pub mod Walks
 pub mod Keep

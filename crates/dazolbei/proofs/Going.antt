@@ -14,8 +14,9 @@ use Rattle.complex.specs.Cells.{Sheet}
 use Rattle.complex.specs.Sound.{idsEnd, ceilings, sound}
 use Rattle.complex.specs.Decode.{Command as Order, decode}
 use Rattle.complex.specs.Commands.{question3, question4, question5, question6, result}
-use Rattle.complex.specs.Answer.{Answer as Said, no, done, asked2, asked3, asked4, asked5, asked6, asked7, asked8, command, restRead, rest}
+use Rattle.complex.specs.Answer.{Answer as Said, no, done, asked2, asked3, command, restRead, rest}
 use Rattle.complex.proofs.Bools.{true-of}
+use Rattle.complex.proofs.Asked.{not-two}
 use Rattle.store.specs.declared.Drawing.{Drawing}
 use Rattle.store.specs.View.{sheetOf}
 use Rattle.sound.specs.Soundness.{soundDrawing}
@@ -106,22 +107,6 @@ one-turn n s b e f = rw (e, f, told)
 
 last-turn : (n : ℕ) (s : Sheet) (b : List ℕ) → isEmpty b ≡ false → eqb (command s b .number) 2 ≡ true → told (suc n) s b ≡ tell (lineNumbers (command s b) (length (rest s b))) (ended (command s b .sheet))
 last-turn n s b e f = rw (e, f, told)
-
--- questions 3 to 8 don't answer 2
-neither : (b : Bool) (x y : Said) → (x .number ≡ 2 → ⊥) → (y .number ≡ 2 → ⊥) → cond b x y .number ≡ 2 → ⊥
-neither true x y p q = p
-neither false x y p q = q
-
-not-two : (s : Sheet) (c : Order) → asked3 s c .number ≡ 2 → ⊥
-unfolding asked3
-not-two s c =
-    let t = result s c in
-    neither (question3 c) (asked4 s c) (no 3 s)
-    (neither (question4 s c) (asked5 s c) (no 4 s)
-    (neither (question5 s c) (asked6 s c) (no 5 s)
-    (neither (question6 s c) (asked7 s t) (no 6 s)
-    (neither (leb (t .next) idsEnd) (asked8 s t) (no 7 s) (neither (ceilings (t .cells)) (done s t) (no 8 s) (λ e. omega arith) (λ e. omega arith)) (λ e. omega arith)) (λ e. omega arith)) (λ e. omega arith)) (λ e. omega arith))
-    (λ e. omega arith)
 
 -- what the definitions say of a sound drawing
 module _ (d : Drawing) (w : T (soundDrawing d)) (b : List ℕ) (q : Read Order) (e : decode b ≡ q) where
