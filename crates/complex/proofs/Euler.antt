@@ -22,17 +22,13 @@ use Rattle.complex.specs.Cut.{noCycle, corner, stretch, remainder, split
 use Rattle.complex.specs.Commands.{question4, question5, result, share}
 use Rattle.complex.proofs.Gains.{gain, loss, shift, sub-equal, sub-add, euler-sub, share-sub}
 use Rattle.complex.proofs.Bools.{truth, true-of, both}
-use Rattle.complex.proofs.Lookup.{lookup-upto, lookup-keep, rising-filter}
+use Rattle.complex.proofs.Lookup.{lookup-upto, lookup-keep, rising-filter, keep-all}
 use Rattle.complex.proofs.Keep.{Sound}
 use Rattle.complex.proofs.Passes.{Passes}
 use Rattle.complex.proofs.Split.{is-face}
 use Rattle.complex.proofs.Sums.{total-by, length-left}
 
 -- ---- sums over cells
-pub keep-all : (cs : List LiveCell) → keepIds everyId cs ≡ cs
-keep-all [] = refl
-keep-all (c ∷ cs) = ap (λ (ds : List LiveCell). c ∷ ds) (keep-all cs)
-
 module _ (g : Figure → ℕ) where
   pub over-append : (cs ds : List LiveCell) → over g (cs ++ ds) ≡ over g cs + over g ds
   over-append [] ds = omega arith

@@ -33,6 +33,7 @@ pub mod FileReaders
 pub mod ReadDoubles
 pub mod Doubles
 pub mod Files
+pub mod Plan
 pub mod Rebuilt
 pub mod Claims
 pub mod Asked
