@@ -13,7 +13,7 @@ use Rattle.number.specs.Readers.{spread}
 use Rattle.coordinate.specs.declared.Position.{Position}
 use Rattle.coordinate.specs.Bounds.{within}
 use Rattle.complex.specs.Lists.{all, isEmpty, rising, one}
-use Rattle.complex.specs.Cells.{Halfedge, Cycle, lone, path, Figure, vertex, openEdge, closedEdge, face, LiveCell, Sheet, Look, someIf, lookup, ids, isVertex, isOpen, isClosed, startOf, endOf, tailOf, headOf, cellAt}
+use Rattle.complex.specs.Cells.{Halfedge, Cycle, lone, path, Figure, vertex, openEdge, closedEdge, face, LiveCell, Sheet, Look, someIf, lookup, ids, isVertex, isOpen, isClosed, isFace, startOf, endOf, tailOf, headOf, cellAt}
 use Rattle.complex.specs.Sound.{idsEnd, Walk, cycleOk, figureOk, ceilings, sound, joins}
 use Rattle.complex.specs.Decode.{Command, create, move, glueVertices}
 use Rattle.complex.specs.Edits.{numbered, rebuild, everyId, asItIs, replaced, rewiredCycle, rewired, sameVertex, others}
@@ -60,6 +60,16 @@ closed-of (some (vertex p)) o′ a t = absurd t
 closed-of (some (openEdge u w bs)) o′ a t = absurd t
 closed-of (some (closedEdge bs)) o′ a t = a
 closed-of (some (face ks)) o′ a t = absurd t
+
+-- a face serves as a face did
+pub face-serves : (o : Option Figure) → T (isFace o) → (t : Figure) → o ≡ some t → (ks : List Cycle) → Alike (some t) (some (face ks))
+face-serves o f t e ks = go t (subst (λ (u : Option Figure). T (isFace u)) e f)
+  where
+    go : (t : Figure) → T (isFace (some t)) → Alike (some t) (some (face ks))
+    go (vertex p) t = absurd t
+    go (openEdge a b bs) t = absurd t
+    go (closedEdge bs) t = absurd t
+    go (face ks) t = tt
 
 module _ (look look′ : Look) (A : (i : ℕ) → Alike (look i) (look′ i)) where
   pub alike-keeps : Keeps look look′

@@ -13,7 +13,7 @@ use Rattle.complex.specs.Cells.{Sheet}
 use Rattle.complex.specs.Sound.{idsEnd, ceilings}
 use Rattle.complex.specs.Decode.{Command}
 use Rattle.complex.specs.Commands.{positions, question3, question4, question5, question6, result}
-use Rattle.complex.specs.Answer.{Answer, no, done, removedFrom, firstNo, ofBytes, questions, answered, asked3}
+use Rattle.complex.specs.Answer.{Answer, no, done, removedFrom, firstNo, ofBytes, ofResult, questions, answered, asked3}
 use Rattle.complex.proofs.Keep.{Sound}
 use Rattle.complex.proofs.Questions.{FirstNo, first-no, no-first, among}
 use Rattle.complex.proofs.Rebuilt.{result-rebuilt}
@@ -82,6 +82,11 @@ pub record Passed (s : Sheet) (c : Command) : Type 0 where
   pub five : question5 s c ≡ true
   pub six : question6 s c ≡ true
 
+-- a no is answered as such
+pub answered-no : (s t : Sheet) (n : ℕ) → (n ≡ 0 → ⊥) → answered s t n ≡ no n s
+answered-no s t zero h = absurd (h refl)
+answered-no s t (suc n) h = refl
+
 module _ (s : Sheet) (c : Command) where
   pub no-3 : question3 c ≡ false → asked3 s c ≡ no 3 s
   unfolding asked3
@@ -99,17 +104,19 @@ module _ (s : Sheet) (c : Command) where
   unfolding asked3
   no-6 a b d e = rw (early-three c a, b, d, e)
 
-  pub no-7 : Passed s c → leb (result s c .next) idsEnd ≡ false → asked3 s c ≡ no 7 s
+  -- what is left to ask where 3 to 6 got a yes
+  pub passed-asked : Passed s c → asked3 s c ≡ answered s (result s c) (firstNo (ofResult (result s c)))
   unfolding asked3
-  no-7 p f = rw (early-three c (p .bytes), p .four, p .five, p .six, f)
+  passed-asked p = rw (early-three c (p .bytes), p .four, p .five, p .six)
+
+  pub no-7 : Passed s c → leb (result s c .next) idsEnd ≡ false → asked3 s c ≡ no 7 s
+  no-7 p f = passed-asked p ∙ rw f
 
   pub no-8 : Passed s c → leb (result s c .next) idsEnd ≡ true → ceilings (result s c .cells) ≡ false → asked3 s c ≡ no 8 s
-  unfolding asked3
-  no-8 p f g = rw (early-three c (p .bytes), p .four, p .five, p .six, f, g)
+  no-8 p f g = passed-asked p ∙ rw (f, g)
 
   pub no-none : Passed s c → leb (result s c .next) idsEnd ≡ true → ceilings (result s c .cells) ≡ true → asked3 s c ≡ done s (result s c)
-  unfolding asked3
-  no-none p f g = rw (early-three c (p .bytes), p .four, p .five, p .six, f, g)
+  no-none p f g = passed-asked p ∙ rw (f, g)
 
 -- the counts of a done command, from the next ids and the numbers of cells alone
 pub done-counts : (s : Sheet) → Sound s → (c : Command) → (t : Sheet) → t ≡ result s c

@@ -22,7 +22,7 @@ use Rattle.complex.specs.Cut.{noCycle, corner, stretch, remainder, split
 use Rattle.complex.specs.Commands.{question4, question5, result, share}
 use Rattle.complex.proofs.Gains.{gain, loss, shift, sub-equal, sub-add, euler-sub, share-sub}
 use Rattle.complex.proofs.Bools.{truth, true-of, both}
-use Rattle.complex.proofs.Lookup.{lookup-upto, lookup-keep, rising-filter, keep-all}
+use Rattle.complex.proofs.Lookup.{lookup-upto, lookup-keep, rising-filter, kept-all}
 use Rattle.complex.proofs.Keep.{Sound}
 use Rattle.complex.proofs.Passes.{Passes}
 use Rattle.complex.proofs.Split.{is-face}
@@ -103,7 +103,7 @@ pub over-kept : (g : Figure → ℕ) (f : ℕ → Figure → Figure) → ((i : �
 over-kept g f h p new s = over-rebuild g p f new s ∙ ap (λ (k : ℕ). k + total g new) (over-reshape g f h (keepIds p (s .cells)))
 
 pub over-all : (g : Figure → ℕ) (f : ℕ → Figure → Figure) → ((i : ℕ) (t : Figure) → g (f i t) ≡ g t) → (new : List Figure) (s : Sheet) → over g (rebuild everyId f new s .cells) ≡ over g (s .cells) + total g new
-over-all g f h new s = over-kept g f h everyId new s ∙ ap (λ (cs : List LiveCell). over g cs + total g new) (keep-all (s .cells))
+over-all g f h new s = over-kept g f h everyId new s ∙ ap (λ (cs : List LiveCell). over g cs + total g new) (kept-all (s .cells))
 
 pub over-added : (g : Figure → ℕ) (new : List Figure) (s : Sheet) → over g (rebuild everyId asItIs new s .cells) ≡ over g (s .cells) + total g new
 over-added g new s = over-all g asItIs (λ i t. refl) new s
@@ -120,7 +120,7 @@ pub over-changed : (g : Figure → ℕ) (i : ℕ) (t u : Figure) (new : List Fig
     → over g (rebuild everyId (replaced i t) new s .cells) + g u ≡ over g (s .cells) + g t + total g new
 over-changed g i t u new s S e =
     let a = over-put g everyId i t u new s S tt e in
-    let b = ap (over g) (keep-all (s .cells)) in
+    let b = ap (over g) (kept-all (s .cells)) in
     omega arith
 
 -- ---- 01 to 04

@@ -27,7 +27,7 @@ use Rattle.complex.proofs.Lookup.{lookup-keep, rising-filter}
 use Rattle.complex.proofs.Walks.{walk-append, Round, round-rotated, Ring, Some, joins-cases, round-joins, ring-joins}
 use Rattle.complex.proofs.Keep.{Sound, Look′, Keeps, walk-kept, cycle-kept}
 use Rattle.complex.proofs.Passes.{Passes, KeepsSound}
-use Rattle.complex.proofs.Adds.{Alike, new-at, replaced-keeps, replaced-sound}
+use Rattle.complex.proofs.Adds.{Alike, new-at, replaced-keeps, replaced-sound, face-serves}
 use Rattle.complex.proofs.Split.{all-getD, all-set, all-without, all-chosen, ring-no-corner, corner-vertex, is-face}
 use Rattle.complex.proofs.Sums.{length-left, length-but-one}
 use Rattle.complex.proofs.Euler.{over-keep, over-kept, over-changed, Balanced}
@@ -133,17 +133,8 @@ module _ (s : Sheet) (S : Sound s) (f : ℕ) (isF : T (isFace (cellAt s f))) (ks
   abbrev refaced : Look
   refaced = Look′ everyId (replaced f (face ks′)) new s
 
-  serves : (t : Figure) → cellAt s f ≡ some t → Alike (some t) (some (face ks′))
-  serves t q = go t (subst (λ (o : Option Figure). T (isFace o)) q isF)
-    where
-      go : (t : Figure) → T (isFace (some t)) → Alike (some t) (some (face ks′))
-      go (vertex p) t = absurd t
-      go (openEdge a b bs) t = absurd t
-      go (closedEdge bs) t = absurd t
-      go (face ks) t = tt
-
   pub refaced-keeps : Keeps (cellAt s) refaced
-  refaced-keeps = replaced-keeps f (face ks′) new s S serves
+  refaced-keeps = replaced-keeps f (face ks′) new s S (λ t q. face-serves (cellAt s f) isF t q ks′)
 
   pub cycles-ok : T (all (cycleOk (cellAt s)) (cyclesOf (cellAt s f)))
   cycles-ok = S .figures f (face (cyclesOf (cellAt s f))) (is-face s f isF)
@@ -153,7 +144,7 @@ module _ (s : Sheet) (S : Sound s) (f : ℕ) (isF : T (isFace (cellAt s f))) (ks
 
   pub refaced-sound : T (leb (rebuild everyId (replaced f (face ks′)) new s .next) idsEnd) → T (ceilings (rebuild everyId (replaced f (face ks′)) new s .cells))
       → T (all (cycleOk refaced) ks′) → T (all (figureOk refaced) new) → Sound (rebuild everyId (replaced f (face ks′)) new s)
-  refaced-sound seven eight here there = replaced-sound f (face ks′) new s S serves seven eight here there
+  refaced-sound seven eight here there = replaced-sound f (face ks′) new s S (λ t q. face-serves (cellAt s f) isF t q ks′) seven eight here there
 
   pub refaced-over : (g : Figure → ℕ) → over g (rebuild everyId (replaced f (face ks′)) new s .cells) + g (face (cyclesOf (cellAt s f))) ≡ over g (s .cells) + g (face ks′) + total g new
   refaced-over g = over-changed g f (face ks′) (face (cyclesOf (cellAt s f))) new s S (is-face s f isF)

@@ -16,18 +16,18 @@ use Rattle.complex.specs.Edits.{keepIds, reshape, numbered, rebuild, eve
 use Rattle.complex.proofs.Bools.{truth, either, both, pair, false-not}
 
 -- ---- a change that changes nothing
-pub keep-all : (cs : List LiveCell) → keepIds everyId cs ≡ cs
-keep-all [] = refl
-keep-all (c ∷ cs) = ap (λ (ds : List LiveCell). c ∷ ds) (keep-all cs)
+pub kept-all : (cs : List LiveCell) → keepIds everyId cs ≡ cs
+kept-all [] = refl
+kept-all (c ∷ cs) = ap (λ (ds : List LiveCell). c ∷ ds) (kept-all cs)
 
-pub reshape-none : (cs : List LiveCell) → reshape asItIs cs ≡ cs
-reshape-none [] = refl
-reshape-none (c ∷ cs) = ap (λ (ds : List LiveCell). c ∷ ds) (reshape-none cs)
+pub reshaped-none : (cs : List LiveCell) → reshape asItIs cs ≡ cs
+reshaped-none [] = refl
+reshaped-none (c ∷ cs) = ap (λ (ds : List LiveCell). c ∷ ds) (reshaped-none cs)
 
 pub rebuild-none : (s : Sheet) → rebuild everyId asItIs [] s ≡ s
 rebuild-none s =
     let n : s .next + 0 ≡ s .next = omega arith in
-    let e = append-nil (reshape asItIs (keepIds everyId (s .cells))) ∙ reshape-none (keepIds everyId (s .cells)) ∙ keep-all (s .cells) in
+    let e = append-nil (reshape asItIs (keepIds everyId (s .cells))) ∙ reshaped-none (keepIds everyId (s .cells)) ∙ kept-all (s .cells) in
     λ i. record { next = n i; cells = e i }
 
 -- ---- lookup through the three changes

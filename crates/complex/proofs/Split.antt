@@ -23,7 +23,7 @@ use Rattle.complex.proofs.Bools.{truth, true-of, both, pair, false-not,
 use Rattle.complex.proofs.Walks.{walk-append, walk-split, Round, round-rotated, Ring, Some, joins-cases, round-joins}
 use Rattle.complex.proofs.Keep.{Sound, Look′, Keeps, walk-kept, cycle-kept, same-eq}
 use Rattle.complex.proofs.Passes.{Passes}
-use Rattle.complex.proofs.Adds.{Alike, new-at, replaced-keeps, replaced-sound}
+use Rattle.complex.proofs.Adds.{Alike, new-at, replaced-keeps, replaced-sound, face-serves}
 
 -- ---- all the elements, after a choice
 module _ {A : Type 0} (p : A → Bool) where
@@ -216,17 +216,8 @@ module _ (s : Sheet) (S : Sound s) (f c s1 s2 : ℕ) (bs : List Position) (ms : 
   abbrev look′ : Look
   look′ = Look′ everyId (replaced f (face ks′)) new s
 
-  serves : (t : Figure) → cellAt s f ≡ some t → Alike (some t) (some (face ks′))
-  serves t q = go t (subst (λ (o : Option Figure). T (isFace o)) q isF)
-    where
-      go : (t : Figure) → T (isFace (some t)) → Alike (some t) (some (face ks′))
-      go (vertex p) t = absurd t
-      go (openEdge a b bs) t = absurd t
-      go (closedEdge bs) t = absurd t
-      go (face ks) t = tt
-
   kept : Keeps (cellAt s) look′
-  kept = replaced-keeps f (face ks′) new s S serves
+  kept = replaced-keeps f (face ks′) new s S (λ t q. face-serves (cellAt s f) isF t q ks′)
 
   cyclesOk : T (all (cycleOk (cellAt s)) ks)
   cyclesOk = S .figures f (face ks) (is-face s f isF)
@@ -263,7 +254,7 @@ module _ (s : Sheet) (S : Sound s) (f c s1 s2 : ℕ) (bs : List Position) (ms : 
 
   pub split-parts : T (leb (splitInTwo s f c s1 s2 bs ms ks .next) idsEnd) → T (ceilings (splitInTwo s f c s1 s2 bs ms ks .cells)) → Sound (splitInTwo s f c s1 s2 bs ms ks)
   split-parts seven eight =
-      replaced-sound f (face ks′) new s S serves seven eight
+      replaced-sound f (face ks′) new s S (λ t q. face-serves (cellAt s f) isF t q ks′) seven eight
       (all-without (cycleOk look′) ms 0 (set ks c (path (P ++ one (against e)))) (all-set (cycleOk look′) ks c (path (P ++ one (against e))) cyclesOk′ P-closed)) new-ok
 
 pub split-sound : (f c s1 s2 : ℕ) (bs : List Position) (ms : List ℕ) (s : Sheet) → Sound s → Passes s (cutFaceOpen f c s1 c s2 bs ms) → Sound (result s (cutFaceOpen f c s1 c s2 bs ms))

@@ -19,6 +19,7 @@ use Rattle.complex.proofs.Bools.{true-of}
 use Rattle.complex.proofs.Asked.{not-two}
 use Rattle.store.specs.declared.Drawing.{Drawing}
 use Rattle.store.specs.View.{sheetOf}
+use Rattle.store.proofs.Lists.{drop-over, not-empty}
 use Rattle.sound.specs.Soundness.{soundDrawing}
 use Rattle.sound.proofs.Meaning.{sound-sheet}
 use Rattle.command.specs.declared.Command.{Command}
@@ -69,25 +70,11 @@ start bytes entry d t =
     }
 
 -- ---- lists
-drop-over : (n : ℕ) (s : List ℕ) → length s ≤ n → drop n s ≡ []
-drop-over zero [] h = refl
-drop-over zero (x ∷ s) h = absurd (omega arith)
-drop-over (suc n) [] h = refl
-drop-over (suc n) (x ∷ s) h = drop-over n s (omega arith)
-
-not-empty : (b : List ℕ) → 0 < length b → isEmpty b ≡ false
-not-empty [] h = absurd (omega arith)
-not-empty (x ∷ b) h = refl
-
 sets-more : (l : List ℕ) (i : ℕ) (u v : List ℕ) → sets (sets l i u) (i + length u) v ≡ sets l i (u ++ v)
 sets-more l i [] v = let e : i + 0 ≡ i = omega arith in ap (λ (n : ℕ). sets l n v) e
 sets-more l i (a ∷ u) v =
     let e : i + suc (length u) ≡ suc i + length u = omega arith in
     ap (λ (n : ℕ). sets (sets (set l i a) (suc i) u) n v) e ∙ sets-more (set l i a) (suc i) u v
-
--- a part of a slice from a place to its end
-pub all-left : (n : ℕ) (s : List ℕ) → take (length s - n) (drop n s) ≡ drop n s
-all-left n s = take-all (length s - n) (drop n s) (let l = length-drop n s in omega arith)
 
 pub five-stored : (l : List ℕ) (at a b c d e : ℕ) → set (set (set (set (set l at a) (at + 1) b) (at + 2) c) (at + 3) d) (at + 4) e ≡ sets l at (a ∷ b ∷ c ∷ d ∷ e ∷ [])
 five-stored l at a b c d e =

@@ -26,7 +26,7 @@ use Rattle.store.specs.Sizes.{Sizes}
 use Rattle.store.specs.View.{sheetOf, halfedgeOf, cycleOf, cyclesOf, widthSum}
 use Rattle.store.specs.Places.{word, numOf, stepsIn}
 use Rattle.store.specs.Pools.{Held}
-use Rattle.store.proofs.Encode.{halves, width-sum}
+use Rattle.store.proofs.Encode.{halves, width-sum, all-places}
 use Rattle.store.proofs.Pools.{held-cycles}
 use Rattle.sound.specs.Rows.{Rows, rowsOf, cycleGood}
 use Rattle.sound.specs.Soundness.{soundDrawing}
@@ -39,7 +39,6 @@ use Rattle.command.specs.Lists.{cyclesRead, Stand}
 use Rattle.command.proofs.Laws.{stand-length}
 use Rattle.script.specs.Walks.{Room as Space}
 use Rattle.script.proofs.Cycles.{reals-read}
-use Rattle.script.proofs.Loads.{all-places}
 use Rattle.answer.specs.declared.Totals.{Totals}
 use Rattle.answer.specs.Late.{sizesBy, lateNo}
 use Rattle.faces.specs.Walks.{Rowed, edgeIn, passesIn, faceNo, FaceRead}

@@ -13,7 +13,7 @@ use Rattle.complex.specs.Decode.{glueEdges}
 use Rattle.complex.specs.Commands.{question4, question5, question6, result}
 use Rattle.complex.specs.Sizes.{newCells, sizesAfter, sizesFit}
 use Rattle.complex.specs.Answer.{no, asked3}
-use Rattle.complex.proofs.Bools.{true-of}
+use Rattle.complex.proofs.Bools.{true-of, both-true}
 use Rattle.complex.proofs.Keep.{Sound, sound-parts}
 use Rattle.complex.proofs.Asked.{early, early-none, Passed, no-4, no-5, no-6}
 use Rattle.complex.proofs.Sizes.{glue-edges-fits}
@@ -50,13 +50,6 @@ by-kinds : (oa ob : Option Figure) (same : Bool) (flag : ℕ) (m : Bool)
 by-kinds oa ob same flag m =
     let by : Bool → Bool → Bool → Bool → ℕ = λ p1 p2 q1 q2. firstNo ((p1 || p2) && (q1 || q2)) (leb flag 1) (not same && ((p2 && q2) || (p1 && (q1 && m)))) in
     λ i. by (is-open oa i) (is-closed oa i) (is-open ob i) (is-closed ob i)
-
-both-true : (a b : Bool) → (a && b) ≡ true → (a ≡ true) × (b ≡ true)
-both-true true b e = (refl, e)
-both-true false b e = absurd (let z : _≡_ {A = Bool} false true = e in no-way z)
-  where
-    no-way : false ≡ true → ⊥
-    no-way z = let n : _≡_ {A = ℕ} 0 1 = ap (λ (b : Bool). cond b 1 0) z in omega arith
 
 module _ (d : Drawing) (z : Sizes d) (w : T (soundDrawing d)) (a b flag : ℕ) where
   sound-in : Sound (sheetOf d)

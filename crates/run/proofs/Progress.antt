@@ -20,6 +20,7 @@ use Rattle.complex.proofs.Bools.{truth, true-of}
 use Rattle.complex.proofs.Asked.{not-two}
 use Rattle.store.specs.declared.Drawing.{Drawing}
 use Rattle.store.specs.View.{sheetOf}
+use Rattle.store.proofs.Lists.{drop-over, not-empty}
 use Rattle.sound.specs.Soundness.{soundDrawing}
 use Rattle.sound.proofs.Meaning.{sound-sheet}
 use Rattle.command.specs.declared.Command.{Command}
@@ -48,12 +49,6 @@ unfolding run
 start bytes d e s = record { turns = length bytes; within = omega arith; enough = omega arith; few = omega arith; sound = s; goes = ap (λ (x : Sheet). ran (length bytes) x bytes) (sym e) }
 
 -- ---- no byte is left
-drop-over : (n : ℕ) (s : List ℕ) → length s ≤ n → drop n s ≡ []
-drop-over zero [] h = refl
-drop-over zero (x ∷ s) h = absurd (omega arith)
-drop-over (suc n) [] h = refl
-drop-over (suc n) (x ∷ s) h = drop-over n s (omega arith)
-
 ran-none : (n : ℕ) (s : Sheet) → ran n s [] ≡ ended s
 ran-none zero s = refl
 ran-none (suc n) s = refl
@@ -66,10 +61,6 @@ after-ended : (ls : List Line) (d : Drawing) → after ls (ended (sheetOf d)) �
 after-ended ls d = ap (λ (x : List Line). record { lines = x; sheet = sheetOf d }) (append-nil ls)
 
 -- ---- a turn
-not-empty : (b : List ℕ) → 0 < length b → isEmpty b ≡ false
-not-empty [] h = absurd (omega arith)
-not-empty (x ∷ b) h = refl
-
 one-turn : (n : ℕ) (s : Sheet) (b : List ℕ) → isEmpty b ≡ false → eqb (command s b .number) 2 ≡ false → ran (suc n) s b ≡ putLine (line (command s b)) (ran n (command s b .sheet) (rest s b))
 one-turn n s b e f = rw (e, f, ran)
 
@@ -169,7 +160,3 @@ module _ {bytes : List ℕ} {before : List Line} {d : Drawing} {at : ℕ} (p : P
                   sound = commanded-obeyed d b a (true-of (soundDrawing d) (p .sound)) _ _ (t .read) r .sound (p .sound);
                   goes = turned n g;
                 }
-
--- a part of a slice from a place to its end
-pub all-left : (n : ℕ) (s : List ℕ) → take (length s - n) (drop n s) ≡ drop n s
-all-left n s = take-all (length s - n) (drop n s) (let l = length-drop n s in omega arith)

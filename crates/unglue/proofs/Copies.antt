@@ -19,7 +19,7 @@ use Rattle.complex.specs.Commands.{question4, question5, question6, result}
 use Rattle.complex.specs.Answer.{no, asked3}
 use Rattle.complex.specs.Sizes.{Sizes as Counted, sized, nothing, moreLess, changedBy, newCells, changeOf, unglueChange, sizesAfter, sizesFit}
 use Rattle.complex.proofs.Bools.{truth, true-of}
-use Rattle.complex.proofs.Lookup.{changed, lookup-reshape, ids-reshape}
+use Rattle.complex.proofs.Lookup.{changed, lookup-reshape, ids-reshape, kept-all}
 use Rattle.complex.proofs.Keep.{Sound, sound-parts}
 use Rattle.complex.proofs.Unglue.{over-at, asPart}
 use Rattle.complex.proofs.Asked.{early, early-none, Passed, no-6}
@@ -37,7 +37,6 @@ use Rattle.sound.specs.Soundness.{soundDrawing}
 use Rattle.sound.proofs.Meaning.{sound-fits, sound-sheet, live-row, found-row, looks}
 use Rattle.append.specs.Appends.{appendedAll, remade, RoomIn, figureAt}
 use Rattle.append.specs.Requirements.{CopiesRoom}
-use Rattle.append.proofs.Appended.{kept-all}
 use Rattle.append.proofs.Rooms.{below, room-copies}
 use Rattle.answer.specs.declared.Answer.{Answer}
 use Rattle.answer.specs.declared.Totals.{Totals}
