@@ -15,7 +15,7 @@ use Rattle.complex.specs.Commands.{question3, question4, question5, question6, 
 use Rattle.answer.specs.Sizes.{sized, sizesOf, newCells, changeOf, moreLess, changedBy, sizesAfter, sizesFit}
 use Rattle.complex.specs.Answer.{no, removedFrom, asked3}
 use Rattle.complex.proofs.Keep.{Sound}
-use Rattle.complex.proofs.Asked.{Passed, no-7, no-8, no-none, done-counts}
+use Rattle.complex.proofs.Asked.{early-three, Passed, no-7, no-8, no-none, done-counts}
 use Rattle.complex.proofs.Rebuilt.{Rebuilt, result-rebuilt}
 use Rattle.complex.proofs.Claims.{removed-rebuilt}
 use Rattle.answer.proofs.SizesAfter.{next-after, sizes-after}
@@ -58,7 +58,7 @@ answers-no d f c n r e q =
 -- ---- 7 and 8 are asked of numbers that are known before anything is built
 module _ (d : Drawing) (c : Command) (S : Sound (sheetOf d)) (p : Passed (sheetOf d) c) where
   pub asked-six : T (question3 c) × T (question4 (sheetOf d) c) × T (question5 (sheetOf d) c) × T (question6 (sheetOf d) c)
-  asked-six = (subst T (sym (p .three)) tt, subst T (sym (p .four)) tt, subst T (sym (p .five)) tt, subst T (sym (p .six)) tt)
+  asked-six = (subst T (sym (early-three c (p .bytes))) tt, subst T (sym (p .four)) tt, subst T (sym (p .five)) tt, subst T (sym (p .six)) tt)
 
   pub ids-no : leb (sheetOf d .next + newCells (sheetOf d) c) idsEnd ≡ false → asked3 (sheetOf d) c ≡ no 7 (sheetOf d)
   ids-no e = no-7 (sheetOf d) c p (ap (λ (n : ℕ). leb n idsEnd) (next-after (sheetOf d) c) ∙ e)

@@ -8,6 +8,7 @@ use native.Mathlib.Numerals.{add-one}
 use Rattle.complex.specs.Lists.{consIf, one}
 use Rattle.complex.specs.Cells.{Figure, LiveCell, Sheet}
 use Rattle.complex.specs.Edits.{keepIds, reshape, numbered, rebuild, everyId, asItIs}
+use Rattle.complex.proofs.Lookup.{kept-all, reshaped-none}
 use Rattle.store.specs.Edits.{appended}
 use Rattle.append.specs.Appends.{appendedAll, remade}
 
@@ -40,14 +41,6 @@ appended-each (x ∷ xs) s = appended-each xs (appended s x) ∙ sym (appended-n
 -- cells go and change, and then cells come
 pub rebuild-appended : (p : ℕ → Bool) (f : ℕ → Figure → Figure) (new : List Figure) (s : Sheet) → rebuild p f new s ≡ appendedAll new (remade p f s)
 rebuild-appended p f new s = refl
-
-pub kept-all : (cs : List LiveCell) → keepIds everyId cs ≡ cs
-kept-all [] = refl
-kept-all (c ∷ cs) = ap (λ (l : List LiveCell). c ∷ l) (kept-all cs)
-
-pub reshaped-none : (cs : List LiveCell) → reshape asItIs cs ≡ cs
-reshaped-none [] = refl
-reshaped-none (c ∷ cs) = ap (λ (l : List LiveCell). c ∷ l) (reshaped-none cs)
 
 pub remade-none : (s : Sheet) → remade everyId asItIs s ≡ s
 remade-none s = ap (λ (l : List LiveCell). record { next = s .next; cells = l }) (reshaped-none (keepIds everyId (s .cells)) ∙ kept-all (s .cells))

@@ -12,11 +12,11 @@ use Rattle.complex.specs.Lists.{all, isEmpty}
 use Rattle.complex.specs.Cells.{Figure, vertex, openEdge, closedEdge, Sheet, cellAt, isVertex}
 use Rattle.complex.specs.Sound.{idsEnd, cyclesIn, stepsIn, bendsIn, ceilings}
 use Rattle.complex.specs.Decode.{create}
-use Rattle.complex.specs.Commands.{question3, question4, question5, question6, result}
+use Rattle.complex.specs.Commands.{question4, question5, question6, result}
 use Rattle.answer.specs.Sizes.{sized, sizesOf, nothing, moreLess, changedBy, newCells, changeOf, sizesAfter, sizesFit}
 use Rattle.complex.proofs.Bools.{truth}
 use Rattle.complex.proofs.Keep.{Sound, sound-parts}
-use Rattle.complex.proofs.Asked.{Passed}
+use Rattle.complex.proofs.Asked.{Passed, early-one, early-bends}
 use Rattle.answer.proofs.SizesAfter.{sizes-after}
 use Rattle.store.specs.declared.Drawing.{Drawing}
 use Rattle.store.specs.declared.Index.{Index}
@@ -102,27 +102,14 @@ module _ (d : Drawing) (z : Sizes d) (w : T (soundDrawing d)) (x : Figure) (p : 
       cell-answers = created-answers d z w x p (passes .0) (passes .1) out zo go m
 
 -- ---- 01: 4 to 6 have nothing to ask
-pub vertex-three : (p : Position) (b : Bool) → within p ≡ b → question3 (create (vertex p)) ≡ b
-unfolding question3
-vertex-three p true e = rw e
-vertex-three p false e = rw e
-
 pub vertex-passed : (d : Drawing) (p : Position) → within p ≡ true → Passed (sheetOf d) (create (vertex p))
 unfolding question4 question5 question6
-vertex-passed d p e = record { three = vertex-three p true e; four = refl; five = refl; six = refl }
+vertex-passed d p e = record { bytes = early-one (create (vertex p)) p refl e; four = refl; five = refl; six = refl }
 
 -- ---- 02 and 03: the bends are read from a script
 pub no-by-bends : (next : ℕ) (t : Totals) (r n : ℕ) (bs : List Position) → length bs ≡ n → r ≡ lateNo next 1 (changedBy (sizesBy t) (moreLess (sized 1 0 0 n) nothing))
     → r ≡ lateNo next 1 (changedBy (sizesBy t) (moreLess (sized 1 0 0 (length bs)) nothing))
 no-by-bends next t r n bs e q = q ∙ ap (λ (k : ℕ). lateNo next 1 (changedBy (sizesBy t) (moreLess (sized 1 0 0 k) nothing))) (sym e)
-
-pub open-three : (a b : ℕ) (bs : List Position) (u : Bool) → all within bs ≡ u → question3 (create (openEdge a b bs)) ≡ u
-unfolding question3
-open-three a b bs u e = e
-
-pub closed-three : (bs : List Position) (u : Bool) → all within bs ≡ u → question3 (create (closedEdge bs)) ≡ u
-unfolding question3
-closed-three bs u e = e
 
 module _ (d : Drawing) (a b : ℕ) (bs : List Position) where
   pub open-four-start : isVertex (cellAt (sheetOf d) a) ≡ false → question4 (sheetOf d) (create (openEdge a b bs)) ≡ false
@@ -135,7 +122,7 @@ module _ (d : Drawing) (a b : ℕ) (bs : List Position) where
 
   pub open-passed : all within bs ≡ true → isVertex (cellAt (sheetOf d) a) ≡ true → isVertex (cellAt (sheetOf d) b) ≡ true → Passed (sheetOf d) (create (openEdge a b bs))
   unfolding question4 question5 question6
-  open-passed g e f = record { three = open-three a b bs true g; four = rw (e, f); five = refl; six = refl }
+  open-passed g e f = record { bytes = early-bends (create (openEdge a b bs)) g; four = rw (e, f); five = refl; six = refl }
 
 -- the kind in the row of an id
 pub kind-vertex : (d : Drawing) → Sizes d → T (soundDrawing d) → (ix : Index) → Indexes d ix → (v k : ℕ) → k ≡ told 4 d ix (ix .kinds) v → eqb k 0 ≡ isVertex (cellAt (sheetOf d) v)
@@ -160,4 +147,4 @@ module _ (d : Drawing) (bs : List Position) where
 
   pub closed-passed : all within bs ≡ true → (length bs ≡ 0 → ⊥) → Passed (sheetOf d) (create (closedEdge bs))
   unfolding question5 question6
-  closed-passed g h = record { three = closed-three bs true g; four = closed-four; five = some-bends bs h; six = refl }
+  closed-passed g h = record { bytes = early-bends (create (closedEdge bs)) g; four = closed-four; five = some-bends bs h; six = refl }

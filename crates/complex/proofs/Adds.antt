@@ -13,7 +13,7 @@ use Rattle.number.specs.Readers.{spread}
 use Rattle.coordinate.specs.declared.Position.{Position}
 use Rattle.coordinate.specs.Bounds.{within}
 use Rattle.complex.specs.Lists.{all, isEmpty, rising, one}
-use Rattle.complex.specs.Cells.{Halfedge, Cycle, lone, path, Figure, vertex, openEdge, closedEdge, face, LiveCell, Sheet, Look, someIf, lookup, ids, isVertex, isOpen, isClosed, startOf, endOf, tailOf, headOf, cellAt}
+use Rattle.complex.specs.Cells.{Halfedge, Cycle, lone, path, Figure, vertex, openEdge, closedEdge, face, LiveCell, Sheet, Look, someIf, lookup, ids, isVertex, isOpen, isClosed, isFace, startOf, endOf, tailOf, headOf, cellAt}
 use Rattle.complex.specs.Sound.{idsEnd, Walk, cycleOk, figureOk, ceilings, sound, joins}
 use Rattle.complex.specs.Decode.{Command, create, move, glueVertices}
 use Rattle.complex.specs.Edits.{numbered, rebuild, everyId, asItIs, replaced, rewiredCycle, rewired, sameVertex, others}
@@ -22,6 +22,7 @@ use Rattle.complex.specs.Glue.{renamed, gluedVertices}
 use Rattle.complex.specs.Commands.{question3, question4, question5, question6, result}
 use Rattle.complex.proofs.Bools.{truth, true-of, either, both, pair, cases, false-not, not-of, equal, all-map, all-more}
 use Rattle.complex.proofs.Lookup.{orElse, changed, lookup-rebuild, lookup-from}
+use Rattle.complex.proofs.Passes.{Passes, KeepsSound}
 use Rattle.complex.proofs.Walks.{Round, Ring, Some}
 use Rattle.complex.proofs.Keep.{Sound, Look′, rebuild-sound, Carries, ring-carried, round-carried, some-spread, shape-carried, Keeps, shape-kept, cycle-kept}
 
@@ -59,6 +60,16 @@ closed-of (some (vertex p)) o′ a t = absurd t
 closed-of (some (openEdge u w bs)) o′ a t = absurd t
 closed-of (some (closedEdge bs)) o′ a t = a
 closed-of (some (face ks)) o′ a t = absurd t
+
+-- a face serves as a face did
+pub face-serves : (o : Option Figure) → T (isFace o) → (t : Figure) → o ≡ some t → (ks : List Cycle) → Alike (some t) (some (face ks))
+face-serves o f t e ks = go t (subst (λ (u : Option Figure). T (isFace u)) e f)
+  where
+    go : (t : Figure) → T (isFace (some t)) → Alike (some t) (some (face ks))
+    go (vertex p) t = absurd t
+    go (openEdge a b bs) t = absurd t
+    go (closedEdge bs) t = absurd t
+    go (face ks) t = tt
 
 module _ (look look′ : Look) (A : (i : ℕ) → Alike (look i) (look′ i)) where
   pub alike-keeps : Keeps look look′
@@ -103,13 +114,6 @@ module _ (new : List Figure) (s : Sheet) where
       (λ i t k e. shape-kept (lookup (s .cells)) (Look′ everyId asItIs new s) added-keeps t (S .figures i t e))
       (all-more (figureOk (lookup (s .cells))) (figureOk (Look′ everyId asItIs new s)) (shape-kept (lookup (s .cells)) (Look′ everyId asItIs new s) added-keeps) new h)
 
--- what a command must show: it was asked 3 to 8
-abbrev pub Passes : Sheet → Command → Type 0
-Passes s c = T (question3 c) × T (question4 s c) × T (question5 s c) × T (question6 s c) × T (leb (result s c .next) idsEnd) × T (ceilings (result s c .cells))
-
-abbrev pub KeepsSound : Command → Type 0
-KeepsSound c = (s : Sheet) → Sound s → Passes s c → Sound (result s c)
-
 -- a figure that was asked 3 to 6 is in order
 figure-passes : (s : Sheet) (x : Figure) → T (question3 (create x)) → T (question4 s (create x)) → T (question5 s (create x)) → T (question6 s (create x)) → T (figureOk (cellAt s) x)
 unfolding question3 question4 question5 question6
@@ -122,7 +126,7 @@ figure-passes s (face ks) three four five six = six
 
 pub create-sound : (x : Figure) → KeepsSound (create x)
 unfolding result
-create-sound x s S q = added-sound (one x) s S (q .4) (q .5) (pair (figureOk (cellAt s) x) true (figure-passes s x (q .0) (q .1) (q .2) (q .3)) tt)
+create-sound x s S q = added-sound (one x) s S (q .seven) (q .eight) (pair (figureOk (cellAt s) x) true (figure-passes s x (q .three) (q .four) (q .five) (q .six)) tt)
 
 -- ---- 05
 -- a shape replaced by one that is in order and serves as the old one did
@@ -145,8 +149,8 @@ module _ (i : ℕ) (t : Figure) (new : List Figure) (s : Sheet) (S : Sound s) (A
 pub move-sound : (v : ℕ) (p : Position) → KeepsSound (move v p)
 unfolding question3 question4 result moved
 move-sound v p s S q =
-    replaced-sound v (vertex p) [] s S (λ u e. serves u (subst (λ (o : Option Figure). T (isVertex o)) e (q .1))) (q .4) (q .5)
-    (both (within p) true (q .0) .0) tt
+    replaced-sound v (vertex p) [] s S (λ u e. serves u (subst (λ (o : Option Figure). T (isVertex o)) e (q .four))) (q .seven) (q .eight)
+    (both (within p) true (q .three) .0) tt
   where
     serves : (u : Figure) → T (isVertex (some u)) → Alike (some u) (some (vertex p))
     serves (vertex r) t = tt
@@ -226,5 +230,5 @@ module _ (a b : ℕ) (s : Sheet) (S : Sound s) (va : T (isVertex (cellAt s a))) 
 pub glue-sound : (a b : ℕ) → KeepsSound (glueVertices a b)
 unfolding question4 question6 result
 glue-sound a b s S q =
-    let v = both (isVertex (cellAt s a)) (isVertex (cellAt s b)) (q .1) in
-    glued-sound a b s S (v .0) (v .1) (not-of (eqb a b) (q .3)) (q .4) (q .5)
+    let v = both (isVertex (cellAt s a)) (isVertex (cellAt s b)) (q .four) in
+    glued-sound a b s S (v .0) (v .1) (not-of (eqb a b) (q .six)) (q .seven) (q .eight)

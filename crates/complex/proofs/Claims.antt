@@ -20,7 +20,7 @@ use Rattle.complex.specs.Demands.{after, live, Refusals, Issues, NeverAg
 use Rattle.complex.proofs.Bools.{truth, true-of, either, both, pair}
 use Rattle.complex.proofs.Lookup.{orElse, changed, lookup-rebuild, rising-lt}
 use Rattle.complex.proofs.Keep.{Sound}
-use Rattle.complex.proofs.Rebuilt.{Rebuilt, same, rebuilt, result-rebuilt}
+use Rattle.complex.proofs.Rebuilt.{Rebuilt, rebuilt, result-rebuilt}
 use Rattle.complex.proofs.Obey.{Outcome, refusal, obeyed, outcome}
 
 -- every command's outcome: an unsound drawing is refused by 1
@@ -79,7 +79,6 @@ follows p f new s =
 
 -- so does every kind's result
 follows-of : {s t : Sheet} → Rebuilt s t → Follows s t
-follows-of {s} same = follows-self s
 follows-of {s} (rebuilt p f new) = follows p f new s
 
 follows-result : (s : Sheet) (c : Command) → Follows s (result s c)
@@ -164,7 +163,6 @@ module _ (p : ℕ → Bool) (f : ℕ → Figure → Figure) (new : List Figure) 
 
 -- how many went is known from how many there are
 pub removed-rebuilt : (s : Sheet) → Sound s → (t : Sheet) → Rebuilt s t → length (removedFrom s t) + length (t .cells) ≡ length (s .cells) + (t .next - s .next)
-removed-rebuilt s S t same = let e = ap length (removed-none (s .cells) (s .cells) (all-live (s .cells))) in omega arith
 removed-rebuilt s S t (rebuilt p f new) =
     let a = split-cells p f new s 0 (s .cells) (S .rises) (all-live (s .cells)) in
     let b = length-append (reshape f (keepIds p (s .cells))) (numbered (s .next) new) in

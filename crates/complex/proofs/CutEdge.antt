@@ -23,7 +23,8 @@ use Rattle.complex.proofs.Gains.{gain, loss, Shift, shift}
 use Rattle.complex.proofs.Bools.{truth, true-of, either, both, pair, cases, all-append}
 use Rattle.complex.proofs.Walks.{walk-append, Round, Ring, Some, round-joins}
 use Rattle.complex.proofs.Keep.{Sound, Look′, same-eq}
-use Rattle.complex.proofs.Adds.{new-at, Passes}
+use Rattle.complex.proofs.Passes.{Passes}
+use Rattle.complex.proofs.Adds.{new-at}
 use Rattle.complex.proofs.Split.{all-getD, apart}
 use Rattle.complex.proofs.Euler.{Balanced}
 use Rattle.complex.proofs.Faces.{gain-rewired, loss-rewired, vertex-at}
@@ -240,11 +241,11 @@ module _ (s : Sheet) (S : Sound s) (e q : ℕ) (bs : List Position) (at : cellAt
 module _ (e q : ℕ) (s : Sheet) (S : Sound s) (p : Passes s (cutEdge e q)) where
   named : T (isEdge (cellAt s e))
   unfolding question4
-  named = p .1
+  named = p .four
 
   exists : T (cutExists (cellAt s e) q)
   unfolding question5
-  exists = p .2
+  exists = p .five
 
   asShape : result s (cutEdge e q) ≡ cutFigure s e q (cellAt s e)
   unfolding result edgeCut
@@ -258,10 +259,10 @@ module _ (e q : ℕ) (s : Sheet) (S : Sound s) (p : Passes s (cutEdge e q)) wher
       go (some (vertex r)) z = absurd (subst (λ (o : Option Figure). T (isEdge o)) z named)
       go (some (openEdge a b bs)) z =
           let r : result s (cutEdge e q) ≡ cutFigure s e q (some (openEdge a b bs)) = asShape ∙ ap (cutFigure s e q) z in
-          rw r (open-cut-sound s S e q a b bs z (subst (λ (o : Option Figure). T (cutExists o q)) z exists) (rw r at (p .4)) (rw r at (p .5)))
+          rw r (open-cut-sound s S e q a b bs z (subst (λ (o : Option Figure). T (cutExists o q)) z exists) (rw r at (p .seven)) (rw r at (p .eight)))
       go (some (closedEdge bs)) z =
           let r : result s (cutEdge e q) ≡ cutFigure s e q (some (closedEdge bs)) = asShape ∙ ap (cutFigure s e q) z in
-          rw r (closed-cut-sound s S e q bs z (subst (λ (o : Option Figure). T (cutExists o q)) z exists) (rw r at (p .4)) (rw r at (p .5)))
+          rw r (closed-cut-sound s S e q bs z (subst (λ (o : Option Figure). T (cutExists o q)) z exists) (rw r at (p .seven)) (rw r at (p .eight)))
       go (some (face ks)) z = absurd (subst (λ (o : Option Figure). T (isEdge o)) z named)
 
   pub cut-edge-balanced : Balanced s (cutEdge e q)

@@ -25,7 +25,7 @@ use Rattle.complex.proofs.Bools.{truth, true-of, either, both, pair, ca
 use Rattle.complex.proofs.Lookup.{orElse, changed, lookup-rebuild}
 use Rattle.complex.proofs.Walks.{Ring, Some, joins-cases}
 use Rattle.complex.proofs.Keep.{Sound, Look′, rebuild-sound}
-use Rattle.complex.proofs.Adds.{Passes, KeepsSound}
+use Rattle.complex.proofs.Passes.{Passes, KeepsSound}
 
 -- ---- being in a list
 pub holds-left : (x : ℕ) (xs ys : List ℕ) → T (holds x xs) → T (holds x (xs ++ ys))
@@ -301,4 +301,4 @@ module _ (s : Sheet) (S : Sound s) (i : ℕ) where
 
 pub delete-sound : (i : ℕ) → KeepsSound (delete i)
 unfolding result
-delete-sound i s S q = deleted-sound s S i (q .4) (q .5)
+delete-sound i s S q = deleted-sound s S i (q .seven) (q .eight)

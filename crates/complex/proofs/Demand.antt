@@ -11,7 +11,8 @@ use Rattle.complex.specs.Decode.{Command, create, move, delete, glueVert
 use Rattle.complex.specs.Commands.{result}
 use Rattle.complex.specs.Demands.{Demand3}
 use Rattle.complex.proofs.Keep.{Sound}
-use Rattle.complex.proofs.Adds.{Passes, KeepsSound, create-sound, move-sound, glue-sound}
+use Rattle.complex.proofs.Passes.{Passes, KeepsSound}
+use Rattle.complex.proofs.Adds.{create-sound, move-sound, glue-sound}
 use Rattle.complex.proofs.Split.{split-sound}
 use Rattle.complex.proofs.Euler.{Balanced, create-balanced, delete-balanced, split-balanced}
 use Rattle.complex.proofs.Delete.{delete-sound}

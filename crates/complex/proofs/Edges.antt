@@ -24,7 +24,8 @@ use Rattle.complex.proofs.Gains.{gain, loss, Shift, shift}
 use Rattle.complex.proofs.Bools.{truth, true-of, either, both, pair, cases, not-of, all-append}
 use Rattle.complex.proofs.Walks.{walk-append, Round, Ring, Some, round-joins, ring-joins}
 use Rattle.complex.proofs.Keep.{Sound, Look′, rebuild-sound, same-eq, Carries, ring-carried, round-carried, some-spread, shape-carried}
-use Rattle.complex.proofs.Adds.{Alike, vertex-of, open-of, closed-of, stays-at, new-at, Passes, KeepsSound}
+use Rattle.complex.proofs.Passes.{Passes, KeepsSound}
+use Rattle.complex.proofs.Adds.{Alike, vertex-of, open-of, closed-of, stays-at, new-at}
 use Rattle.complex.proofs.Split.{all-getD, apart}
 use Rattle.complex.proofs.Euler.{over-kept, Balanced}
 use Rattle.complex.proofs.Faces.{over-others, gain-rewired, loss-rewired}
@@ -111,21 +112,21 @@ module _ (a b flag : ℕ) (s : Sheet) (S : Sound s) (q : Passes s (glueEdges a b
 
   edges : T (isEdge (cellAt s a)) × T (isEdge (cellAt s b))
   unfolding question4
-  edges = both (isEdge (cellAt s a)) (isEdge (cellAt s b)) (q .1)
+  edges = both (isEdge (cellAt s a)) (isEdge (cellAt s b)) (q .four)
 
   flags : flag ≤ 1
   unfolding question5
-  flags = leb→le flag 1 (q .2)
+  flags = leb→le flag 1 (q .five)
 
   apart₈ : eqb a b ≡ false
   unfolding question6
-  apart₈ = not-of (eqb a b) (both (not (eqb a b)) (mayGlue (cellAt s a) (cellAt s b) flag) (q .3) .0)
+  apart₈ = not-of (eqb a b) (both (not (eqb a b)) (mayGlue (cellAt s a) (cellAt s b) flag) (q .six) .0)
 
   rule : (T (isClosed (cellAt s a)) × T (isClosed (cellAt s b)))
       ⊎ (T (isOpen (cellAt s a)) × T (isOpen (cellAt s b))
       × T (cond (eqb flag 0) (eqb (startOf (cellAt s a)) (startOf (cellAt s b)) && eqb (endOf (cellAt s a)) (endOf (cellAt s b))) (eqb (startOf (cellAt s a)) (endOf (cellAt s b)) && eqb (endOf (cellAt s a)) (startOf (cellAt s b)))))
   unfolding question6
-  rule = elim (cases (isClosed (cellAt s a) && isClosed (cellAt s b)) _ (both (not (eqb a b)) (mayGlue (cellAt s a) (cellAt s b) flag) (q .3) .1)) [
+  rule = elim (cases (isClosed (cellAt s a) && isClosed (cellAt s b)) _ (both (not (eqb a b)) (mayGlue (cellAt s a) (cellAt s b) flag) (q .six) .1)) [
     | inl c ↦ inl (both (isClosed (cellAt s a)) (isClosed (cellAt s b)) c)
     | inr o ↦ let x = both (isOpen (cellAt s a)) _ o in let y = both (isOpen (cellAt s b)) _ (x .1) in inr (x .0, y .0, y .1)
   ]
@@ -174,7 +175,7 @@ module _ (a b flag : ℕ) (s : Sheet) (S : Sound s) (q : Passes s (glueEdges a b
 
   pub glue-edges-sound : Sound (result s (glueEdges a b flag))
   unfolding result gluedEdges
-  glue-edges-sound = swapped-sound s S b (edges .1) σ₈ [] (stays-one b a (eqb flag 1)) (λ h. tt) here-walk₈ here-ring₈ (q .4) (q .5) tt
+  glue-edges-sound = swapped-sound s S b (edges .1) σ₈ [] (stays-one b a (eqb flag 1)) (λ h. tt) here-walk₈ here-ring₈ (q .seven) (q .eight) tt
 
   pub glue-edges-balanced : Balanced s (glueEdges a b flag)
   unfolding result gluedEdges

@@ -22,17 +22,13 @@ use Rattle.complex.specs.Cut.{noCycle, corner, stretch, remainder, split
 use Rattle.complex.specs.Commands.{question4, question5, result, share}
 use Rattle.complex.proofs.Gains.{gain, loss, shift, sub-equal, sub-add, euler-sub, share-sub}
 use Rattle.complex.proofs.Bools.{truth, true-of, both}
-use Rattle.complex.proofs.Lookup.{lookup-upto, lookup-keep, rising-filter}
+use Rattle.complex.proofs.Lookup.{lookup-upto, lookup-keep, rising-filter, kept-all}
 use Rattle.complex.proofs.Keep.{Sound}
-use Rattle.complex.proofs.Adds.{Passes}
+use Rattle.complex.proofs.Passes.{Passes}
 use Rattle.complex.proofs.Split.{is-face}
 use Rattle.complex.proofs.Sums.{total-by, length-left}
 
 -- ---- sums over cells
-pub keep-all : (cs : List LiveCell) → keepIds everyId cs ≡ cs
-keep-all [] = refl
-keep-all (c ∷ cs) = ap (λ (ds : List LiveCell). c ∷ ds) (keep-all cs)
-
 module _ (g : Figure → ℕ) where
   pub over-append : (cs ds : List LiveCell) → over g (cs ++ ds) ≡ over g cs + over g ds
   over-append [] ds = omega arith
@@ -107,7 +103,7 @@ pub over-kept : (g : Figure → ℕ) (f : ℕ → Figure → Figure) → ((i : �
 over-kept g f h p new s = over-rebuild g p f new s ∙ ap (λ (k : ℕ). k + total g new) (over-reshape g f h (keepIds p (s .cells)))
 
 pub over-all : (g : Figure → ℕ) (f : ℕ → Figure → Figure) → ((i : ℕ) (t : Figure) → g (f i t) ≡ g t) → (new : List Figure) (s : Sheet) → over g (rebuild everyId f new s .cells) ≡ over g (s .cells) + total g new
-over-all g f h new s = over-kept g f h everyId new s ∙ ap (λ (cs : List LiveCell). over g cs + total g new) (keep-all (s .cells))
+over-all g f h new s = over-kept g f h everyId new s ∙ ap (λ (cs : List LiveCell). over g cs + total g new) (kept-all (s .cells))
 
 pub over-added : (g : Figure → ℕ) (new : List Figure) (s : Sheet) → over g (rebuild everyId asItIs new s .cells) ≡ over g (s .cells) + total g new
 over-added g new s = over-all g asItIs (λ i t. refl) new s
@@ -124,7 +120,7 @@ pub over-changed : (g : Figure → ℕ) (i : ℕ) (t u : Figure) (new : List Fig
     → over g (rebuild everyId (replaced i t) new s .cells) + g u ≡ over g (s .cells) + g t + total g new
 over-changed g i t u new s S e =
     let a = over-put g everyId i t u new s S tt e in
-    let b = ap (over g) (keep-all (s .cells)) in
+    let b = ap (over g) (kept-all (s .cells)) in
     omega arith
 
 -- ---- 01 to 04
@@ -151,7 +147,7 @@ pub split-balanced : (f c s1 s2 : ℕ) (bs : List Position) (ms : List ℕ) (s :
 unfolding question4 question5 result faceCutAlong
 split-balanced f c s1 s2 bs ms s S q =
     let E : eqb c c ≡ true = eq-eqb c c refl in
-    let a = both (ltb c (length ks)) _ (q .2) in
+    let a = both (ltb c (length ks)) _ (q .five) in
     let b = both (ltb c (length ks)) _ (a .1) in
     let d = both (cornerExists (cellAt s) (getD ks c noCycle) s1) _ (b .1) in
     let g = both (cornerExists (cellAt s) (getD ks c noCycle) s2) _ (d .1) in
@@ -169,7 +165,7 @@ split-balanced f c s1 s2 bs ms s S q =
         let x = set ks c (path (stretch s1 s2 (stepsOf k) ++ one (against (s .next)))) in
         let t = face (without ms 0 x) in
         let new = openEdge (corner (cellAt s) k s1) (corner (cellAt s) k s2) bs ∷ face (path (remainder s1 s2 (stepsOf k) ++ one (along (s .next))) ∷ chosen noCycle ms ks) ∷ [] in
-        let e = is-face s f (q .1) in
+        let e = is-face s f (q .four) in
         let u = over-changed gain f t (face ks) new s S e in
         let v = over-changed loss f t (face ks) new s S e in
         let l : length x ≡ length ks = length-set ks c _ in

@@ -26,7 +26,8 @@ use Rattle.complex.proofs.Bools.{truth, true-of, both, pair, all-append
 use Rattle.complex.proofs.Lookup.{lookup-keep, rising-filter}
 use Rattle.complex.proofs.Walks.{walk-append, Round, round-rotated, Ring, Some, joins-cases, round-joins, ring-joins}
 use Rattle.complex.proofs.Keep.{Sound, Look′, Keeps, walk-kept, cycle-kept}
-use Rattle.complex.proofs.Adds.{Alike, new-at, replaced-keeps, replaced-sound, Passes, KeepsSound}
+use Rattle.complex.proofs.Passes.{Passes, KeepsSound}
+use Rattle.complex.proofs.Adds.{Alike, new-at, replaced-keeps, replaced-sound, face-serves}
 use Rattle.complex.proofs.Split.{all-getD, all-set, all-without, all-chosen, ring-no-corner, corner-vertex, is-face}
 use Rattle.complex.proofs.Sums.{length-left, length-but-one}
 use Rattle.complex.proofs.Euler.{over-keep, over-kept, over-changed, Balanced}
@@ -112,7 +113,7 @@ vertex-at s v t = go (cellAt s v) refl t
 pub move-balanced : (v : ℕ) (p : Position) (s : Sheet) → Sound s → Passes s (move v p) → Balanced s (move v p)
 unfolding question4 result moved
 move-balanced v p s S q =
-    let u = vertex-at s v (q .1) in
+    let u = vertex-at s v (q .four) in
     let a = over-changed gain v (vertex p) (vertex (u .0)) [] s S (u .1) in
     let b = over-changed loss v (vertex p) (vertex (u .0)) [] s S (u .1) in
     omega arith
@@ -120,7 +121,7 @@ move-balanced v p s S q =
 pub glue-balanced : (a b : ℕ) (s : Sheet) → Sound s → Passes s (glueVertices a b) → Balanced s (glueVertices a b)
 unfolding question4 result gluedVertices
 glue-balanced a b s S q =
-    let v = vertex-at s b (both (isVertex (cellAt s a)) (isVertex (cellAt s b)) (q .1) .1) in
+    let v = vertex-at s b (both (isVertex (cellAt s a)) (isVertex (cellAt s b)) (q .four) .1) in
     let x = over-kept gain (rewired (renamed a b) one) (gain-rewired (renamed a b) one) (others b) [] s in
     let y = over-kept loss (rewired (renamed a b) one) (loss-rewired (renamed a b) one) (others b) [] s in
     let m = over-others gain b (vertex (v .0)) 0 (s .cells) (s .next) (S .rises) (v .1) in
@@ -132,17 +133,8 @@ module _ (s : Sheet) (S : Sound s) (f : ℕ) (isF : T (isFace (cellAt s f))) (ks
   abbrev refaced : Look
   refaced = Look′ everyId (replaced f (face ks′)) new s
 
-  serves : (t : Figure) → cellAt s f ≡ some t → Alike (some t) (some (face ks′))
-  serves t q = go t (subst (λ (o : Option Figure). T (isFace o)) q isF)
-    where
-      go : (t : Figure) → T (isFace (some t)) → Alike (some t) (some (face ks′))
-      go (vertex p) t = absurd t
-      go (openEdge a b bs) t = absurd t
-      go (closedEdge bs) t = absurd t
-      go (face ks) t = tt
-
   pub refaced-keeps : Keeps (cellAt s) refaced
-  refaced-keeps = replaced-keeps f (face ks′) new s S serves
+  refaced-keeps = replaced-keeps f (face ks′) new s S (λ t q. face-serves (cellAt s f) isF t q ks′)
 
   pub cycles-ok : T (all (cycleOk (cellAt s)) (cyclesOf (cellAt s f)))
   cycles-ok = S .figures f (face (cyclesOf (cellAt s f))) (is-face s f isF)
@@ -152,7 +144,7 @@ module _ (s : Sheet) (S : Sound s) (f : ℕ) (isF : T (isFace (cellAt s f))) (ks
 
   pub refaced-sound : T (leb (rebuild everyId (replaced f (face ks′)) new s .next) idsEnd) → T (ceilings (rebuild everyId (replaced f (face ks′)) new s .cells))
       → T (all (cycleOk refaced) ks′) → T (all (figureOk refaced) new) → Sound (rebuild everyId (replaced f (face ks′)) new s)
-  refaced-sound seven eight here there = replaced-sound f (face ks′) new s S serves seven eight here there
+  refaced-sound seven eight here there = replaced-sound f (face ks′) new s S (λ t q. face-serves (cellAt s f) isF t q ks′) seven eight here there
 
   pub refaced-over : (g : Figure → ℕ) → over g (rebuild everyId (replaced f (face ks′)) new s .cells) + g (face (cyclesOf (cellAt s f))) ≡ over g (s .cells) + g (face ks′) + total g new
   refaced-over g = over-changed g f (face ks′) (face (cyclesOf (cellAt s f))) new s S (is-face s f isF)
@@ -169,17 +161,17 @@ dot-sound f p s S q =
     let ks′ = ks ++ one (lone (s .next)) in
     let look′ = Look′ everyId (replaced f (face ks′)) (vertex p ∷ []) s in
     let v : T (isVertex (look′ (s .next))) = rw (first-new f ks′ (vertex p) [] s S) tt in
-    refaced-sound s S f (q .1) ks′ (vertex p ∷ []) (q .4) (q .5)
-    (all-append (cycleOk look′) ks (one (lone (s .next))) (cycles-ok′ s S f (q .1) ks′ (vertex p ∷ [])) (pair (isVertex (look′ (s .next))) true v tt))
-    (q .0)
+    refaced-sound s S f (q .four) ks′ (vertex p ∷ []) (q .seven) (q .eight)
+    (all-append (cycleOk look′) ks (one (lone (s .next))) (cycles-ok′ s S f (q .four) ks′ (vertex p ∷ [])) (pair (isVertex (look′ (s .next))) true v tt))
+    (q .three)
 
 pub dot-balanced : (f : ℕ) (p : Position) (s : Sheet) → Sound s → Passes s (cutFaceVertex f p) → Balanced s (cutFaceVertex f p)
 unfolding question4 result faceCutAt
 dot-balanced f p s S q =
     let ks = cyclesOf (cellAt s f) in
     let ks′ = ks ++ one (lone (s .next)) in
-    let a = refaced-over s S f (q .1) ks′ (vertex p ∷ []) gain in
-    let b = refaced-over s S f (q .1) ks′ (vertex p ∷ []) loss in
+    let a = refaced-over s S f (q .four) ks′ (vertex p ∷ []) gain in
+    let b = refaced-over s S f (q .four) ks′ (vertex p ∷ []) loss in
     let l = length-append ks (one (lone (s .next))) in
     omega arith
 
@@ -196,15 +188,15 @@ module _ (f : ℕ) (bs : List Position) (ms : List ℕ) (s : Sheet) (S : Sound s
 
   isF : T (isFace (cellAt s f))
   unfolding question4
-  isF = q .1
+  isF = q .four
 
   counts : T (not (isEmpty bs)) × T (places 0 ms (length rks))
   unfolding question5
-  counts = both (not (isEmpty bs)) (places 0 ms (length rks)) (q .2)
+  counts = both (not (isEmpty bs)) (places 0 ms (length rks)) (q .five)
 
   bends : T (all within bs)
   unfolding question3
-  bends = q .0
+  bends = q .three
 
   ring : (h : Halfedge) → h .edge ≡ s .next → T (joins (Look′ everyId (replaced f (face rks′)) rnew s) (one h))
   ring h e = ring-joins (Look′ everyId (replaced f (face rks′)) rnew s) (one h) (rw (e, first-new f rks′ (closedEdge bs) (face (path (one (against (s .next))) ∷ chosen noCycle ms rks) ∷ []) s S) tt, tt)
@@ -214,7 +206,7 @@ module _ (f : ℕ) (bs : List Position) (ms : List ℕ) (s : Sheet) (S : Sound s
   round-sound =
       let look′ = Look′ everyId (replaced f (face rks′)) rnew s in
       let old = cycles-ok′ s S f isF rks′ rnew in
-      refaced-sound s S f isF rks′ rnew (q .4) (q .5)
+      refaced-sound s S f isF rks′ rnew (q .seven) (q .eight)
       (all-append (cycleOk look′) (without ms 0 rks) (one (path (one (along (s .next))))) (all-without (cycleOk look′) ms 0 rks old)
       (pair (joins look′ (one (along (s .next)))) true (ring (along (s .next)) refl) tt))
       (pair (not (isEmpty bs) && all within bs) _ (pair (not (isEmpty bs)) (all within bs) (counts .0) bends)
@@ -276,12 +268,12 @@ module _ (f c1 s1 c2 s2 : ℕ) (bs : List Position) (ms : List ℕ) (s : Sheet) 
 
   bisF : T (isFace (cellAt s f))
   unfolding question4
-  bisF = q .1
+  bisF = q .four
 
   corners : (c1 < length bks) × (c2 < length bks) × T (cornerExists (cellAt s) k1 s1) × T (cornerExists (cellAt s) k2 s2)
   unfolding question5
   corners =
-      let a = both (ltb c1 (length bks)) _ (q .2) in
+      let a = both (ltb c1 (length bks)) _ (q .five) in
       let b = both (ltb c2 (length bks)) _ (a .1) in
       let d = both (cornerExists (cellAt s) k1 s1) _ (b .1) in
       let g = both (cornerExists (cellAt s) k2 s2) _ (d .1) in
@@ -289,7 +281,7 @@ module _ (f c1 s1 c2 s2 : ℕ) (bs : List Position) (ms : List ℕ) (s : Sheet) 
 
   bbends : T (all within bs)
   unfolding question3
-  bbends = q .0
+  bbends = q .three
 
   ok1 : T (cycleOk (cellAt s) k1)
   ok1 = all-getD (cycleOk (cellAt s)) bks c1 noCycle (cycles-ok s S f bisF bks′ bnew) (corners .0)
@@ -324,7 +316,7 @@ module _ (f c1 s1 c2 s2 : ℕ) (bs : List Position) (ms : List ℕ) (s : Sheet) 
       let K = refaced-keeps s S f bisF bks′ bnew in
       let u = corner (cellAt s) k1 s1 in
       let w = corner (cellAt s) k2 s2 in
-      rw cut-two (refaced-sound s S f bisF bks′ bnew (rw cut-two at (q .4)) (rw cut-two at (q .5))
+      rw cut-two (refaced-sound s S f bisF bks′ bnew (rw cut-two at (q .seven)) (rw cut-two at (q .eight))
       (all-without (cycleOk blook) (one c2) 0 (set bks c1 (path joinedPath)) (all-set (cycleOk blook) bks c1 (path joinedPath) (cycles-ok′ s S f bisF bks′ bnew) bridge-walk))
       (pair (isVertex (blook u) && (isVertex (blook w) && all within bs)) true
       (pair (isVertex (blook u)) (isVertex (blook w) && all within bs) (K .vertices u (corner-vertex s S k1 s1 ok1 (corners .2)))

@@ -45,7 +45,7 @@ bends-held bs d l = (omega arith, go bs d)
 
 -- where what is named is live, its id is below the end of ids
 module _ (look : Look) (live : (i : ℕ) → (look i ≡ none → ⊥) → i < idsEnd) where
-  named : (q : Option Figure → Bool) → (T (q none) → ⊥) → (i : ℕ) → T (q (look i)) → i < idsEnd
+  pub named : (q : Option Figure → Bool) → (T (q none) → ⊥) → (i : ℕ) → T (q (look i)) → i < idsEnd
   named q dead i t = live i (λ e. dead (subst (λ (o : Option Figure). T (q o)) e t))
 
   walk-held : (u : ℕ) (hs : List Halfedge) (w : ℕ) → Walk look u hs w → Each StepHeld hs

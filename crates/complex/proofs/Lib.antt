@@ -1,8 +1,10 @@
 pub mod Rows
 pub mod Bools
+pub mod Questions
 pub mod Lookup
 pub mod Walks
 pub mod Keep
+pub mod Passes
 pub mod Gains
 pub mod Adds
 pub mod Split
@@ -28,6 +30,7 @@ pub mod FileReaders
 pub mod ReadDoubles
 pub mod Doubles
 pub mod Files
+pub mod Plan
 pub mod Rebuilt
 pub mod Claims
 pub mod Asked

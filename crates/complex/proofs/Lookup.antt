@@ -5,15 +5,30 @@ use native.Mathlib.Omega.{arith}
 use mathlib.Core.Path.{_≡_, refl, sym, ap, _∙_, subst}
 use mathlib.Core.Logic.{_⊎_, inl, inr}
 use mathlib.Core.Bool.{Bool, true, false, not, _&&_, _||_, cond, true≢false, false≢true}
-use mathlib.Core.List.{List, [], _∷_, _++_, map}
+use mathlib.Core.List.{List, [], _∷_, _++_, map, append-nil}
 use mathlib.Core.Option.{Option, none, some}
 use lib.ListN.{length}
 use lib.Dec.{T, eqb, ltb, leb, eqb→eq, eqb-refl, ltb→lt, lt→ltb}
 use borrow.Author.Tests.{eq-eqb, ne-eqb, eqb-true, eqb-false}
 use Rattle.complex.specs.Lists.{all, consIf, filter, rising}
 use Rattle.complex.specs.Cells.{Figure, LiveCell, Sheet, Look, someIf, lookup, ids}
-use Rattle.complex.specs.Edits.{keepIds, reshape, numbered, rebuild}
+use Rattle.complex.specs.Edits.{keepIds, reshape, numbered, rebuild, everyId, asItIs}
 use Rattle.complex.proofs.Bools.{truth, either, both, pair, false-not}
+
+-- ---- a change that changes nothing
+pub kept-all : (cs : List LiveCell) → keepIds everyId cs ≡ cs
+kept-all [] = refl
+kept-all (c ∷ cs) = ap (λ (ds : List LiveCell). c ∷ ds) (kept-all cs)
+
+pub reshaped-none : (cs : List LiveCell) → reshape asItIs cs ≡ cs
+reshaped-none [] = refl
+reshaped-none (c ∷ cs) = ap (λ (ds : List LiveCell). c ∷ ds) (reshaped-none cs)
+
+pub rebuild-none : (s : Sheet) → rebuild everyId asItIs [] s ≡ s
+rebuild-none s =
+    let n : s .next + 0 ≡ s .next = omega arith in
+    let e = append-nil (reshape asItIs (keepIds everyId (s .cells))) ∙ reshaped-none (keepIds everyId (s .cells)) ∙ kept-all (s .cells) in
+    λ i. record { next = n i; cells = e i }
 
 -- ---- lookup through the three changes
 abbrev pub orElse : Option Figure → Option Figure → Option Figure

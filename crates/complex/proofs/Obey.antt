@@ -17,12 +17,13 @@ use Rattle.complex.specs.Euler.{euler}
 use Rattle.complex.specs.Decode.{Command, delete, decode}
 use Rattle.complex.specs.Delete.{deleted}
 use Rattle.complex.specs.Commands.{question3, question4, question5, question6, result}
-use Rattle.complex.specs.Answer.{Answer, no, done, asked2, asked3, asked4, asked5, asked6, asked7, asked8, command}
+use Rattle.complex.specs.Answer.{Answer, no, done, firstNo, questions, answered, asked2, asked3, command}
 use Rattle.complex.specs.Calls.{starCall, eulerCall}
 use Rattle.complex.specs.Demands.{after, accepted, shareRead, shares, live, Took, DeleteExact, Deletes, AfterAll, Demand3}
 use Rattle.complex.proofs.Bools.{truth, true-of, either}
+use Rattle.complex.proofs.Questions.{no-first, Yes, all-yes}
 use Rattle.complex.proofs.Keep.{Sound, sound-parts, parts-sound}
-use Rattle.complex.proofs.Adds.{Passes, KeepsSound}
+use Rattle.complex.proofs.Passes.{Passes, KeepsSound}
 use Rattle.complex.proofs.Euler.{Balanced, balanced-euler}
 use Rattle.complex.proofs.Delete.{deleted-took}
 use Rattle.complex.proofs.Star.{star-right}
@@ -37,16 +38,14 @@ pub data Asked (s : Sheet) (c : Command) : Type 0 where
 
 pub asked : (s : Sheet) (c : Command) → Asked s c
 unfolding asked3
-asked s c = go (question3 c) (question4 s c) (question5 s c) (question6 s c) (leb (result s c .next) idsEnd) (ceilings (result s c .cells)) refl refl refl refl refl refl
+asked s c = go (firstNo (questions s c)) refl
   where
-    go : (q3 q4 q5 q6 q7 q8 : Bool) → question3 c ≡ q3 → question4 s c ≡ q4 → question5 s c ≡ q5 → question6 s c ≡ q6 → leb (result s c .next) idsEnd ≡ q7 → ceilings (result s c .cells) ≡ q8 → Asked s c
-    go false q4 q5 q6 q7 q8 a b d e f g = refusal 3 (λ z. omega arith) (rw a)
-    go true false q5 q6 q7 q8 a b d e f g = refusal 4 (λ z. omega arith) (rw (a, b))
-    go true true false q6 q7 q8 a b d e f g = refusal 5 (λ z. omega arith) (rw (a, b, d))
-    go true true true false q7 q8 a b d e f g = refusal 6 (λ z. omega arith) (rw (a, b, d, e))
-    go true true true true false q8 a b d e f g = refusal 7 (λ z. omega arith) (rw (a, b, d, e, f))
-    go true true true true true false a b d e f g = refusal 8 (λ z. omega arith) (rw (a, b, d, e, f, g))
-    go true true true true true true a b d e f g = passed (truth a, truth b, truth d, truth e, truth f, truth g) (rw (a, b, d, e, f, g))
+    passes : Yes (questions s c) → Passes s c
+    passes (three, (four, (five, (six, (seven, (eight, _)))))) = record { three = three; four = four; five = five; six = six; seven = seven; eight = eight }
+
+    go : (n : ℕ) → firstNo (questions s c) ≡ n → Asked s c
+    go zero e = passed (passes (all-yes (questions s c) (firstNo (questions s c)) (no-first (questions s c)) tt e)) (ap (answered s (result s c)) e)
+    go (suc n) e = refusal (suc n) (λ z. omega arith) (ap (answered s (result s c)) e)
 
 pub outcome : (s : Sheet) (b : List ℕ) → T (sound s) → Outcome s b
 unfolding command
@@ -95,7 +94,7 @@ module _ (keeps : (c : Command) → KeepsSound c) (balances : (c : Command) (s :
   ]
     where
       took : (c : Command) → Passes s c → c ≡ delete i → Took s (result s c) i
-      took c p z = rw z (deleted-took s (sound-parts s S) i (subst (λ (x : Command). T (question4 s x)) z (p .1)))
+      took c p z = rw z (deleted-took s (sound-parts s S) i (subst (λ (x : Command). T (question4 s x)) z (p .four)))
 
   pub after-sound : (s : Sheet) (bs : List (List ℕ)) → T (sound s) → T (sound (after s bs))
   after-sound s [] S = S

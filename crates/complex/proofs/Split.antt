@@ -22,7 +22,8 @@ use Rattle.complex.specs.Commands.{question3, question4, question5, resu
 use Rattle.complex.proofs.Bools.{truth, true-of, both, pair, false-not, all-more}
 use Rattle.complex.proofs.Walks.{walk-append, walk-split, Round, round-rotated, Ring, Some, joins-cases, round-joins}
 use Rattle.complex.proofs.Keep.{Sound, Look′, Keeps, walk-kept, cycle-kept, same-eq}
-use Rattle.complex.proofs.Adds.{Alike, new-at, replaced-keeps, replaced-sound, Passes}
+use Rattle.complex.proofs.Passes.{Passes}
+use Rattle.complex.proofs.Adds.{Alike, new-at, replaced-keeps, replaced-sound, face-serves}
 
 -- ---- all the elements, after a choice
 module _ {A : Type 0} (p : A → Bool) where
@@ -215,17 +216,8 @@ module _ (s : Sheet) (S : Sound s) (f c s1 s2 : ℕ) (bs : List Position) (ms : 
   abbrev look′ : Look
   look′ = Look′ everyId (replaced f (face ks′)) new s
 
-  serves : (t : Figure) → cellAt s f ≡ some t → Alike (some t) (some (face ks′))
-  serves t q = go t (subst (λ (o : Option Figure). T (isFace o)) q isF)
-    where
-      go : (t : Figure) → T (isFace (some t)) → Alike (some t) (some (face ks′))
-      go (vertex p) t = absurd t
-      go (openEdge a b bs) t = absurd t
-      go (closedEdge bs) t = absurd t
-      go (face ks) t = tt
-
   kept : Keeps (cellAt s) look′
-  kept = replaced-keeps f (face ks′) new s S serves
+  kept = replaced-keeps f (face ks′) new s S (λ t q. face-serves (cellAt s f) isF t q ks′)
 
   cyclesOk : T (all (cycleOk (cellAt s)) ks)
   cyclesOk = S .figures f (face ks) (is-face s f isF)
@@ -262,7 +254,7 @@ module _ (s : Sheet) (S : Sound s) (f c s1 s2 : ℕ) (bs : List Position) (ms : 
 
   pub split-parts : T (leb (splitInTwo s f c s1 s2 bs ms ks .next) idsEnd) → T (ceilings (splitInTwo s f c s1 s2 bs ms ks .cells)) → Sound (splitInTwo s f c s1 s2 bs ms ks)
   split-parts seven eight =
-      replaced-sound f (face ks′) new s S serves seven eight
+      replaced-sound f (face ks′) new s S (λ t q. face-serves (cellAt s f) isF t q ks′) seven eight
       (all-without (cycleOk look′) ms 0 (set ks c (path (P ++ one (against e)))) (all-set (cycleOk look′) ks c (path (P ++ one (against e))) cyclesOk′ P-closed)) new-ok
 
 pub split-sound : (f c s1 s2 : ℕ) (bs : List Position) (ms : List ℕ) (s : Sheet) → Sound s → Passes s (cutFaceOpen f c s1 c s2 bs ms) → Sound (result s (cutFaceOpen f c s1 c s2 bs ms))
@@ -270,10 +262,10 @@ unfolding question3 question4 question5 result faceCutAlong
 split-sound f c s1 s2 bs ms s S q =
     let ks = cyclesOf (cellAt s f) in
     let E : eqb c c ≡ true = eq-eqb c c refl in
-    let a = both (ltb c (length ks)) _ (q .2) in
+    let a = both (ltb c (length ks)) _ (q .five) in
     let b = both (ltb c (length ks)) _ (a .1) in
     let d = both (cornerExists (cellAt s) (getD ks c noCycle) s1) _ (b .1) in
     let g = both (cornerExists (cellAt s) (getD ks c noCycle) s2) _ (d .1) in
     let h : T (places 0 ms (length ks) && not (holds c ms)) = rw E at (g .1) in
     let m = both (places 0 ms (length ks)) (not (holds c ms)) h in
-    rw E (split-parts s S f c s1 s2 bs ms (q .1) (q .0) (ltb→lt c (length ks) (a .0)) (d .0) (g .0) (m .0) (rw E at (q .4)) (rw E at (q .5)))
+    rw E (split-parts s S f c s1 s2 bs ms (q .four) (q .three) (ltb→lt c (length ks) (a .0)) (d .0) (g .0) (m .0) (rw E at (q .seven)) (rw E at (q .eight)))

@@ -18,7 +18,7 @@ use Rattle.complex.specs.Commands.{question4, question6, result}
 use Rattle.complex.proofs.Gains.{gain, loss}
 use Rattle.complex.proofs.Bools.{truth, true-of, both, false-not}
 use Rattle.complex.proofs.Keep.{Sound}
-use Rattle.complex.proofs.Adds.{Passes}
+use Rattle.complex.proofs.Passes.{Passes}
 use Rattle.complex.proofs.Euler.{Balanced}
 use Rattle.complex.proofs.UncutFaces.{Placed, listed, real-u, real-w, placed-use, merged-sound, merged-over, rings-sound, rings-over}
 use Rattle.complex.proofs.UncutCycle.{Only, one-cycle-sound, one-cycle-over}
@@ -141,8 +141,8 @@ module _ (s : Sheet) (S : Sound s) (i : ℕ) where
 
   pub uncut-sound : Passes s (uncut i) → Sound (result s (uncut i))
   unfolding result uncutAt
-  uncut-sound p = good-sound (uncutCase s i) (uncut-holds (p .3)) (p .4) (p .5)
+  uncut-sound p = good-sound (uncutCase s i) (uncut-holds (p .six)) (p .seven) (p .eight)
 
   pub uncut-balanced : Passes s (uncut i) → Balanced s (uncut i)
   unfolding result uncutAt
-  uncut-balanced p = let h = good-over (uncutCase s i) (uncut-holds (p .3)) in omega arith
+  uncut-balanced p = let h = good-over (uncutCase s i) (uncut-holds (p .six)) in omega arith

@@ -25,7 +25,8 @@ use Rattle.complex.proofs.Bools.{truth, true-of, either, both, pair, ca
 use Rattle.complex.proofs.Lookup.{lookup-keep}
 use Rattle.complex.proofs.Walks.{Round, Ring, Some, joins-cases, round-joins, ring-joins}
 use Rattle.complex.proofs.Keep.{Sound, Look′, rebuild-sound, same-eq, same-refl, ring-carried, spread-one, Keeps, tail-kept, head-kept, walk-kept, joins-kept, cycle-kept, shape-kept}
-use Rattle.complex.proofs.Adds.{Alike, alike-same, alike-rebuild, stays-at, new-at, Passes}
+use Rattle.complex.proofs.Passes.{Passes}
+use Rattle.complex.proofs.Adds.{Alike, alike-same, alike-rebuild, stays-at, new-at}
 use Rattle.complex.proofs.Split.{apart}
 use Rattle.complex.proofs.Sums.{total-copies}
 use Rattle.complex.proofs.Euler.{over-keep, over-all, Balanced}
@@ -250,10 +251,10 @@ asPart i s o z = ap (λ (x : Option Figure). rebuild everyId (ungluing s i x) (c
 
 module _ (i : ℕ) (s : Sheet) (S : Sound s) (p : Passes s (unglue i)) where
   pub unglue-open-sound : (a b : ℕ) (bs : List Position) → cellAt s i ≡ some (openEdge a b bs) → Sound (result s (unglue i))
-  unglue-open-sound a b bs z = let r = asPart i s (some (openEdge a b bs)) z in rw r (open-unglued s S i a b bs z (rw r at (p .4)) (rw r at (p .5)))
+  unglue-open-sound a b bs z = let r = asPart i s (some (openEdge a b bs)) z in rw r (open-unglued s S i a b bs z (rw r at (p .seven)) (rw r at (p .eight)))
 
   pub unglue-closed-sound : (bs : List Position) → cellAt s i ≡ some (closedEdge bs) → Sound (result s (unglue i))
-  unglue-closed-sound bs z = let r = asPart i s (some (closedEdge bs)) z in rw r (closed-unglued s S i bs z (rw r at (p .4)) (rw r at (p .5)))
+  unglue-closed-sound bs z = let r = asPart i s (some (closedEdge bs)) z in rw r (closed-unglued s S i bs z (rw r at (p .seven)) (rw r at (p .eight)))
 
   pub unglue-open-balanced : (a b : ℕ) (bs : List Position) → cellAt s i ≡ some (openEdge a b bs) → Balanced s (unglue i)
   unglue-open-balanced a b bs z =

@@ -26,7 +26,8 @@ use Rattle.complex.proofs.Walks.{walk-of, Round, Ring, Some, joins-case
 use Rattle.complex.proofs.Every.{Every, every-left, every-right, every-both, filter-append}
 use Rattle.complex.proofs.Groups.{Decides, in-left, in-right, in-some, linked-same}
 use Rattle.complex.proofs.Keep.{Sound, Look′, rebuild-sound, same-eq, same-refl}
-use Rattle.complex.proofs.Adds.{stays-at, new-at, Passes}
+use Rattle.complex.proofs.Passes.{Passes}
+use Rattle.complex.proofs.Adds.{stays-at, new-at}
 use Rattle.complex.proofs.Unglue.{asPart, unglue-open-sound, unglue-closed-sound, unglue-open-balanced, unglue-closed-balanced, uses-within, lookup-copies, length-counting}
 use Rattle.complex.proofs.Sums.{total-copies}
 use Rattle.complex.proofs.Euler.{over-all, Balanced}
@@ -337,18 +338,18 @@ module _ (i : ℕ) (s : Sheet) (S : Sound s) (q : Passes s (unglue i)) where
   unglue-sound = go (cellAt s i) refl
     where
       go : (o : Option Figure) → cellAt s i ≡ o → Sound (result s (unglue i))
-      go none z = absurd (subst (λ (o : Option Figure). T (isVertexOrEdge o)) z (q .1))
-      go (some (vertex p)) z = let r = asPart i s (some (vertex p)) z in rw r (vertex-unglued s S i p z (rw r at (q .4)) (rw r at (q .5)))
+      go none z = absurd (subst (λ (o : Option Figure). T (isVertexOrEdge o)) z (q .four))
+      go (some (vertex p)) z = let r = asPart i s (some (vertex p)) z in rw r (vertex-unglued s S i p z (rw r at (q .seven)) (rw r at (q .eight)))
       go (some (openEdge a b bs)) z = unglue-open-sound i s S q a b bs z
       go (some (closedEdge bs)) z = unglue-closed-sound i s S q bs z
-      go (some (face ks)) z = absurd (subst (λ (o : Option Figure). T (isVertexOrEdge o)) z (q .1))
+      go (some (face ks)) z = absurd (subst (λ (o : Option Figure). T (isVertexOrEdge o)) z (q .four))
 
   pub unglue-balanced : Balanced s (unglue i)
   unfolding question4
   unglue-balanced = go (cellAt s i) refl
     where
       go : (o : Option Figure) → cellAt s i ≡ o → Balanced s (unglue i)
-      go none z = absurd (subst (λ (o : Option Figure). T (isVertexOrEdge o)) z (q .1))
+      go none z = absurd (subst (λ (o : Option Figure). T (isVertexOrEdge o)) z (q .four))
       go (some (vertex p)) z =
           let r = asPart i s (some (vertex p)) z in
           let w = vertex-unglued-over s S i p z in
@@ -357,4 +358,4 @@ module _ (i : ℕ) (s : Sheet) (S : Sound s) (q : Passes s (unglue i)) where
           rw (r, z) (omega arith)
       go (some (openEdge a b bs)) z = unglue-open-balanced i s S q a b bs z
       go (some (closedEdge bs)) z = unglue-closed-balanced i s S q bs z
-      go (some (face ks)) z = absurd (subst (λ (o : Option Figure). T (isVertexOrEdge o)) z (q .1))
+      go (some (face ks)) z = absurd (subst (λ (o : Option Figure). T (isVertexOrEdge o)) z (q .four))

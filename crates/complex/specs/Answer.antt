@@ -1,7 +1,7 @@
 -- A command: the questions in turn, the answer, and the rest of the bytes. Definitions only.
 use Prim.Native.Nat.{ℕ, zero, suc, _-_}
 use mathlib.Core.Bool.{Bool, not, cond}
-use mathlib.Core.List.{List, [], _∷_}
+use mathlib.Core.List.{List, [], _∷_, _++_}
 use lib.ListN.{length}
 use lib.Dec.{eqb, leb}
 use Rattle.number.specs.Readers.{Read, got, bad}
@@ -32,27 +32,42 @@ done s t =
     let n = t .next - s .next in
     record { number = 0; first = cond (eqb n 0) 0 (s .next); new = n; removed = length (removedFrom s t); sheet = t }
 
--- ---- the questions in turn; `asked n` has n and those after it to ask
--- 8: does the result keep the ceilings?
-abbrev pub asked8 : Sheet → Sheet → Answer
-asked8 s t = cond (ceilings (t .cells)) (done s t) (no 8 s)
+-- ---- the questions in turn
+pub record Question : Type 0 where
+  pub number : ℕ
+  pub yes : Bool
 
--- 7: do the ids suffice (next id plus new cells at most 65,536)?
-abbrev pub asked7 : Sheet → Sheet → Answer
-asked7 s t = cond (leb (t .next) idsEnd) (asked8 s t) (no 7 s)
+abbrev pub ask : ℕ → Bool → Question
+ask n y = record { number = n; yes = y }
 
-abbrev pub asked6 : Sheet → Command → Answer
-asked6 s c = cond (question6 s c) (asked7 s (result s c)) (no 6 s)
+-- the number of the first that gets a no, 0 where each gets a yes
+abbrev pub firstNo : List Question → ℕ
+firstNo [] = 0
+firstNo (q ∷ qs) = cond (q .yes) (firstNo qs) (q .number)
 
-abbrev pub asked5 : Sheet → Command → Answer
-asked5 s c = cond (question5 s c) (asked6 s c) (no 5 s)
+-- those that the bytes alone answer
+abbrev pub ofBytes : Command → List Question
+ofBytes c = ask 3 (question3 c) ∷ []
 
-abbrev pub asked4 : Sheet → Command → Answer
-asked4 s c = cond (question4 s c) (asked5 s c) (no 4 s)
+abbrev pub ofDrawing : Sheet → Command → List Question
+ofDrawing s c = ask 4 (question4 s c) ∷ ask 5 (question5 s c) ∷ ask 6 (question6 s c) ∷ []
 
+-- 7: do the ids suffice (next id plus new cells at most 65,536)? 8: does the result keep the ceilings?
+abbrev pub ofResult : Sheet → List Question
+ofResult t = ask 7 (leb (t .next) idsEnd) ∷ ask 8 (ceilings (t .cells)) ∷ []
+
+abbrev pub questions : Sheet → Command → List Question
+questions s c = ofBytes c ++ (ofDrawing s c ++ ofResult (result s c))
+
+-- the command makes t of s; n is the first no
+abbrev pub answered : Sheet → Sheet → ℕ → Answer
+answered s t zero = done s t
+answered s t (suc n) = no (suc n) s
+
+-- questions 3 to 8
 unfoldable pub asked3 : Sheet → Command → Answer
 unfolding question3 question4 question5 question6 result
-asked3 s c = cond (question3 c) (asked4 s c) (no 3 s)
+asked3 s c = answered s (result s c) (firstNo (questions s c))
 
 -- 2: do the bytes begin with a whole command, kind and every number well spelled?
 abbrev pub asked2 : Sheet → Read Command → Answer

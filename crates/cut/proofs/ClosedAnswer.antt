@@ -11,10 +11,10 @@ use Rattle.complex.specs.Cells.{cellAt, isOpen, isClosed, isLive, bendsOf}
 use Rattle.complex.specs.Sound.{idsEnd}
 use Rattle.complex.specs.Uses.{stepUse, usesBy}
 use Rattle.complex.specs.Decode.{cutEdge}
-use Rattle.complex.specs.Commands.{question3, question4, question5, question6}
+use Rattle.complex.specs.Commands.{question4, question5, question6}
 use Rattle.answer.specs.Sizes.{sized, sizesOf, moreLess, changedBy, newByCut, cutChange, newCells, changeOf, sizesAfter, sizesFit}
 use Rattle.complex.specs.Answer.{no, asked3}
-use Rattle.complex.proofs.Asked.{Passed, no-5}
+use Rattle.complex.proofs.Asked.{early, early-none, Passed, no-5}
 use Rattle.store.specs.declared.Drawing.{Drawing}
 use Rattle.store.specs.declared.Index.{Index}
 use Rattle.store.specs.Index.{Indexes, rowOf}
@@ -37,9 +37,8 @@ module _ (d : Drawing) (z : Sizes d) (w : T (soundDrawing d)) (e q : ℕ) (k : i
   pub closed-live : isLive (cellAt (sheetOf d) e) ≡ true
   closed-live = ap isLive (closed-figure (cellAt (sheetOf d) e) k)
 
-  three : question3 (cutEdge e q) ≡ true
-  unfolding question3
-  three = refl
+  bytes : early (cutEdge e q) ≡ 0
+  bytes = early-none (cutEdge e q) refl
 
   four : question4 (sheetOf d) (cutEdge e q) ≡ true
   unfolding question4
@@ -66,14 +65,14 @@ module _ (d : Drawing) (z : Sizes d) (w : T (soundDrawing d)) (e q : ℕ) (k : i
     counted = em ∙ own-count d z w ix x e row er closed-live
 
     pub no-place : m ≤ q / 2 → asked3 (sheetOf d) (cutEdge e q) ≡ no 5 (sheetOf d)
-    no-place h = no-5 (sheetOf d) (cutEdge e q) three four (five ∙ ap (ltb (q / 2)) (sym counted) ∙ le-ltb (q / 2) m h)
+    no-place h = no-5 (sheetOf d) (cutEdge e q) bytes four (five ∙ ap (ltb (q / 2)) (sym counted) ∙ le-ltb (q / 2) m h)
 
     module _ (h : q / 2 < m) where
       exists : ltb (q / 2) (length (bendsOf (cellAt (sheetOf d) e))) ≡ true
       exists = ap (ltb (q / 2)) (sym counted) ∙ lt-ltb (q / 2) m h
 
       pub passed : Passed (sheetOf d) (cutEdge e q)
-      passed = record { three = three; four = four; five = five ∙ exists; six = six }
+      passed = record { bytes = bytes; four = four; five = five ∙ exists; six = six }
 
       module _ (t : Totals) (et : t ≡ totalsIn d z (sound-fits d w) ix x) (r : ℕ) (ro : r ≡ lateNo (d .next) 2 (changedBy (sizesBy t) (moreLess (sized 1 0 0 0) (sized 0 0 0 (q % 2))))) where
         sizes-are : sizesBy t ≡ sizesOf (sheetOf d .cells)

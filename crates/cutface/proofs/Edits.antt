@@ -13,10 +13,10 @@ use Rattle.complex.specs.Cells as cells
 use Rattle.complex.specs.Edits.{rebuild, everyId, replaced}
 use Rattle.complex.specs.Sound.{cyclesMost, stepsMost, stepCount}
 use Rattle.complex.specs.Decode.{cutFaceVertex}
-use Rattle.complex.specs.Commands.{question3, question4, question5, question6, result}
+use Rattle.complex.specs.Commands.{question4, question5, question6, result}
 use Rattle.complex.specs.Cut.{faceCutAt}
 use Rattle.answer.specs.Sizes.{sized, nothing, moreLess, newCells, changeOf}
-use Rattle.complex.proofs.Asked.{Passed}
+use Rattle.complex.proofs.Asked.{Passed, early-one}
 use Rattle.store.specs.declared.Drawing.{Drawing}
 use Rattle.store.specs.declared.Index.{Index}
 use Rattle.store.specs.Sizes.{Sizes}
@@ -62,18 +62,13 @@ module _ (d : Drawing) (z : Sizes d) (ix : Index) (f : ℕ) (m : Named d ix f) (
   lone-done out e s g = g ∙ ap (λ (t : Sheet). appended t (vertex p)) e ∙ appended-one (recycled (sheetOf d) f with-lone) (vertex p)
 
 module _ (s : Sheet) (f : ℕ) (p : Position) where
-  pub vertex-three : (b : Bool) → within p ≡ b → question3 (cutFaceVertex f p) ≡ b
-  unfolding question3
-  vertex-three true e = rw e
-  vertex-three false e = rw e
-
   pub vertex-four : (b : Bool) → isFace (cellAt s f) ≡ b → question4 s (cutFaceVertex f p) ≡ b
   unfolding question4
   vertex-four b e = e
 
   pub vertex-passed : within p ≡ true → isFace (cellAt s f) ≡ true → Passed s (cutFaceVertex f p)
   unfolding question5 question6
-  vertex-passed e g = record { three = vertex-three true e; four = vertex-four true g; five = refl; six = refl }
+  vertex-passed e g = record { bytes = early-one (cutFaceVertex f p) p refl e; four = vertex-four true g; five = refl; six = refl }
 
   pub vertex-new : newCells s (cutFaceVertex f p) ≡ 1
   unfolding newCells

@@ -17,11 +17,11 @@ use Rattle.complex.specs.Cells.{Halfedge, Cycle, path, Figure, closedEdge, face
 use Rattle.complex.specs.Cells as cells
 use Rattle.complex.specs.Edits.{rebuild, everyId, replaced}
 use Rattle.complex.specs.Decode.{cutFaceClosed}
-use Rattle.complex.specs.Commands.{question3, question4, question5, question6, result}
+use Rattle.complex.specs.Commands.{question4, question5, question6, result}
 use Rattle.complex.specs.Cut.{noCycle, faceCutRound}
 use Rattle.answer.specs.Sizes.{sized, nothing, moreLess, newCells, changeOf}
 use Rattle.complex.specs.Answer.{no, asked3}
-use Rattle.complex.proofs.Asked.{Passed, no-4, no-5}
+use Rattle.complex.proofs.Asked.{Passed, no-4, no-5, early, early-bends}
 use Rattle.complex.specs.Sound.{idsEnd, cyclesMost, stepsMost}
 use Rattle.store.specs.declared.Drawing.{Drawing}
 use Rattle.store.specs.declared.Index.{Index}
@@ -133,10 +133,6 @@ module _ (d : Drawing) (z : Sizes d) (ix : Index) (script : List ℕ) (f bends f
 
 -- ---- the questions
 module _ (s : Sheet) (f : ℕ) (bs : List Position) (ms : List ℕ) where
-  pub round-three : question3 (cutFaceClosed f bs ms) ≡ all within bs
-  unfolding question3
-  round-three = refl
-
   round-four : question4 s (cutFaceClosed f bs ms) ≡ isFace (cellAt s f)
   unfolding question4
   round-four = refl
@@ -199,8 +195,8 @@ module _ (d : Drawing) (z : Sizes d) (w : T (soundDrawing d)) (ix : Index) (x : 
       er
       ∙ ap₂ (λ (b : Bool) (k : ℕ). cond b (cond (eqb bends 0) 5 (cond (places 0 ms k) 0 5)) 4) (face-at (looks d z ix x w) f) (looks d z ix x w .cycles f)
 
-  three : question3 (cutFaceClosed f bs ms) ≡ true
-  three = round-three (sheetOf d) f bs ms ∙ q
+  bytes : early (cutFaceClosed f bs ms) ≡ 0
+  bytes = early-bends (cutFaceClosed f bs ms) q
 
   five : (a b : Bool) → eqb bends 0 ≡ a → places 0 ms n ≡ b → question5 (sheetOf d) (cutFaceClosed f bs ms) ≡ (not a && b)
   five a b ea eb = round-five (sheetOf d) f bs ms ∙ ap₂ (λ (u v : Bool). not u && v) (bends-none script first bends ∙ ea) eb
@@ -212,9 +208,9 @@ module _ (d : Drawing) (z : Sizes d) (w : T (soundDrawing d)) (ix : Index) (x : 
       four a e = round-four (sheetOf d) f bs ms ∙ e
 
       go : (a b p : Bool) → isFace (cellAt (sheetOf d) f) ≡ a → eqb bends 0 ≡ b → places 0 ms n ≡ p → r ≡ cond a (cond b 5 (cond p 0 5)) 4 → asked3 (sheetOf d) (cutFaceClosed f bs ms) ≡ no r (sheetOf d)
-      go false b p ea eb ep e = no-4 (sheetOf d) (cutFaceClosed f bs ms) three (four false ea) ∙ ap (λ (k : ℕ). no k (sheetOf d)) (sym e)
-      go true true p ea eb ep e = no-5 (sheetOf d) (cutFaceClosed f bs ms) three (four true ea) (five true p eb ep) ∙ ap (λ (k : ℕ). no k (sheetOf d)) (sym e)
-      go true false false ea eb ep e = no-5 (sheetOf d) (cutFaceClosed f bs ms) three (four true ea) (five false false eb ep) ∙ ap (λ (k : ℕ). no k (sheetOf d)) (sym e)
+      go false b p ea eb ep e = no-4 (sheetOf d) (cutFaceClosed f bs ms) bytes (four false ea) ∙ ap (λ (k : ℕ). no k (sheetOf d)) (sym e)
+      go true true p ea eb ep e = no-5 (sheetOf d) (cutFaceClosed f bs ms) bytes (four true ea) (five true p eb ep) ∙ ap (λ (k : ℕ). no k (sheetOf d)) (sym e)
+      go true false false ea eb ep e = no-5 (sheetOf d) (cutFaceClosed f bs ms) bytes (four true ea) (five false false eb ep) ∙ ap (λ (k : ℕ). no k (sheetOf d)) (sym e)
       go true false true ea eb ep e = absurd (nz e)
 
   pub round-passes : r ≡ 0 → (isFace (cellAt (sheetOf d) f) ≡ true) × ((places 0 ms n ≡ true) × Passed (sheetOf d) (cutFaceClosed f bs ms))
@@ -226,4 +222,4 @@ module _ (d : Drawing) (z : Sizes d) (w : T (soundDrawing d)) (ix : Index) (x : 
       go true true p ea eb ep e = absurd (omega arith)
       go true false false ea eb ep e = absurd (omega arith)
       go true false true ea eb ep e =
-          (ea, (ep, record { three = three; four = round-four (sheetOf d) f bs ms ∙ ea; five = five false true eb ep; six = round-six (sheetOf d) f bs ms }))
+          (ea, (ep, record { bytes = bytes; four = round-four (sheetOf d) f bs ms ∙ ea; five = five false true eb ep; six = round-six (sheetOf d) f bs ms }))

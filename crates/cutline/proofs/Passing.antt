@@ -14,11 +14,11 @@ use Rattle.bends.proofs.Laws.{positions-length}
 use Rattle.complex.specs.Cells.{Cycle, face, Sheet, cellAt, isFace, cyclesOf}
 use Rattle.complex.specs.Edits.{rebuild, everyId, replaced}
 use Rattle.complex.specs.Decode.{Command, cutFaceOpen}
-use Rattle.complex.specs.Commands.{question3, question4, question5, question6, result}
+use Rattle.complex.specs.Commands.{question4, question5, question6, result}
 use Rattle.complex.specs.Cut.{noCycle, cutCorners, faceCutAlong}
 use Rattle.answer.specs.Sizes.{sized, moreLess, changedBy, aloneIn, alongChange, newCells, changeOf}
 use Rattle.complex.specs.Answer.{no, asked3}
-use Rattle.complex.proofs.Asked.{Passed, no-3, no-4, no-5}
+use Rattle.complex.proofs.Asked.{early-bends, out-bends, Passed, no-3, no-4, no-5}
 use Rattle.store.specs.declared.Drawing.{Drawing}
 use Rattle.store.specs.declared.Index.{Index}
 use Rattle.store.specs.Sizes.{Sizes}
@@ -39,10 +39,6 @@ module _ (s : Sheet) (f c1 s1 c2 s2 : ℕ) (bs : List Position) (ms : List ℕ) 
   abbrev ks : List Cycle
   ks = cyclesOf (cellAt s f)
 
-  three : question3 cut ≡ all within bs
-  unfolding question3
-  three = refl
-
   four : question4 s cut ≡ isFace (cellAt s f)
   unfolding question4
   four = refl
@@ -56,16 +52,16 @@ module _ (s : Sheet) (f c1 s1 c2 s2 : ℕ) (bs : List Position) (ms : List ℕ) 
   six = refl
 
   pub outside : all within bs ≡ false → asked3 s cut ≡ no 3 s
-  outside a = no-3 s cut (three ∙ a)
+  outside a = no-3 s cut (out-bends cut a)
 
   pub no-face : all within bs ≡ true → isFace (cellAt s f) ≡ false → asked3 s cut ≡ no 4 s
-  no-face a b = no-4 s cut (three ∙ a) (four ∙ b)
+  no-face a b = no-4 s cut (early-bends cut a) (four ∙ b)
 
   pub no-corner : all within bs ≡ true → isFace (cellAt s f) ≡ true → cutCorners (cellAt s) ks c1 s1 c2 s2 ms ≡ false → asked3 s cut ≡ no 5 s
-  no-corner a b c = no-5 s cut (three ∙ a) (four ∙ b) (five ∙ c)
+  no-corner a b c = no-5 s cut (early-bends cut a) (four ∙ b) (five ∙ c)
 
   passed : all within bs ≡ true → isFace (cellAt s f) ≡ true → cutCorners (cellAt s) ks c1 s1 c2 s2 ms ≡ true → Passed s cut
-  passed a b c = record { three = three ∙ a; four = four ∙ b; five = five ∙ c; six = six }
+  passed a b c = record { bytes = early-bends cut a; four = four ∙ b; five = five ∙ c; six = six }
 
   pub cut-is : (t : Sheet) → t ≡ faceCutAlong s f c1 s1 c2 s2 bs ms → t ≡ result s cut
   unfolding result

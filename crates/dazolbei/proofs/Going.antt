@@ -14,10 +14,12 @@ use Rattle.complex.specs.Cells.{Sheet}
 use Rattle.complex.specs.Sound.{idsEnd, ceilings, sound}
 use Rattle.complex.specs.Decode.{Command as Order, decode}
 use Rattle.complex.specs.Commands.{question3, question4, question5, question6, result}
-use Rattle.complex.specs.Answer.{Answer as Said, no, done, asked2, asked3, asked4, asked5, asked6, asked7, asked8, command, restRead, rest}
+use Rattle.complex.specs.Answer.{Answer as Said, no, done, asked2, asked3, command, restRead, rest}
 use Rattle.complex.proofs.Bools.{true-of}
+use Rattle.complex.proofs.Asked.{not-two}
 use Rattle.store.specs.declared.Drawing.{Drawing}
 use Rattle.store.specs.View.{sheetOf}
+use Rattle.store.proofs.Lists.{drop-over, not-empty}
 use Rattle.sound.specs.Soundness.{soundDrawing}
 use Rattle.sound.proofs.Meaning.{sound-sheet}
 use Rattle.command.specs.declared.Command.{Command}
@@ -68,25 +70,11 @@ start bytes entry d t =
     }
 
 -- ---- lists
-drop-over : (n : ℕ) (s : List ℕ) → length s ≤ n → drop n s ≡ []
-drop-over zero [] h = refl
-drop-over zero (x ∷ s) h = absurd (omega arith)
-drop-over (suc n) [] h = refl
-drop-over (suc n) (x ∷ s) h = drop-over n s (omega arith)
-
-not-empty : (b : List ℕ) → 0 < length b → isEmpty b ≡ false
-not-empty [] h = absurd (omega arith)
-not-empty (x ∷ b) h = refl
-
 sets-more : (l : List ℕ) (i : ℕ) (u v : List ℕ) → sets (sets l i u) (i + length u) v ≡ sets l i (u ++ v)
 sets-more l i [] v = let e : i + 0 ≡ i = omega arith in ap (λ (n : ℕ). sets l n v) e
 sets-more l i (a ∷ u) v =
     let e : i + suc (length u) ≡ suc i + length u = omega arith in
     ap (λ (n : ℕ). sets (sets (set l i a) (suc i) u) n v) e ∙ sets-more (set l i a) (suc i) u v
-
--- a part of a slice from a place to its end
-pub all-left : (n : ℕ) (s : List ℕ) → take (length s - n) (drop n s) ≡ drop n s
-all-left n s = take-all (length s - n) (drop n s) (let l = length-drop n s in omega arith)
 
 pub five-stored : (l : List ℕ) (at a b c d e : ℕ) → set (set (set (set (set l at a) (at + 1) b) (at + 2) c) (at + 3) d) (at + 4) e ≡ sets l at (a ∷ b ∷ c ∷ d ∷ e ∷ [])
 five-stored l at a b c d e =
@@ -106,22 +94,6 @@ one-turn n s b e f = rw (e, f, told)
 
 last-turn : (n : ℕ) (s : Sheet) (b : List ℕ) → isEmpty b ≡ false → eqb (command s b .number) 2 ≡ true → told (suc n) s b ≡ tell (lineNumbers (command s b) (length (rest s b))) (ended (command s b .sheet))
 last-turn n s b e f = rw (e, f, told)
-
--- questions 3 to 8 don't answer 2
-neither : (b : Bool) (x y : Said) → (x .number ≡ 2 → ⊥) → (y .number ≡ 2 → ⊥) → cond b x y .number ≡ 2 → ⊥
-neither true x y p q = p
-neither false x y p q = q
-
-not-two : (s : Sheet) (c : Order) → asked3 s c .number ≡ 2 → ⊥
-unfolding asked3
-not-two s c =
-    let t = result s c in
-    neither (question3 c) (asked4 s c) (no 3 s)
-    (neither (question4 s c) (asked5 s c) (no 4 s)
-    (neither (question5 s c) (asked6 s c) (no 5 s)
-    (neither (question6 s c) (asked7 s t) (no 6 s)
-    (neither (leb (t .next) idsEnd) (asked8 s t) (no 7 s) (neither (ceilings (t .cells)) (done s t) (no 8 s) (λ e. omega arith) (λ e. omega arith)) (λ e. omega arith)) (λ e. omega arith)) (λ e. omega arith)) (λ e. omega arith))
-    (λ e. omega arith)
 
 -- what the definitions say of a sound drawing
 module _ (d : Drawing) (w : T (soundDrawing d)) (b : List ℕ) (q : Read Order) (e : decode b ≡ q) where

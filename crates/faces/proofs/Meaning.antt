@@ -13,11 +13,11 @@ use Rattle.complex.specs.Lists.{all, total}
 use Rattle.complex.specs.Cells.{Halfedge, Cycle, lone, path, face, LiveCell, lookup, cellAt, isEdge}
 use Rattle.complex.specs.Sound.{idsEnd, cellsMost, cyclesMost, bendsMost, stepCount, cycleOk}
 use Rattle.complex.specs.Decode.{create, readCycle}
-use Rattle.complex.specs.Commands.{question3, question4, question5, question6, cycleNames}
+use Rattle.complex.specs.Commands.{question4, question5, question6, cycleNames}
 use Rattle.answer.specs.Sizes.{sized, nothing, moreLess, changedBy}
 use Rattle.complex.specs.Answer.{no, asked3}
 use Rattle.complex.proofs.Bools.{truth, true-of, both, either}
-use Rattle.complex.proofs.Asked.{Passed, no-4, no-6}
+use Rattle.complex.proofs.Asked.{early, early-none, Passed, no-4, no-6}
 use Rattle.store.specs.declared.Drawing.{Drawing}
 use Rattle.store.specs.declared.Index.{Index}
 use Rattle.store.specs.Index.{Indexes}
@@ -26,7 +26,7 @@ use Rattle.store.specs.Sizes.{Sizes}
 use Rattle.store.specs.View.{sheetOf, halfedgeOf, cycleOf, cyclesOf, widthSum}
 use Rattle.store.specs.Places.{word, numOf, stepsIn}
 use Rattle.store.specs.Pools.{Held}
-use Rattle.store.proofs.Encode.{halves, width-sum}
+use Rattle.store.proofs.Encode.{halves, width-sum, all-places}
 use Rattle.store.proofs.Pools.{held-cycles}
 use Rattle.sound.specs.Rows.{Rows, rowsOf, cycleGood}
 use Rattle.sound.specs.Soundness.{soundDrawing}
@@ -39,7 +39,6 @@ use Rattle.command.specs.Lists.{cyclesRead, Stand}
 use Rattle.command.proofs.Laws.{stand-length}
 use Rattle.script.specs.Walks.{Room as Space}
 use Rattle.script.proofs.Cycles.{reals-read}
-use Rattle.script.proofs.Loads.{all-places}
 use Rattle.answer.specs.declared.Totals.{Totals}
 use Rattle.answer.specs.Late.{sizesBy, lateNo}
 use Rattle.faces.specs.Walks.{Rowed, edgeIn, passesIn, faceNo, FaceRead}
@@ -129,9 +128,8 @@ module _ (d : Drawing) (z : Sizes d) (w : T (soundDrawing d)) (ix : Index) (x : 
     unfolding question6
     six = ap (λ (t : Rows). all (passesIn t false) ks) rows-are ∙ all-join (sheetOf d .cells) ks (reals-read k _ _ ks (stand .reach .read))
 
-    three : question3 (create (face ks)) ≡ true
-    unfolding question3
-    three = refl
+    bytes : early (create (face ks)) ≡ 0
+    bytes = early-none (create (face ks)) refl
 
     five : question5 (sheetOf d) (create (face ks)) ≡ true
     unfolding question5
@@ -145,8 +143,8 @@ module _ (d : Drawing) (z : Sizes d) (w : T (soundDrawing d)) (ix : Index) (x : 
       face-refuses nz = go (all (passesIn rows true) ks) (all (passesIn rows false) ks) refl refl
         where
           go : (a b : Bool) → all (passesIn rows true) ks ≡ a → all (passesIn rows false) ks ≡ b → asked3 (sheetOf d) (create (face ks)) ≡ no r (sheetOf d)
-          go false b p q = no-4 (sheetOf d) (create (face ks)) three (sym four ∙ p) ∙ ap (λ (n : ℕ). no n (sheetOf d)) (sym (by false b p q))
-          go true false p q = no-6 (sheetOf d) (create (face ks)) three (sym four ∙ p) five (sym six ∙ q) ∙ ap (λ (n : ℕ). no n (sheetOf d)) (sym (by true false p q))
+          go false b p q = no-4 (sheetOf d) (create (face ks)) bytes (sym four ∙ p) ∙ ap (λ (n : ℕ). no n (sheetOf d)) (sym (by false b p q))
+          go true false p q = no-6 (sheetOf d) (create (face ks)) bytes (sym four ∙ p) five (sym six ∙ q) ∙ ap (λ (n : ℕ). no n (sheetOf d)) (sym (by true false p q))
           go true true p q = absurd (nz (by true true p q))
 
       pub face-passed : r ≡ 0 → Passed (sheetOf d) (create (face ks))
@@ -155,7 +153,7 @@ module _ (d : Drawing) (z : Sizes d) (w : T (soundDrawing d)) (ix : Index) (x : 
           go : (a b : Bool) → all (passesIn rows true) ks ≡ a → all (passesIn rows false) ks ≡ b → Passed (sheetOf d) (create (face ks))
           go false b p q = absurd (let u = by false b p q in omega arith)
           go true false p q = absurd (let u = by true false p q in omega arith)
-          go true true p q = record { three = three; four = sym four ∙ p; five = five; six = sym six ∙ q }
+          go true true p q = record { bytes = bytes; four = sym four ∙ p; five = five; six = sym six ∙ q }
 
 -- ---- 8 asks the same of a count of steps that stops above the ceiling
 capped : (a m t : ℕ) → m ≡ min 2049 t → leb (a + m - 0) 2048 ≡ leb (a + t - 0) 2048

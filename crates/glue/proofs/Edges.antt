@@ -10,12 +10,12 @@ use Rattle.complex.specs.Edits.{others, rewired, sameVertex, inPlaceOf}
 use Rattle.complex.specs.Glue.{gluedEdges}
 use Rattle.complex.specs.Sound.{idsEnd}
 use Rattle.complex.specs.Decode.{glueEdges}
-use Rattle.complex.specs.Commands.{question3, question4, question5, question6, result}
+use Rattle.complex.specs.Commands.{question4, question5, question6, result}
 use Rattle.answer.specs.Sizes.{newCells, sizesAfter, sizesFit}
 use Rattle.complex.specs.Answer.{no, asked3}
-use Rattle.complex.proofs.Bools.{true-of}
+use Rattle.complex.proofs.Bools.{true-of, both-true}
 use Rattle.complex.proofs.Keep.{Sound, sound-parts}
-use Rattle.complex.proofs.Asked.{Passed, no-4, no-5, no-6}
+use Rattle.complex.proofs.Asked.{Passed, no-4, no-5, no-6, early, early-none}
 use Rattle.answer.proofs.Sizes.{glue-edges-fits}
 use Rattle.answer.proofs.SizesAfter.{sizes-after}
 use Rattle.store.specs.declared.Drawing.{Drawing}
@@ -51,13 +51,6 @@ by-kinds oa ob same flag m =
     let by : Bool → Bool → Bool → Bool → ℕ = λ p1 p2 q1 q2. firstNo ((p1 || p2) && (q1 || q2)) (leb flag 1) (not same && ((p2 && q2) || (p1 && (q1 && m)))) in
     λ i. by (is-open oa i) (is-closed oa i) (is-open ob i) (is-closed ob i)
 
-both-true : (a b : Bool) → (a && b) ≡ true → (a ≡ true) × (b ≡ true)
-both-true true b e = (refl, e)
-both-true false b e = absurd (let z : _≡_ {A = Bool} false true = e in no-way z)
-  where
-    no-way : false ≡ true → ⊥
-    no-way z = let n : _≡_ {A = ℕ} 0 1 = ap (λ (b : Bool). cond b 1 0) z in omega arith
-
 module _ (d : Drawing) (z : Sizes d) (w : T (soundDrawing d)) (a b flag : ℕ) where
   sound-in : Sound (sheetOf d)
   sound-in = sound-parts (sheetOf d) (sound-sheet d w)
@@ -80,9 +73,8 @@ module _ (d : Drawing) (z : Sizes d) (w : T (soundDrawing d)) (a b flag : ℕ) w
         let pm : meet ≡ endsMeet flag (startOf oa) (endOf oa) (startOf ob) (endOf ob) = em ∙ (λ i. endsMeet flag (sa i) (fa i) (sb i) (fb i)) in
         er ∙ (λ i. edgesNo (pa i) (pb i) (eqb a b) flag (pm i)) ∙ by-kinds oa ob (eqb a b) flag (endsMeet flag (startOf oa) (endOf oa) (startOf ob) (endOf ob))
 
-    three : question3 (glueEdges a b flag) ≡ true
-    unfolding question3
-    three = refl
+    bytes : early (glueEdges a b flag) ≡ 0
+    bytes = early-none (glueEdges a b flag) refl
 
     by : (p q t : Bool) → question4 (sheetOf d) (glueEdges a b flag) ≡ p → question5 (sheetOf d) (glueEdges a b flag) ≡ q → question6 (sheetOf d) (glueEdges a b flag) ≡ t → r ≡ firstNo p q t
     by p q t ep eq et = no-is ∙ λ i. firstNo (ep i) (eq i) (et i)
@@ -94,9 +86,9 @@ module _ (d : Drawing) (z : Sizes d) (w : T (soundDrawing d)) (a b flag : ℕ) w
         said n e h = h ∙ ap (λ (m : ℕ). no m (sheetOf d)) (sym e)
 
         go : (p q t : Bool) → question4 (sheetOf d) (glueEdges a b flag) ≡ p → question5 (sheetOf d) (glueEdges a b flag) ≡ q → question6 (sheetOf d) (glueEdges a b flag) ≡ t → asked3 (sheetOf d) (glueEdges a b flag) ≡ no r (sheetOf d)
-        go false q t ep eq et = said 4 (by false q t ep eq et) (no-4 (sheetOf d) (glueEdges a b flag) three ep)
-        go true false t ep eq et = said 5 (by true false t ep eq et) (no-5 (sheetOf d) (glueEdges a b flag) three ep eq)
-        go true true false ep eq et = said 6 (by true true false ep eq et) (no-6 (sheetOf d) (glueEdges a b flag) three ep eq et)
+        go false q t ep eq et = said 4 (by false q t ep eq et) (no-4 (sheetOf d) (glueEdges a b flag) bytes ep)
+        go true false t ep eq et = said 5 (by true false t ep eq et) (no-5 (sheetOf d) (glueEdges a b flag) bytes ep eq)
+        go true true false ep eq et = said 6 (by true true false ep eq et) (no-6 (sheetOf d) (glueEdges a b flag) bytes ep eq et)
         go true true true ep eq et = absurd (nz (by true true true ep eq et))
 
     glue-passed : r ≡ 0 → Passed (sheetOf d) (glueEdges a b flag)
@@ -106,7 +98,7 @@ module _ (d : Drawing) (z : Sizes d) (w : T (soundDrawing d)) (a b flag : ℕ) w
         go false q t ep eq et = absurd (let h = by false q t ep eq et in omega arith)
         go true false t ep eq et = absurd (let h = by true false t ep eq et in omega arith)
         go true true false ep eq et = absurd (let h = by true true false ep eq et in omega arith)
-        go true true true ep eq et = record { three = three; four = ep; five = eq; six = et }
+        go true true true ep eq et = record { bytes = bytes; four = ep; five = eq; six = et }
 
     both-live : Passed (sheetOf d) (glueEdges a b flag) → (isLive (cellAt (sheetOf d) a) ≡ true) × (isLive (cellAt (sheetOf d) b) ≡ true)
     unfolding question4

@@ -11,12 +11,12 @@ use Rattle.complex.specs.Edits.{others, rewired}
 use Rattle.complex.specs.Glue.{renamed, gluedVertices}
 use Rattle.complex.specs.Sound.{idsEnd}
 use Rattle.complex.specs.Decode.{glueVertices}
-use Rattle.complex.specs.Commands.{question3, question4, question5, question6, result}
+use Rattle.complex.specs.Commands.{question4, question5, question6, result}
 use Rattle.answer.specs.Sizes.{newCells, sizesAfter, sizesFit}
 use Rattle.complex.specs.Answer.{no, asked3}
 use Rattle.complex.proofs.Bools.{true-of}
 use Rattle.complex.proofs.Keep.{Sound, sound-parts}
-use Rattle.complex.proofs.Asked.{Passed, no-4, no-6}
+use Rattle.complex.proofs.Asked.{Passed, no-4, no-6, early, early-none}
 use Rattle.answer.proofs.Sizes.{glue-fits}
 use Rattle.answer.proofs.SizesAfter.{sizes-after}
 use Rattle.store.specs.declared.Drawing.{Drawing}
@@ -61,9 +61,8 @@ module _ (d : Drawing) (z : Sizes d) (w : T (soundDrawing d)) where
     unfolding question6
     six e h = ap not h
 
-    three : question3 (glueVertices a b) ≡ true
-    unfolding question3
-    three = refl
+    bytes : early (glueVertices a b) ≡ 0
+    bytes = early-none (glueVertices a b) refl
 
     five : question5 (sheetOf d) (glueVertices a b) ≡ true
     unfolding question5
@@ -79,9 +78,9 @@ module _ (d : Drawing) (z : Sizes d) (w : T (soundDrawing d)) where
         said n e h = h ∙ ap (λ (m : ℕ). no m (sheetOf d)) (sym e)
 
         go : (p q e : Bool) → isVertex (cellAt (sheetOf d) a) ≡ p → isVertex (cellAt (sheetOf d) b) ≡ q → eqb a b ≡ e → asked3 (sheetOf d) (glueVertices a b) ≡ no r (sheetOf d)
-        go false q e ep eq ee = said 4 (by false q e ep eq ee) (no-4 (sheetOf d) (glueVertices a b) three (four false q ep eq))
-        go true false e ep eq ee = said 4 (by true false e ep eq ee) (no-4 (sheetOf d) (glueVertices a b) three (four true false ep eq))
-        go true true true ep eq ee = said 6 (by true true true ep eq ee) (no-6 (sheetOf d) (glueVertices a b) three (four true true ep eq) five (six true ee))
+        go false q e ep eq ee = said 4 (by false q e ep eq ee) (no-4 (sheetOf d) (glueVertices a b) bytes (four false q ep eq))
+        go true false e ep eq ee = said 4 (by true false e ep eq ee) (no-4 (sheetOf d) (glueVertices a b) bytes (four true false ep eq))
+        go true true true ep eq ee = said 6 (by true true true ep eq ee) (no-6 (sheetOf d) (glueVertices a b) bytes (four true true ep eq) five (six true ee))
         go true true false ep eq ee = absurd (nz (by true true false ep eq ee))
 
     glue-passed : r ≡ 0 → Passed (sheetOf d) (glueVertices a b) × (isVertex (cellAt (sheetOf d) b) ≡ true)
@@ -91,7 +90,7 @@ module _ (d : Drawing) (z : Sizes d) (w : T (soundDrawing d)) where
         go false q e ep eq ee = absurd (let h = by false q e ep eq ee in omega arith)
         go true false e ep eq ee = absurd (let h = by true false e ep eq ee in omega arith)
         go true true true ep eq ee = absurd (let h = by true true true ep eq ee in omega arith)
-        go true true false ep eq ee = (record { three = three; four = four true true ep eq; five = five; six = six false ee }, eq)
+        go true true false ep eq ee = (record { bytes = bytes; four = four true true ep eq; five = five; six = six false ee }, eq)
 
   module _ (a b : ℕ) (p : Passed (sheetOf d) (glueVertices a b)) where
     ids-suffice : leb (sheetOf d .next + newCells (sheetOf d) (glueVertices a b)) idsEnd ≡ true

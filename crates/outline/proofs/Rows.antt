@@ -13,6 +13,7 @@ use Rattle.complex.specs.Cells.{Cycle, Figure, vertex, openEdge, closedEdge, fa
 use Rattle.complex.specs.Cells as cells
 use Rattle.complex.specs.Edits.{reshape, numbered, everyId, replaced}
 use Rattle.complex.specs.Sound.{stepCount, cyclesIn, stepsIn, over}
+use Rattle.complex.proofs.Lookup.{kept-all}
 use Rattle.store.specs.declared.Drawing.{Drawing}
 use Rattle.store.specs.declared.Index.{Index}
 use Rattle.store.specs.Sizes.{Sizes}
@@ -32,7 +33,6 @@ use Rattle.cycles.specs.Building.{Building, built}
 use Rattle.cycles.proofs.Splicing.{span-take}
 use Rattle.cycles.proofs.Replaced.{cycles-in-use, steps-in-use, row-cycles, row-face, row-replaced, found-has}
 use Rattle.append.specs.Appends.{remade, RoomIn}
-use Rattle.append.proofs.Appended.{kept-all}
 use Rattle.append.proofs.Rooms.{over-cycles, over-steps, below}
 use Rattle.answer.specs.Late.{Summed}
 use Rattle.answer.proofs.Laws.{summed}

@@ -16,6 +16,7 @@ use Rattle.complex.specs.Boundary.{endsOf, cycleBoundary, bounds, star}
 use Rattle.complex.specs.Sound.{over}
 use Rattle.complex.specs.Euler.{euler}
 use Rattle.complex.proofs.Gains.{gain, loss, euler-sub}
+use Rattle.complex.proofs.Bools.{or-none, or-assoc}
 use Rattle.store.specs.declared.Cell.{Cell}
 use Rattle.store.specs.declared.Drawing.{Drawing}
 use Rattle.store.specs.declared.Index.{Index}
@@ -32,14 +33,6 @@ use Rattle.query.specs.Shares.{gainIn, lossIn, lossesIn, eulerIn}
 use Rattle.query.proofs.Marking.{any-map}
 
 -- ---- lists
-or-none : (b : Bool) → b || false ≡ b
-or-none true = refl
-or-none false = refl
-
-or-assoc : (a b c : Bool) → a || (b || c) ≡ (a || b) || c
-or-assoc true b c = refl
-or-assoc false b c = refl
-
 holds-append : (n : ℕ) (xs ys : List ℕ) → holds n (xs ++ ys) ≡ holds n xs || holds n ys
 holds-append n [] ys = refl
 holds-append n (x ∷ xs) ys = ap (λ (b : Bool). eqb n x || b) (holds-append n xs ys) ∙ or-assoc (eqb n x) (holds n xs) (holds n ys)

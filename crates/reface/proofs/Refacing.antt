@@ -9,7 +9,7 @@ use mathlib.Core.Bool.{false}
 use Rattle.complex.specs.Lists.{rising}
 use Rattle.complex.specs.Cells.{face, LiveCell, Sheet, ids, cellAt, isFace}
 use Rattle.complex.specs.Edits.{keepIds, neither, replaced, rebuild, asItIs, reshape}
-use Rattle.complex.proofs.Lookup.{lookup-keep, rising-filter}
+use Rattle.complex.proofs.Lookup.{lookup-keep, rising-filter, kept-all, reshaped-none}
 use Rattle.store.specs.declared.Drawing.{Drawing}
 use Rattle.store.specs.declared.Index.{Index}
 use Rattle.store.specs.Index.{Indexes, Rising}
@@ -20,7 +20,6 @@ use Rattle.store.proofs.Stands.{ids-same}
 use Rattle.sound.proofs.Meaning.{sound-fits, sound-sheet, rising-is, sheet-rising}
 use Rattle.cycles.specs.declared.Used.{Used}
 use Rattle.cycles.specs.Building.{built}
-use Rattle.append.proofs.Appended.{kept-all, reshaped-none}
 use Rattle.dropping.proofs.Dropped.{remade-rebuild}
 use Rattle.dropping.proofs.Both.{dropped-both}
 use Rattle.outline.specs.Faces.{Named, Roomy, recycled}

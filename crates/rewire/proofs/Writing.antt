@@ -11,6 +11,7 @@ use lib.ListN.{length, take, drop, set, getD, length-set, length-append, length-
 use lib.Seq.{drop-cons, take-suc, take-add, take-suc-set, drop-drop, take-at, drop-at, drop-set-lt, getD-drop}
 use Rattle.rewire.specs.declared.Swap.{Swap}
 use Rattle.complex.specs.Cells.{Halfedge, Cycle, lone, path}
+use Rattle.complex.proofs.Bools.{both-true}
 use Rattle.store.specs.Sheet.{real, allReal}
 use Rattle.store.specs.View.{width, widthSum}
 use Rattle.store.specs.Places.{word, numOf, stepsIn}
@@ -185,14 +186,10 @@ module _ (t : Swap) where
       ap (λ (b : Bool). cond b 0 (length (spread (swapWord t) (map word (x ∷ hs))))) (ne-eqb (suc (length hs)) 0 (omega arith))
       ∙ ap length (sym (swap-words (x ∷ hs))) ∙ length-map (spread (swapHalf t) (x ∷ hs)) word
 
-  both : (a b : Bool) → (a && b) ≡ true → (a ≡ true) × (b ≡ true)
-  both true b h = (refl, h)
-  both false b h = absurd (false≢true h)
-
   pub swapped-steps : (ks : List Cycle) (r : List ℕ) → allReal ks ≡ true → allSteps t (map numOf ks) (spread stepsIn ks ++ r) ≡ spread stepsIn (map (swapCycle t) ks)
   swapped-steps [] r h = refl
   swapped-steps (k ∷ ks) r h =
-      let b = both (real k) (allReal ks) h in
+      let b = both-true (real k) (allReal ks) h in
       let q : List ℕ = spread stepsIn ks ++ r in
       ap (λ (l : List ℕ). swapSteps t (numOf k) (take (width (numOf k)) l) ++ allSteps t (map numOf ks) (drop (width (numOf k)) l)) (append-assoc (stepsIn k) (spread stepsIn ks) r)
       ∙ ap₂ (λ (x y : List ℕ). swapSteps t (numOf k) x ++ allSteps t (map numOf ks) y) (cycle-front k q (b .0)) (cycle-rest k q (b .0))
@@ -201,7 +198,7 @@ module _ (t : Swap) where
   pub swapped-numbers : (ks : List Cycle) (r : List ℕ) → allReal ks ≡ true → allNumbers t (map numOf ks) (spread stepsIn ks ++ r) ≡ map numOf (map (swapCycle t) ks)
   swapped-numbers [] r h = refl
   swapped-numbers (k ∷ ks) r h =
-      let b = both (real k) (allReal ks) h in
+      let b = both-true (real k) (allReal ks) h in
       let q : List ℕ = spread stepsIn ks ++ r in
       ap (λ (l : List ℕ). swapNumber t (numOf k) (take (width (numOf k)) l) ∷ allNumbers t (map numOf ks) (drop (width (numOf k)) l)) (append-assoc (stepsIn k) (spread stepsIn ks) r)
       ∙ ap₂ (λ (x y : List ℕ). swapNumber t (numOf k) x ∷ allNumbers t (map numOf ks) y) (cycle-front k q (b .0)) (cycle-rest k q (b .0))

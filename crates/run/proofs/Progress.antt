@@ -14,11 +14,13 @@ use Rattle.complex.specs.Cells.{Sheet, empty}
 use Rattle.complex.specs.Sound.{idsEnd, ceilings, sound}
 use Rattle.complex.specs.Decode.{Command as Order, decode}
 use Rattle.complex.specs.Commands.{question3, question4, question5, question6, result}
-use Rattle.complex.specs.Answer.{Answer as Said, no, done, asked2, asked3, asked4, asked5, asked6, asked7, asked8, command, restRead, rest}
+use Rattle.complex.specs.Answer.{Answer as Said, no, done, asked2, asked3, command, restRead, rest}
 use Rattle.complex.specs.Program.{Line, Run, line, putLine, ended, ran, run}
 use Rattle.complex.proofs.Bools.{truth, true-of}
+use Rattle.complex.proofs.Asked.{not-two}
 use Rattle.store.specs.declared.Drawing.{Drawing}
 use Rattle.store.specs.View.{sheetOf}
+use Rattle.store.proofs.Lists.{drop-over, not-empty}
 use Rattle.sound.specs.Soundness.{soundDrawing}
 use Rattle.sound.proofs.Meaning.{sound-sheet}
 use Rattle.command.specs.declared.Command.{Command}
@@ -47,12 +49,6 @@ unfolding run
 start bytes d e s = record { turns = length bytes; within = omega arith; enough = omega arith; few = omega arith; sound = s; goes = ap (λ (x : Sheet). ran (length bytes) x bytes) (sym e) }
 
 -- ---- no byte is left
-drop-over : (n : ℕ) (s : List ℕ) → length s ≤ n → drop n s ≡ []
-drop-over zero [] h = refl
-drop-over zero (x ∷ s) h = absurd (omega arith)
-drop-over (suc n) [] h = refl
-drop-over (suc n) (x ∷ s) h = drop-over n s (omega arith)
-
 ran-none : (n : ℕ) (s : Sheet) → ran n s [] ≡ ended s
 ran-none zero s = refl
 ran-none (suc n) s = refl
@@ -65,31 +61,11 @@ after-ended : (ls : List Line) (d : Drawing) → after ls (ended (sheetOf d)) �
 after-ended ls d = ap (λ (x : List Line). record { lines = x; sheet = sheetOf d }) (append-nil ls)
 
 -- ---- a turn
-not-empty : (b : List ℕ) → 0 < length b → isEmpty b ≡ false
-not-empty [] h = absurd (omega arith)
-not-empty (x ∷ b) h = refl
-
 one-turn : (n : ℕ) (s : Sheet) (b : List ℕ) → isEmpty b ≡ false → eqb (command s b .number) 2 ≡ false → ran (suc n) s b ≡ putLine (line (command s b)) (ran n (command s b .sheet) (rest s b))
 one-turn n s b e f = rw (e, f, ran)
 
 last-turn : (n : ℕ) (s : Sheet) (b : List ℕ) → isEmpty b ≡ false → eqb (command s b .number) 2 ≡ true → ran (suc n) s b ≡ putLine (line (command s b)) (ended (command s b .sheet))
 last-turn n s b e f = rw (e, f, ran)
-
--- questions 3 to 8 don't answer 2
-neither : (b : Bool) (x y : Said) → (x .number ≡ 2 → ⊥) → (y .number ≡ 2 → ⊥) → cond b x y .number ≡ 2 → ⊥
-neither true x y p q = p
-neither false x y p q = q
-
-not-two : (s : Sheet) (c : Order) → asked3 s c .number ≡ 2 → ⊥
-unfolding asked3
-not-two s c =
-    let t = result s c in
-    neither (question3 c) (asked4 s c) (no 3 s)
-    (neither (question4 s c) (asked5 s c) (no 4 s)
-    (neither (question5 s c) (asked6 s c) (no 5 s)
-    (neither (question6 s c) (asked7 s t) (no 6 s)
-    (neither (leb (t .next) idsEnd) (asked8 s t) (no 7 s) (neither (ceilings (t .cells)) (done s t) (no 8 s) (λ e. omega arith) (λ e. omega arith)) (λ e. omega arith)) (λ e. omega arith)) (λ e. omega arith)) (λ e. omega arith))
-    (λ e. omega arith)
 
 -- what the definitions say of a sound drawing
 module _ (d : Drawing) (w : T (soundDrawing d)) (b : List ℕ) where
@@ -184,7 +160,3 @@ module _ {bytes : List ℕ} {before : List Line} {d : Drawing} {at : ℕ} (p : P
                   sound = commanded-obeyed d b a (true-of (soundDrawing d) (p .sound)) _ _ (t .read) r .sound (p .sound);
                   goes = turned n g;
                 }
-
--- a part of a slice from a place to its end
-pub all-left : (n : ℕ) (s : List ℕ) → take (length s - n) (drop n s) ≡ drop n s
-all-left n s = take-all (length s - n) (drop n s) (let l = length-drop n s in omega arith)

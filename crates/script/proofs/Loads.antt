@@ -20,6 +20,7 @@ use Rattle.store.specs.Sheet.{real}
 use Rattle.store.specs.Places.{word, numOf, stepsIn}
 use Rattle.store.specs.Edits.{placesOf}
 use Rattle.store.specs.Pools.{Held}
+use Rattle.store.proofs.Encode.{places-size, all-places}
 use Rattle.command.specs.Lists.{listOf, thingsRead, numbersRead, cyclesRead, Reaches, Stand}
 use Rattle.command.proofs.Rest.{Leaves, leaves-number, leaves-cycle}
 use Rattle.command.proofs.Laws.{stand-length}
@@ -99,14 +100,6 @@ real-size : (k : Cycle) → real k ≡ true → placesOf 1 (numOf k) ≡ stepCou
 real-size (lone v) e = refl
 real-size (path []) e = absurd (false≢true e)
 real-size (path (h ∷ hs)) e = refl
-
-places-size : (k : Cycle) → length (stepsIn k) ≡ stepCount k
-places-size (lone v) = refl
-places-size (path hs) = length-map hs word
-
-pub all-places : (ks : List Cycle) → length (spread stepsIn ks) ≡ total stepCount ks
-all-places [] = refl
-all-places (k ∷ ks) = length-append (stepsIn k) (spread stepsIn ks) ∙ (λ i. places-size k i + all-places ks i)
 
 take-sets : (l vs : List ℕ) (n : ℕ) → length vs ≡ n → n ≤ length l → take n (sets l 0 vs) ≡ vs
 take-sets l vs n e h = ap (take n) (sets-eq vs l 0 (omega arith)) ∙ take-at vs (drop (0 + length vs) l) n e

@@ -10,6 +10,7 @@ use lib.Dec.{eqb}
 use lib.ListN.{length, take, drop, getD, length-drop}
 use lib.Seq.{getD-drop, drop-cons, drop-drop}
 use Rattle.complex.specs.Lists.{all}
+use Rattle.complex.proofs.Bools.{or-none}
 use Rattle.store.specs.View.{width, widthSum}
 use Rattle.store.proofs.Lists.{sum-more, sum-le}
 use Rattle.sound.specs.Rows.{Rows, isVertexIn, rowIn, tailIn, headIn, goesOn, leadsIn, joinsIn, cycleGood, cyclesGood}
@@ -75,10 +76,6 @@ module _ (t : Rows) (ns st : List ℕ) (m : ℕ) where
   cycling-end h from i e x = sym (x .rest ∙ ap (λ (y : List ℕ). cyclesGood t y (drop from st)) (left-none ns m i h e))
 
 -- ---- one cycle
-or-none : (b : Bool) → b || false ≡ b
-or-none true = refl
-or-none false = refl
-
 first-step : (st : List ℕ) (from m : ℕ) → 1 ≤ m → from + m ≤ length st → take m (drop from st) ≡ getD st from 0 ∷ take (m - 1) (drop (from + 1) st)
 first-step st from m h g =
     let e : m ≡ suc (m - 1) = omega arith in

@@ -12,6 +12,8 @@ use Rattle.coordinate.specs.declared.Position.{Position}
 use Rattle.store.specs.declared.Shape.{Shape}
 use Rattle.store.specs.declared.Shape.the-variants.{Vertex, Open, Closed, Face}
 use Rattle.store.specs.declared.Cell.{Cell}
+use Rattle.complex.specs.Lists.{total}
+use Rattle.complex.specs.Sound.{stepCount}
 use Rattle.complex.specs.Cells.{Halfedge, Cycle, lone, path, Figure, vertex, openEdge, closedEdge, face, LiveCell as Entry}
 use Rattle.store.specs.Sheet.{real, allReal}
 use Rattle.store.specs.Places.{bit, word, numOf, stepsIn, shapeOf, cyclesIn, bendsIn, headOf, cyclesAt, bendsAt}
@@ -22,6 +24,15 @@ module _ {A B : Type 0} where
   pub flat-append : (f : A → List B) (xs ys : List A) → spread f (xs ++ ys) ≡ spread f xs ++ spread f ys
   flat-append f [] ys = refl
   flat-append f (x ∷ xs) ys = ap (λ (r : List B). f x ++ r) (flat-append f xs ys) ∙ sym (append-assoc (f x) (spread f xs) (spread f ys))
+
+-- the places that cycles take: a lone vertex has one
+pub places-size : (k : Cycle) → length (stepsIn k) ≡ stepCount k
+places-size (lone v) = refl
+places-size (path hs) = length-map hs word
+
+pub all-places : (ks : List Cycle) → length (spread stepsIn ks) ≡ total stepCount ks
+all-places [] = refl
+all-places (k ∷ ks) = length-append (stepsIn k) (spread stepsIn ks) ∙ ap₂ _+_ (places-size k) (all-places ks)
 
 -- a step's number, both ways
 word-half : (e : ℕ) (b : Bool) → halfedgeOf (e * 2 + bit b) ≡ record { edge = e; backward = b }

@@ -5,9 +5,9 @@ use mathlib.Core.List.{List, [], _∷_, _++_, map, append-assoc, append-nil}
 use mathlib.Core.Bool.{Bool, true, false, cond}
 use native.Mathlib.Omega.{arith}
 use native.Mathlib.Numerals.{add-one}
-use lib.ListN.{length, take, drop, set, getD, replicate, length-set, length-replicate}
+use lib.ListN.{length, take, drop, set, getD, replicate, length-set, length-replicate, length-drop}
 use lib.Seq.{take-suc, take-add, take-all, take-suc-set, length-take-le, getD-drop, drop-drop, drop-set-lt, paste, take-paste, length-paste}
-use Rattle.complex.specs.Lists.{total}
+use Rattle.complex.specs.Lists.{total, isEmpty}
 use Rattle.store.specs.View.{width, widthSum}
 use Rattle.store.specs.Edits.{kept, placesOf, spreadFlags, zipped, Compacted}
 
@@ -191,3 +191,18 @@ places-sum g (x ∷ l) = ap₂ _+_ (places-none (g x)) (places-sum g l)
 pub width-places : (l : List ℕ) → total (placesOf 1) l ≡ widthSum l
 width-places [] = refl
 width-places (n ∷ l) = ap₂ _+_ (places-one n) (width-places l)
+
+-- ---- what is left of a list from a place on
+module _ {A : Type 0} where
+  pub all-left : (n : ℕ) (s : List A) → take (length s - n) (drop n s) ≡ drop n s
+  all-left n s = take-all (length s - n) (drop n s) (let l = length-drop n s in omega arith)
+
+  pub drop-over : (n : ℕ) (s : List A) → length s ≤ n → drop n s ≡ []
+  drop-over zero [] h = refl
+  drop-over zero (x ∷ s) h = absurd (omega arith)
+  drop-over (suc n) [] h = refl
+  drop-over (suc n) (x ∷ s) h = drop-over n s (omega arith)
+
+  pub not-empty : (s : List A) → 0 < length s → isEmpty s ≡ false
+  not-empty [] h = absurd (omega arith)
+  not-empty (x ∷ s) h = refl

@@ -12,22 +12,16 @@ use Rattle.number.specs.Readers.{spread}
 use Rattle.complex.specs.Lists.{any}
 use Rattle.complex.specs.Cells.{Cycle, stepsOf}
 use Rattle.complex.specs.Uses.{Passage, passage, passagesFrom, passages}
+use Rattle.complex.proofs.Bools.{or-none, or-assoc}
 use Rattle.store.specs.View.{halfedgeOf, width, widthSum, cycleOf, cyclesOf}
 use Rattle.store.proofs.Lists.{sum-more, sum-le}
 use Rattle.sound.proofs.Testing.{left-cons, left-none}
 use Rattle.store.specs.Index.{valueAt}
 use Rattle.sound.specs.Rows.{Rows}
+use Rattle.sound.proofs.Walking.{room}
 use Rattle.uncut_case.specs.Turns.{sideIn, leavesIn, turnsBack, turnsAt}
 
 -- ---- tests
-pub or-none : (b : Bool) → b || false ≡ b
-or-none true = refl
-or-none false = refl
-
-or-assoc : (a b c : Bool) → a || (b || c) ≡ (a || b) || c
-or-assoc true b c = refl
-or-assoc false b c = refl
-
 pub and-one : (b : Bool) → b && true ≡ b
 and-one true = refl
 and-one false = refl
@@ -93,9 +87,6 @@ module _ (t : Rows) (whole : Bool) (v : ℕ) (q : Passage) where
   turns-not e = sym (ap (λ (b : Bool). leavesIn t v (q .leaves) && b) e ∙ and-none (leavesIn t v (q .leaves)))
 
 -- ---- a path: h is the step before place i, and the passages from there on decide
-pub room : (l : List ℕ) (from m : ℕ) → from + m ≤ length l → m ≤ length (drop from l)
-room l from m h = let e = length-drop from l in omega arith
-
 module _ (p : Passage → Bool) (st : List ℕ) (from m first : ℕ) where
   pub record Turning (h i : ℕ) : Type 0 where
     pub rest : any p (passages (map halfedgeOf (take m (drop from st))))

@@ -15,12 +15,13 @@ use Rattle.complex.specs.Uses.{stepUses, cycleUses, Use as Used}
 use Rattle.store.specs.Edits.{placesOf}
 use Rattle.store.specs.View.{halfedgeOf, width, widthSum, cycleOf, cyclesOf}
 use Rattle.store.proofs.Lists.{sum-append, sum-more, sum-le, width-places}
+use Rattle.store.proofs.Encode.{take-cycles}
 use Rattle.sound.proofs.Testing.{left-cons, left-none}
+use Rattle.sound.proofs.Walking.{room}
 use Rattle.uncut_case.specs.declared.Use.{Use}
 use Rattle.uncut_case.specs.declared.Uses.{Uses}
 use Rattle.uncut_case.specs.Found.{fed, useOf, noUses, addUse, oneUse, usesTwo, usesIn, Faces}
 use Rattle.uncut_case.proofs.Finding.{fed-append}
-use Rattle.uncut_case.proofs.Turning.{room}
 
 -- ---- one use more
 module _ (x : Uses) (u : Use) where
@@ -145,11 +146,6 @@ cycles-drop (suc c) [] st = refl
 cycles-drop (suc c) (n ∷ ns) st =
     cycles-drop c ns (drop (width n) st) ∙ ap (cyclesOf (drop c ns)) (drop-drop (widthSum (take c ns)) (width n) st)
 
-pub cycles-take : (k : ℕ) (ns st : List ℕ) → take k (cyclesOf ns st) ≡ cyclesOf (take k ns) st
-cycles-take zero ns st = refl
-cycles-take (suc k) [] st = refl
-cycles-take (suc k) (n ∷ ns) st = ap (λ (l : List Cycle). cycleOf n st ∷ l) (cycles-take k ns (drop (width n) st))
-
 places-nil : (c : ℕ) → placesOf 0 c ≡ c
 places-nil zero = refl
 places-nil (suc c) = refl
@@ -192,7 +188,7 @@ module _ (e n : ℕ) (is ks ns st : List ℕ) where
     rowing-turn y g w v =
         let cy = drop c0 (cyclesOf ns st) in
         let mine : take k cy ≡ cyclesOf (take k (drop c0 ns)) (drop from st) =
-        ap (take k) (cycles-drop c0 ns st ∙ ap (λ (p : ℕ). cyclesOf (drop c0 ns) (drop p st)) (sym (t .from-is))) ∙ cycles-take k (drop c0 ns) (drop from st) in
+        ap (take k) (cycles-drop c0 ns st ∙ ap (λ (p : ℕ). cyclesOf (drop c0 ns) (drop p st)) (sym (t .from-is))) ∙ take-cycles k (drop c0 ns) (drop from st) in
         let ys = usesIn e (drop (i + 1) (take n is)) (drop (i + 1) (take n ks)) in
         record {
           start-is = cycles-on;

@@ -15,14 +15,14 @@ use Rattle.complex.specs.Edits.{reshape, everyId}
 use Rattle.complex.specs.Decode.{unglue}
 use Rattle.complex.specs.Uses.{usesBy, onUses}
 use Rattle.complex.specs.Unglue.{copies, parts, ungluing}
-use Rattle.complex.specs.Commands.{question3, question4, question5, question6, result}
+use Rattle.complex.specs.Commands.{question4, question5, question6, result}
 use Rattle.complex.specs.Answer.{no, asked3}
 use Rattle.answer.specs.Sizes.{Sizes as Counted, sized, nothing, moreLess, changedBy, newCells, changeOf, unglueChange, sizesAfter, sizesFit}
 use Rattle.complex.proofs.Bools.{truth, true-of}
-use Rattle.complex.proofs.Lookup.{changed, lookup-reshape, ids-reshape}
+use Rattle.complex.proofs.Lookup.{changed, lookup-reshape, ids-reshape, kept-all}
 use Rattle.complex.proofs.Keep.{Sound, sound-parts}
 use Rattle.complex.proofs.Unglue.{over-at, asPart}
-use Rattle.complex.proofs.Asked.{Passed, no-6}
+use Rattle.complex.proofs.Asked.{Passed, no-6, early, early-none}
 use Rattle.answer.proofs.SizesAfter.{next-after, sizes-after}
 use Rattle.store.specs.declared.Drawing.{Drawing}
 use Rattle.store.specs.declared.Index.{Index}
@@ -37,7 +37,6 @@ use Rattle.sound.specs.Soundness.{soundDrawing}
 use Rattle.sound.proofs.Meaning.{sound-fits, sound-sheet, live-row, found-row, looks}
 use Rattle.append.specs.Appends.{appendedAll, remade, RoomIn, figureAt}
 use Rattle.append.specs.Requirements.{CopiesRoom}
-use Rattle.append.proofs.Appended.{kept-all}
 use Rattle.append.proofs.Rooms.{below, room-copies}
 use Rattle.answer.specs.declared.Answer.{Answer}
 use Rattle.answer.specs.declared.Totals.{Totals}
@@ -206,9 +205,8 @@ module _ (d : Drawing) (z : Sizes d) (w : T (soundDrawing d)) (i : ℕ) (k : T (
   abbrev change : ℕ → Figure → Figure
   change = ungluing (sheetOf d) i (cellAt (sheetOf d) i)
 
-  three : question3 (unglue i) ≡ true
-  unfolding question3
-  three = refl
+  bytes : early (unglue i) ≡ 0
+  bytes = early-none (unglue i) refl
 
   four : question4 (sheetOf d) (unglue i) ≡ true
   unfolding question4
@@ -223,7 +221,7 @@ module _ (d : Drawing) (z : Sizes d) (w : T (soundDrawing d)) (i : ℕ) (k : T (
   six = ap (leb 2) (sym en)
 
   pub few-refused : n < 2 → (r : Answer) → r ≡ refusal d 6 → Answers d (unglue i) r
-  few-refused h r e = answers-no d (sound-fits d w) (unglue i) 6 r e (no-6 (sheetOf d) (unglue i) three four five (six ∙ lt-leb 2 n h))
+  few-refused h r e = answers-no d (sound-fits d w) (unglue i) 6 r e (no-6 (sheetOf d) (unglue i) bytes four five (six ∙ lt-leb 2 n h))
 
   new-cells : newCells (sheetOf d) (unglue i) ≡ n - 1
   unfolding newCells
@@ -244,7 +242,7 @@ module _ (d : Drawing) (z : Sizes d) (w : T (soundDrawing d)) (i : ℕ) (k : T (
 
   module _ (h : 2 ≤ n) (r : ℕ) (er : r ≡ lateCopies (sheetOf d) i (n - 1)) where
     passed : Passed (sheetOf d) (unglue i)
-    passed = record { three = three; four = four; five = five; six = six ∙ le-leb 2 n h }
+    passed = record { bytes = bytes; four = four; five = five; six = six ∙ le-leb 2 n h }
 
     late : (r ≡ 0 → ⊥) → asked3 (sheetOf d) (unglue i) ≡ no r (sheetOf d)
     unfolding sheetOf

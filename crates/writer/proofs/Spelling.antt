@@ -18,6 +18,7 @@ use Rattle.complex.proofs.Bools.{both, pair, all-more}
 use Rattle.complex.proofs.Lookup.{rising-lt, lookup-from, all-from}
 use Rattle.complex.proofs.Walks.{joins-cases}
 use Rattle.complex.proofs.Keep.{sound-parts, same-eq}
+use Rattle.complex.proofs.Files.{named}
 use Rattle.writer.specs.Places.{spells, stepSpells, cycleSpells, figureSpells, cellSpells, sheetSpells}
 
 id-spells : (i : ℕ) → i < idsEnd → T (spells i)
@@ -32,12 +33,9 @@ step-spells h l = go (h .backward)
 
 -- where what is named is live, its id is below the end of ids
 module _ (look : Look) (live : (i : ℕ) → (look i ≡ none → ⊥) → i < idsEnd) where
-  named : (q : Option Figure → Bool) → (T (q none) → ⊥) → (i : ℕ) → T (q (look i)) → i < idsEnd
-  named q dead i t = live i (λ e. dead (subst (λ (o : Option Figure). T (q o)) e t))
-
   walk-spells : (u : ℕ) (hs : List Halfedge) (w : ℕ) → Walk look u hs w → T (all stepSpells hs)
   walk-spells u [] w k = tt
-  walk-spells u (h ∷ hs) w k = pair (stepSpells h) (all stepSpells hs) (step-spells h (named isOpen (λ z. z) (h .edge) (k .0))) (walk-spells (headOf look h) hs w (k .2))
+  walk-spells u (h ∷ hs) w k = pair (stepSpells h) (all stepSpells hs) (step-spells h (named look live isOpen (λ z. z) (h .edge) (k .0))) (walk-spells (headOf look h) hs w (k .2))
 
   ring-spells : (h : Halfedge) → T (stepSpells h) → (hs : List Halfedge) → T (all (same h) hs) → T (all stepSpells hs)
   ring-spells h l [] t = tt
@@ -49,11 +47,11 @@ module _ (look : Look) (live : (i : ℕ) → (look i ≡ none → ⊥) → i < i
   path-spells [] t = absurd t
   path-spells (h ∷ hs) t = elim (joins-cases look (h ∷ hs) t) [
     | inl r ↦ walk-spells (r .1 .0) (h ∷ hs) (r .1 .0) (r .1 .1)
-    | inr r ↦ let l = step-spells h (named isClosed (λ z. z) (h .edge) (r .0)) in pair (stepSpells h) (all stepSpells hs) l (ring-spells h l hs (r .1))
+    | inr r ↦ let l = step-spells h (named look live isClosed (λ z. z) (h .edge) (r .0)) in pair (stepSpells h) (all stepSpells hs) l (ring-spells h l hs (r .1))
   ]
 
   cycle-spells : (k : Cycle) → T (cycleOk look k) → T (cycleSpells k)
-  cycle-spells (lone v) t = id-spells v (named isVertex (λ z. z) v t)
+  cycle-spells (lone v) t = id-spells v (named look live isVertex (λ z. z) v t)
   cycle-spells (path hs) t = path-spells hs t
 
   figure-spells : (x : Figure) → T (figureOk look x) → T (figureSpells x)
@@ -61,8 +59,8 @@ module _ (look : Look) (live : (i : ℕ) → (look i ≡ none → ⊥) → i < i
   figure-spells (openEdge a b bs) t =
       let u = both (isVertex (look a)) (isVertex (look b) && all within bs) t in
       let v = both (isVertex (look b)) (all within bs) (u .1) in
-      pair (spells a) (spells b && all within bs) (id-spells a (named isVertex (λ z. z) a (u .0)))
-      (pair (spells b) (all within bs) (id-spells b (named isVertex (λ z. z) b (v .0))) (v .1))
+      pair (spells a) (spells b && all within bs) (id-spells a (named look live isVertex (λ z. z) a (u .0)))
+      (pair (spells b) (all within bs) (id-spells b (named look live isVertex (λ z. z) b (v .0))) (v .1))
   figure-spells (closedEdge bs) t = both (not (isEmpty bs)) (all within bs) t .1
   figure-spells (face ks) t = all-more (cycleOk look) cycleSpells cycle-spells ks t
 

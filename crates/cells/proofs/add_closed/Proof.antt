@@ -9,12 +9,12 @@ use Rattle.bends.specs.Bends.{positionsAt}
 use Rattle.bends.proofs.Laws.{positions-length}
 use Rattle.complex.specs.Cells.{closedEdge}
 use Rattle.complex.specs.Decode.{create}
-use Rattle.complex.proofs.Asked.{no-3, no-5}
+use Rattle.complex.proofs.Asked.{early-bends, out-bends, no-3, no-5}
 use Rattle.store.specs.View.{sheetOf}
 use Rattle.store.proofs.Sizes.{sizes}
 use Rattle.sound.proofs.Meaning.{sound-fits}
 use Rattle.answer.proofs.Laws.{answers-no, summed, totals-small}
-use Rattle.cells.proofs.Create.{next-in, no-by-bends, closed-three, closed-four, closed-five, closed-passed, cell-refuses, cell-room, cell-counts, cell-answers}
+use Rattle.cells.proofs.Create.{next-in, no-by-bends, closed-four, closed-five, closed-passed, cell-refuses, cell-room, cell-counts, cell-answers}
 use Rattle.cells.proofs.add_closed.Statement.{statement}
 use Rattle.cells.proofs.add_closed.Tie as tie
 
@@ -30,7 +30,7 @@ returns c =
     let st = w .before .before in
     let d = st .args .d in
     let bs = positionsAt (st .args .script .now) (st .args .first) (st .args .count) in
-    answers-no d (sound-fits d (st .pre .0)) (create (closedEdge bs)) 3 _ (c .refused .ensures) (no-3 (sheetOf d) (create (closedEdge bs)) (closed-three bs false (sym (w .bends-within .ensures) ∙ not-true _ (c .before .if1 .taken))))
+    answers-no d (sound-fits d (st .pre .0)) (create (closedEdge bs)) 3 _ (c .refused .ensures) (no-3 (sheetOf d) (create (closedEdge bs)) (out-bends (create (closedEdge bs)) (sym (w .bends-within .ensures) ∙ not-true _ (c .before .if1 .taken))))
 
 refused-requires-2 : tie.Need-refused-requires-2
 refused-requires-2 c κs = search needs
@@ -43,7 +43,7 @@ returns-2 c =
     let d = st .args .d in
     let bs = positionsAt (st .args .script .now) (st .args .first) (st .args .count) in
     answers-no d (sound-fits d (st .pre .0)) (create (closedEdge bs)) 5 _ (c .refused2 .ensures)
-    (no-5 (sheetOf d) (create (closedEdge bs)) (closed-three bs true (sym (w .bends-within .ensures) ∙ not-false _ (e .if1 .left))) (closed-four d bs)
+    (no-5 (sheetOf d) (create (closedEdge bs)) (early-bends (create (closedEdge bs)) (sym (w .bends-within .ensures) ∙ not-false _ (e .if1 .left))) (closed-four d bs)
     (closed-five d bs (positions-length (st .args .script .now) (st .args .first) (st .args .count) ∙ c .before .if2 .taken)))
 
 index-of-requires : tie.Need-index-of-requires

@@ -9,12 +9,12 @@ use Rattle.bends.specs.Bends.{positionsAt}
 use Rattle.bends.proofs.Laws.{positions-length}
 use Rattle.complex.specs.Cells.{openEdge}
 use Rattle.complex.specs.Decode.{create}
-use Rattle.complex.proofs.Asked.{no-3, no-4}
+use Rattle.complex.proofs.Asked.{early-bends, out-bends, no-3, no-4}
 use Rattle.store.specs.View.{sheetOf}
 use Rattle.store.proofs.Sizes.{sizes}
 use Rattle.sound.proofs.Meaning.{sound-fits, looks}
 use Rattle.answer.proofs.Laws.{answers-no, summed, totals-small}
-use Rattle.cells.proofs.Create.{next-in, no-by-bends, kind-vertex, open-three, open-four-start, open-four-end, open-passed, cell-refuses, cell-room, cell-counts, cell-answers}
+use Rattle.cells.proofs.Create.{next-in, no-by-bends, kind-vertex, open-four-start, open-four-end, open-passed, cell-refuses, cell-room, cell-counts, cell-answers}
 use Rattle.cells.proofs.add_open.Statement.{statement}
 use Rattle.cells.proofs.add_open.Tie as tie
 
@@ -30,7 +30,7 @@ returns c =
     let st = w .before .before in
     let d = st .args .d in
     let bs = positionsAt (st .args .script .now) (st .args .first) (st .args .count) in
-    answers-no d (sound-fits d (st .pre .0)) (create (openEdge (st .args .start) (st .args .end) bs)) 3 _ (c .refused .ensures) (no-3 (sheetOf d) (create (openEdge (st .args .start) (st .args .end) bs)) (open-three (st .args .start) (st .args .end) bs false (sym (w .bends-within .ensures) ∙ not-true _ (c .before .if1 .taken))))
+    answers-no d (sound-fits d (st .pre .0)) (create (openEdge (st .args .start) (st .args .end) bs)) 3 _ (c .refused .ensures) (no-3 (sheetOf d) (create (openEdge (st .args .start) (st .args .end) bs)) (out-bends (create (openEdge (st .args .start) (st .args .end) bs)) (sym (w .bends-within .ensures) ∙ not-true _ (c .before .if1 .taken))))
 
 index-of-requires : tie.Need-index-of-requires
 index-of-requires c κs = let st = c .before .before .before in sound-fits (st .args .d) (st .pre .0) .cells
@@ -55,7 +55,7 @@ returns-2 c =
     let d = st .args .d in
     let bs = positionsAt (st .args .script .now) (st .args .first) (st .args .count) in
     answers-no d (sound-fits d (st .pre .0)) (create (openEdge (st .args .start) (st .args .end) bs)) 4 _ (c .refused2 .ensures)
-    (no-4 (sheetOf d) (create (openEdge (st .args .start) (st .args .end) bs)) (open-three (st .args .start) (st .args .end) bs true (sym (w .bends-within .ensures) ∙ not-false _ (x .before .if1 .left)))
+    (no-4 (sheetOf d) (create (openEdge (st .args .start) (st .args .end) bs)) (early-bends (create (openEdge (st .args .start) (st .args .end) bs)) (sym (w .bends-within .ensures) ∙ not-false _ (x .before .if1 .left)))
     (open-four-start d (st .args .start) (st .args .end) bs
     (sym (kind-vertex d (sizes d _ (st .good .0)) (st .pre .0) (x .index-of .result) (x .index-of .ensures) (st .args .start) (a .value-at .result) (a .value-at .ensures)) ∙ ne-eqb _ 0 (c .before .if2 .taken))))
 
@@ -81,7 +81,7 @@ returns-3 c =
     let z = sizes d _ (st .good .0) in
     let bs = positionsAt (st .args .script .now) (st .args .first) (st .args .count) in
     answers-no d (sound-fits d (st .pre .0)) (create (openEdge (st .args .start) (st .args .end) bs)) 4 _ (c .refused3 .ensures)
-    (no-4 (sheetOf d) (create (openEdge (st .args .start) (st .args .end) bs)) (open-three (st .args .start) (st .args .end) bs true (sym (w .bends-within .ensures) ∙ not-false _ (x .before .if1 .left)))
+    (no-4 (sheetOf d) (create (openEdge (st .args .start) (st .args .end) bs)) (early-bends (create (openEdge (st .args .start) (st .args .end) bs)) (sym (w .bends-within .ensures) ∙ not-false _ (x .before .if1 .left)))
     (open-four-end d (st .args .start) (st .args .end) bs
     (sym (kind-vertex d z (st .pre .0) (x .index-of .result) (x .index-of .ensures) (st .args .start) (a .value-at .result) (a .value-at .ensures)) ∙ eq-eqb _ 0 (e .before .before .before .if2 .left))
     (sym (kind-vertex d z (st .pre .0) (x .index-of .result) (x .index-of .ensures) (st .args .end) (e .value-at2 .result) (e .value-at2 .ensures)) ∙ ne-eqb _ 0 (c .before .if3 .taken))))

@@ -6,12 +6,12 @@ use mathlib.Core.Bool.{false}
 use lib.Dec.{lit≤}
 use Rattle.complex.specs.Cells.{vertex}
 use Rattle.complex.specs.Decode.{create}
-use Rattle.complex.proofs.Asked.{no-3}
+use Rattle.complex.proofs.Asked.{out-one, no-3}
 use Rattle.store.specs.View.{sheetOf}
 use Rattle.store.proofs.Sizes.{sizes}
 use Rattle.sound.proofs.Meaning.{sound-fits}
 use Rattle.answer.proofs.Laws.{answers-no, summed, totals-small}
-use Rattle.cells.proofs.Create.{next-in, vertex-three, vertex-passed, cell-refuses, cell-room, cell-counts, cell-answers}
+use Rattle.cells.proofs.Create.{next-in, vertex-passed, cell-refuses, cell-room, cell-counts, cell-answers}
 use Rattle.cells.proofs.add_vertex.Statement.{statement}
 use Rattle.cells.proofs.add_vertex.Tie as tie
 
@@ -26,7 +26,7 @@ returns c =
     let st = c .before .before .before in
     let d = st .args .d in
     let q = create (vertex (st .args .p)) in
-    answers-no d (sound-fits d (st .pre)) q 3 _ (c .refused .ensures) (no-3 (sheetOf d) q (vertex-three (st .args .p) false (sym (c .before .before .in-bounds .ensures) ∙ not-true _ (c .before .if1 .taken))))
+    answers-no d (sound-fits d (st .pre)) q 3 _ (c .refused .ensures) (no-3 (sheetOf d) q (out-one q (st .args .p) refl (sym (c .before .before .in-bounds .ensures) ∙ not-true _ (c .before .if1 .taken))))
 
 index-of-requires : tie.Need-index-of-requires
 index-of-requires c κs = let st = c .before .before in sound-fits (st .args .d) (st .pre) .cells

@@ -13,6 +13,7 @@ use Rattle.complex.specs.Answer.{restRead, rest}
 use Rattle.command.proofs.Laws.{Begins, begins, unread}
 use Rattle.store.specs.declared.Drawing.{Drawing}
 use Rattle.store.specs.View.{sheetOf}
+use Rattle.store.proofs.Lists.{all-left}
 use Rattle.complex.specs.Sound.{sound}
 use Rattle.complex.proofs.Bools.{truth, true-of}
 use Rattle.sound.specs.Soundness.{soundDrawing}
@@ -25,9 +26,6 @@ use Rattle.core.proofs.rest.Tie as tie
 rest-is : (d : Drawing) (s : List ℕ) (q : Read Command) → soundDrawing d ≡ true → decode s ≡ q → restOf d s ≡ restRead s q
 unfolding rest
 rest-is d s q w e = rw (w, true-of (sound (sheetOf d)) (sound-sheet d (truth w)), e)
-
-all-left : (n : ℕ) (s : List ℕ) → take (length s - n) (drop n s) ≡ drop n s
-all-left n s = take-all (length s - n) (drop n s) (let l = length-drop n s in omega arith)
 
 sound-requires : tie.Need-sound-requires
 sound-requires c κs = search needs

@@ -6,9 +6,9 @@ use mathlib.Core.Path.{_≡_, refl, sym, ap₂, _∙_, subst}
 use mathlib.Core.Bool.{false, _||_}
 use Rattle.complex.specs.Cells.{cellAt, isOpen, isClosed}
 use Rattle.complex.specs.Decode.{cutEdge}
-use Rattle.complex.specs.Commands.{question3, question4}
+use Rattle.complex.specs.Commands.{question4}
 use Rattle.complex.specs.Answer.{no, asked3}
-use Rattle.complex.proofs.Asked.{no-4}
+use Rattle.complex.proofs.Asked.{early-none, no-4}
 use Rattle.store.specs.declared.Drawing.{Drawing}
 use Rattle.store.specs.View.{sheetOf}
 use Rattle.store.proofs.Sizes.{sizes}
@@ -19,8 +19,8 @@ use Rattle.cut.proofs.cut_edge.Statement.{statement}
 use Rattle.cut.proofs.cut_edge.Tie as tie
 
 no-edge : (d : Drawing) (e q : ℕ) → isOpen (cellAt (sheetOf d) e) ≡ false → isClosed (cellAt (sheetOf d) e) ≡ false → asked3 (sheetOf d) (cutEdge e q) ≡ no 4 (sheetOf d)
-unfolding question3 question4
-no-edge d e q a b = no-4 (sheetOf d) (cutEdge e q) refl (ap₂ _||_ a b)
+unfolding question4
+no-edge d e q a b = no-4 (sheetOf d) (cutEdge e q) (early-none (cutEdge e q) refl) (ap₂ _||_ a b)
 
 index-of-requires : tie.Need-index-of-requires
 index-of-requires c κs = sound-fits (c .args .d) (c .pre) .cells

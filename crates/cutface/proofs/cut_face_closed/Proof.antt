@@ -11,7 +11,7 @@ use Rattle.bends.proofs.Laws.{positions-length}
 use Rattle.complex.specs.Edits.{everyId}
 use Rattle.complex.specs.Decode.{cutFaceClosed}
 use Rattle.answer.specs.Sizes.{sized, nothing, moreLess, changedBy}
-use Rattle.complex.proofs.Asked.{Passed, no-3}
+use Rattle.complex.proofs.Asked.{Passed, no-3, out-bends}
 use Rattle.store.specs.declared.Drawing.{Drawing}
 use Rattle.store.specs.declared.Index.{Index}
 use Rattle.store.specs.Index.{Indexes}
@@ -26,7 +26,7 @@ use Rattle.answer.proofs.Laws.{answers-no, summed, totalsIn, totals-small}
 use Rattle.command.specs.Lists.{numbersRead}
 use Rattle.outline.proofs.Late.{Asked, next-in, refuses, room, spare, counts-done, answers}
 use Rattle.outline.proofs.Edits.{rows-in, named-in}
-use Rattle.cutface.proofs.Rounds.{round-three, round-new, round-more, round-result, round-cut, round-refuses, round-passes}
+use Rattle.cutface.proofs.Rounds.{round-new, round-more, round-result, round-cut, round-refuses, round-passes}
 use Rattle.cutface.proofs.cut_face_closed.Statement.{statement}
 use Rattle.cutface.proofs.cut_face_closed.Tie as tie
 
@@ -45,7 +45,7 @@ returns c =
     let bs = positionsAt (a .script .now) (a .first) (a .bends) in
     let ms = numbersRead (a .script .now) (a .place) (a .moved) in
     answers-no d (sound-fits d (st .pre .0)) (cutFaceClosed (a .f) bs ms) 3 _ (c .refused .ensures)
-    (no-3 (sheetOf d) (cutFaceClosed (a .f) bs ms) (round-three (sheetOf d) (a .f) bs ms ∙ sym (i .bends-within .ensures) ∙ not-true _ (c .before .if1 .taken)))
+    (no-3 (sheetOf d) (cutFaceClosed (a .f) bs ms) (out-bends (cutFaceClosed (a .f) bs ms) (sym (i .bends-within .ensures) ∙ not-true _ (c .before .if1 .taken))))
 
 index-of-requires : tie.Need-index-of-requires
 index-of-requires c κs = let st = c .before .before .before in sound-fits (st .args .d) (st .pre .0) .cells

@@ -12,7 +12,7 @@ use Rattle.complex.specs.Cells.{vertex, face, cellAt, isFace}
 use Rattle.complex.specs.Edits.{everyId}
 use Rattle.complex.specs.Decode.{cutFaceVertex}
 use Rattle.answer.specs.Sizes.{sized, nothing, moreLess, changedBy}
-use Rattle.complex.proofs.Asked.{no-3, no-4}
+use Rattle.complex.proofs.Asked.{no-3, no-4, early-one, out-one}
 use Rattle.store.specs.declared.Drawing.{Drawing}
 use Rattle.store.specs.declared.Index.{Index}
 use Rattle.store.specs.Index.{Indexes}
@@ -26,7 +26,7 @@ use Rattle.answer.specs.Late.{sizesBy, lateNo}
 use Rattle.answer.proofs.Laws.{answers-no, summed, totalsIn, totals-small}
 use Rattle.outline.proofs.Late.{Asked, next-in, refuses, room, counts-done, answers}
 use Rattle.outline.proofs.Edits.{rows-in, face-told, named-in}
-use Rattle.cutface.proofs.Edits.{vertex-three, vertex-four, vertex-passed, vertex-new, vertex-more, vertex-result, vertex-cut}
+use Rattle.cutface.proofs.Edits.{vertex-four, vertex-passed, vertex-new, vertex-more, vertex-result, vertex-cut}
 use Rattle.cutface.proofs.cut_face_vertex.Statement.{statement}
 use Rattle.cutface.proofs.cut_face_vertex.Tie as tie
 
@@ -43,7 +43,7 @@ returns c =
     let a = st .args in
     let d = a .d in
     answers-no d (sound-fits d (st .pre)) (cutFaceVertex (a .f) (a .p)) 3 _ (c .refused .ensures)
-    (no-3 (sheetOf d) (cutFaceVertex (a .f) (a .p)) (vertex-three (sheetOf d) (a .f) (a .p) false (sym (i .in-bounds .ensures) ∙ not-true _ (c .before .if1 .taken))))
+    (no-3 (sheetOf d) (cutFaceVertex (a .f) (a .p)) (out-one (cutFaceVertex (a .f) (a .p)) (a .p) refl (sym (i .in-bounds .ensures) ∙ not-true _ (c .before .if1 .taken))))
 
 index-of-requires : tie.Need-index-of-requires
 index-of-requires c κs = let st = c .before .before in sound-fits (st .args .d) (st .pre) .cells
@@ -68,7 +68,7 @@ returns-2 c =
     let k = cutFaceVertex (a .f) (a .p) in
     answers-no d (sound-fits d (st .pre)) k 4 _ (c .refused2 .ensures)
     (no-4 (sheetOf d) k
-    (vertex-three (sheetOf d) (a .f) (a .p) true (sym (i .in-bounds .ensures) ∙ not-false _ (x .before .if1 .left)))
+    (early-one k (a .p) refl (sym (i .in-bounds .ensures) ∙ not-false _ (x .before .if1 .left)))
     (vertex-four (sheetOf d) (a .f) (a .p) false
     (face-told d (sizes d _ (st .good .0)) (st .pre) (x .index-of .result) (x .index-of .ensures) (a .f) _ (g .is-face .ensures) ∙ not-true _ (c .before .if2 .taken))))
 

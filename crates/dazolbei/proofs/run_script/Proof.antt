@@ -7,9 +7,10 @@ use mathlib.Core.Path.{_≡_, refl, sym, ap, _∙_, subst}
 use mathlib.Core.List.{List, [], _∷_, _++_}
 use lib.ListN.{length, take, drop}
 use Rattle.store.specs.View.{sheetOf}
+use Rattle.store.proofs.Lists.{all-left}
 use Rattle.command.proofs.Laws.{begins, unread}
 use Rattle.dazolbei.specs.Runs.{lineWidth}
-use Rattle.dazolbei.proofs.Going.{Going, all-left, start, same-size, line-room, left-fits, ahead-fits, turn, reached-end, reached-unread}
+use Rattle.dazolbei.proofs.Going.{Going, start, same-size, line-room, left-fits, ahead-fits, turn, reached-end, reached-unread}
 use Rattle.dazolbei.proofs.run_script.Statement.{statement}
 use Rattle.dazolbei.proofs.run_script.Tie as tie
 

@@ -7,11 +7,12 @@ use mathlib.Core.Path.{_≡_, refl, _∙_}
 use mathlib.Core.List.{List, [], _∷_, _++_}
 use lib.ListN.{length}
 use Rattle.command.proofs.Laws.{begins, unread}
-use Rattle.run.proofs.Progress.{start, over, stopped, turn, lineOf, twoLine, all-left, ahead-fits}
+use Rattle.run.proofs.Progress.{start, over, stopped, turn, lineOf, twoLine, ahead-fits}
 use Rattle.printing.proofs.Puts.{put-none, put-within, put-length}
 use Rattle.printing.proofs.Lines.{Lined, line-room, line-more, lines-printed}
 use Rattle.printing.proofs.put_lines.Statement.{statement}
 use Rattle.printing.proofs.put_lines.Tie as tie
+use Rattle.store.proofs.Lists.{all-left}
 
 abbrev Inv-loop : tie.InvT-loop
 Inv-loop script out₀ d₀ at₀ end₀ out d at end = Lined script out₀ out d at end

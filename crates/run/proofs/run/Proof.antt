@@ -12,10 +12,11 @@ use Rattle.complex.specs.Program.{Line, Run, run as runOf}
 use Rattle.complex.proofs.Runs.{run-after, run-demand}
 use Rattle.store.specs.declared.Drawing.{Drawing}
 use Rattle.store.specs.View.{sheetOf}
+use Rattle.store.proofs.Lists.{all-left}
 use Rattle.sound.specs.Soundness.{soundDrawing}
 use Rattle.command.proofs.Laws.{Begins, begins, unread}
 use Rattle.run.specs.Runs.{RanAll}
-use Rattle.run.proofs.Progress.{Progress, ending, start, over, stopped, turn, lineOf, twoLine, all-left, ahead, ahead-fits}
+use Rattle.run.proofs.Progress.{Progress, ending, start, over, stopped, turn, lineOf, twoLine, ahead, ahead-fits}
 use Rattle.run.proofs.run.Statement.{statement}
 use Rattle.run.proofs.run.Tie as tie
 

@@ -6,10 +6,10 @@ use mathlib.Core.Path.{_≡_, refl, sym, ap, ap₂, _∙_}
 use mathlib.Core.Bool.{true, false, _||_}
 use lib.Dec.{eqb}
 use Rattle.complex.specs.Decode.{unglue}
-use Rattle.complex.specs.Commands.{question3, question4}
+use Rattle.complex.specs.Commands.{question4}
 use Rattle.complex.specs.Answer.{no, asked3}
 use Rattle.complex.proofs.Bools.{truth}
-use Rattle.complex.proofs.Asked.{no-4}
+use Rattle.complex.proofs.Asked.{early, early-none, no-4}
 use Rattle.store.specs.declared.Drawing.{Drawing}
 use Rattle.store.specs.declared.Index.{Index}
 use Rattle.store.specs.View.{sheetOf}
@@ -22,9 +22,8 @@ use Rattle.unglue.proofs.unglue.Tie as tie
 
 -- what is no vertex and no edge is refused
 module _ (d : Drawing) (ix : Index) (L : Looks d ix) (i k : ℕ) (e : k ≡ told 4 d ix (ix .kinds) i) (a : k ≡ 0 → ⊥) (b : k ≡ 1 → ⊥) (c : k ≡ 2 → ⊥) where
-  three : question3 (unglue i) ≡ true
-  unfolding question3
-  three = refl
+  bytes : early (unglue i) ≡ 0
+  bytes = early-none (unglue i) refl
 
   four : question4 (sheetOf d) (unglue i) ≡ false
   unfolding question4
@@ -33,7 +32,7 @@ module _ (d : Drawing) (ix : Index) (L : Looks d ix) (i k : ℕ) (e : k ≡ told
       (ap₂ _||_ (sym (open-at L i) ∙ ap (λ (n : ℕ). eqb n 1) (sym e) ∙ ne-eqb k 1 b) (sym (closed-at L i) ∙ ap (λ (n : ℕ). eqb n 2) (sym e) ∙ ne-eqb k 2 c))
 
   other : asked3 (sheetOf d) (unglue i) ≡ no 4 (sheetOf d)
-  other = no-4 (sheetOf d) (unglue i) three four
+  other = no-4 (sheetOf d) (unglue i) bytes four
 
 index-of-requires : tie.Need-index-of-requires
 index-of-requires c κs = sound-fits (c .args .d) (c .pre) .cells
