@@ -8,15 +8,15 @@ use lib.Dec.{T}
 use lib.ListN.{length, drop, length-drop}
 use lib.Seq.{drop-drop}
 use Rattle.number.specs.Readers.{Read, got, bad, andThen, times, all}
+use Rattle.number.specs.Said.{Said, done, no}
 use Rattle.number.specs.Numbers.{numbersEnd, readNumber}
 use Rattle.number.proofs.Bytes.{Bytes}
-use Rattle.number.proofs.Laws.{lt-or-le, read-left}
+use Rattle.number.proofs.Laws.{lt-or-le, read-left, not-done, done-one}
 use Rattle.number.proofs.Counted.{Each, each-all, counted-back, counted-from}
 use Rattle.coordinate.specs.declared.Position.{Position}
 use Rattle.coordinate.specs.Bounds.{within}
 use Rattle.coordinate.specs.Positions.{Fits, coordinateIn, positionAt, readPosition, positionBytes}
 use Rattle.coordinate.proofs.Laws.{position-at, position-short, read-position, position-read}
-use Rattle.bends.specs.declared.BendList.the-variants.{Listed, Malformed}
 use Rattle.bends.specs.Bends.{readBends, bendBytes, listed, bendListIn, positionsAt}
 
 pub positions-length : (s : List ℕ) (at n : ℕ) → length (positionsAt s at n) ≡ n
@@ -69,38 +69,37 @@ module _ (s : List ℕ) (count first : ℕ) (number : readNumber s ≡ got count
   pub bends-short : first ≤ length s → length s < first + 16 * count → readBends s ≡ bad
   bends-short l h = counted-bends ∙ positions-short s first count l h
 
-  pub listed-long : first + 16 * count ≤ length s → bendListIn s ≡ Listed count first (first + 16 * count)
+  pub listed-long : first + 16 * count ≤ length s → bendListIn s ≡ done (count, first, first + 16 * count)
   listed-long h =
       let l : length (positionsAt s first count) ≡ count = positions-length s first count in
       let d : length (drop (first + 16 * count) s) ≡ length s - (first + 16 * count) = length-drop (first + 16 * count) s in
       let e : length s - length (drop (first + 16 * count) s) ≡ first + 16 * count = omega arith in
       let f : length s - length (drop (first + 16 * count) s) - 16 * length (positionsAt s first count) ≡ first = omega arith in
-      ap (listed (length s)) (bends-long h) ∙ (λ i. Listed (l i) (f i) (e i))
+      ap (listed (length s)) (bends-long h) ∙ (λ i. done (l i, f i, e i))
 
-  pub listed-short : first ≤ length s → length s < first + 16 * count → bendListIn s ≡ Malformed
+  pub listed-short : first ≤ length s → length s < first + 16 * count → bendListIn s ≡ no 2
   listed-short l h = ap (listed (length s)) (bends-short l h)
 
-pub listed-none : (s : List ℕ) → readNumber s ≡ bad → bendListIn s ≡ Malformed
+pub listed-none : (s : List ℕ) → readNumber s ≡ bad → bendListIn s ≡ no 2
 listed-none s e = ap (λ (r : Read ℕ). listed (length s) (andThen r λ n t. times readPosition n t)) e
 
 -- ---- what the answer says of the bytes
-not-listed : (n f e : ℕ) → Malformed ≡ Listed n f e → ⊥
-not-listed n f e p = let z : _≡_ {A = ℕ} 0 1 = cc in omega arith
-
-pub listed-parts : (n f e m g h : ℕ) → Listed n f e ≡ Listed m g h → (n ≡ m) × (f ≡ g) × (e ≡ h)
-listed-parts n f e m g h p = (cc, cc, cc)
+done-three : (n f e m g h : ℕ) → _≡_ {A = Said (ℕ × ℕ × ℕ)} (done (n, f, e)) (done (m, g, h)) → (n ≡ m) × (f ≡ g) × (e ≡ h)
+done-three n f e m g h p =
+    let q = done-one (n, f, e) (m, g, h) p in
+    (ap (λ z. z .0) q, ap (λ z. z .1) q, ap (λ z. z .2) q)
 
 pub record Bends (s : List ℕ) (n first end : ℕ) : Type 0 where
   pub read : readBends s ≡ got (positionsAt s first n) (drop end s)
   pub ends : end ≡ first + 16 * n
   pub fits : end ≤ length s
 
-pub listed-in : (s : List ℕ) (n first end : ℕ) → bendListIn s ≡ Listed n first end → Bends s n first end
+pub listed-in : (s : List ℕ) (n first end : ℕ) → bendListIn s ≡ done (n, first, end) → Bends s n first end
 listed-in s n first end e = go (readNumber s) refl
   where
     long : (m f : ℕ) → readNumber s ≡ got m (drop f s) → f + 16 * m ≤ length s → Bends s n first end
     long m f q h =
-        let p = listed-parts m f (f + 16 * m) n first end (sym (listed-long s m f q h) ∙ e) in
+        let p = done-three m f (f + 16 * m) n first end (sym (listed-long s m f q h) ∙ e) in
         let a = p .0 in
         let b = p .1 in
         let c = p .2 in
@@ -116,16 +115,16 @@ listed-in s n first end e = go (readNumber s) refl
         let f : ℕ = length s - length t in
         let w : readNumber s ≡ got m (drop f s) = q ∙ ap (got m) (l .0) in
         ⊎-elim
-        (λ h. absurd (not-listed n first end (sym (listed-short s m f w (omega arith) h) ∙ e)))
+        (λ h. absurd (not-done 2 (n, first, end) (sym (listed-short s m f w (omega arith) h) ∙ e)))
         (λ h. long m f w h)
         (lt-or-le (length s) (f + 16 * m))
-    go bad q = absurd (not-listed n first end (sym (listed-none s q) ∙ e))
+    go bad q = absurd (not-done 2 (n, first, end) (sym (listed-none s q) ∙ e))
 
-pub malformed-in : (s : List ℕ) → bendListIn s ≡ Malformed → readBends s ≡ bad
+pub malformed-in : (s : List ℕ) → bendListIn s ≡ no 2 → readBends s ≡ bad
 malformed-in s e = go (readBends s) e
   where
-    go : (r : Read (List Position)) → listed (length s) r ≡ Malformed → r ≡ bad
-    go (got bs t) p = absurd (not-listed (length bs) (length s - length t - 16 * length bs) (length s - length t) (sym p))
+    go : (r : Read (List Position)) → listed (length s) r ≡ no 2 → r ≡ bad
+    go (got bs t) p = absurd (not-done 2 (length bs, length s - length t - 16 * length bs, length s - length t) (sym p))
     go bad p = refl
 
 -- ---- bytes and bends

@@ -3,6 +3,7 @@ use Prim.Native.Nat.{ℕ, zero, suc, _+_, _-_, _*_}
 use mathlib.Core.List.{List, [], _∷_}
 use lib.ListN.{length}
 use Rattle.number.specs.Readers.{Read, got, bad}
+use Rattle.number.specs.Said.{Said, done, no}
 use Rattle.number.specs.Numbers.{counted, countedBytes}
 use Rattle.coordinate.specs.declared.Position.{Position}
 use Rattle.coordinate.specs.Positions.{readPosition, positionBytes, positionAt}
@@ -15,12 +16,18 @@ readBends s = counted readPosition s
 abbrev pub bendBytes : List Position → List ℕ
 bendBytes bs = countedBytes positionBytes bs
 
--- how many bends were read, the place of the first and the place after the last, in bytes that end at `end`
-abbrev pub listed : ℕ → Read (List Position) → BendList
-listed end (got bs t) = Listed (length bs) (end - length t - 16 * length bs) (end - length t)
-listed end bad = Malformed
+-- the cases of `BendList`: 0 with the count, the place of the first bend and the place after the last, or 2
+abbrev pub bendListSays : BendList → Said (ℕ × ℕ × ℕ)
+bendListSays (Listed n first end) = done (n, first, end)
+bendListSays Malformed = no 2
 
-abbrev pub bendListIn : List ℕ → BendList
+-- how many bends were read and where, in bytes that end at `end`; or 2
+abbrev pub listed : ℕ → Read (List Position) → Said (ℕ × ℕ × ℕ)
+listed end (got bs t) = done (length bs, end - length t - 16 * length bs, end - length t)
+listed end bad = no 2
+
+-- question 2 of the bend list that bytes begin with
+abbrev pub bendListIn : List ℕ → Said (ℕ × ℕ × ℕ)
 bendListIn s = listed (length s) (readBends s)
 
 -- n positions, one after another from a place on

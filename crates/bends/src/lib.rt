@@ -4,7 +4,7 @@ ghost use Prim.Native.Nat.{_+_, _*_, _≤_};
 ghost use lib.ListN.{length};
 ghost use Rattle.number.specs.Readers.{all};
 ghost use Rattle.coordinate.specs.Bounds.{within};
-ghost use Rattle.bends.specs.Bends.{bendListIn, positionsAt};
+ghost use Rattle.bends.specs.Bends.{bendListSays, bendListIn, positionsAt};
 
 // What stands at the front of bytes: so many bends, the place of the first and the place after the
 // last; or no bend list.
@@ -15,7 +15,7 @@ pub enum BendList {
 
 // The bend list that a part of a script starts with. Places count from the part's start.
 pub fn read_bends(part: &[u8]) -> BendList
-    ensures { λ r. ⌜ r ≡ bendListIn (now (part .entry)) ⌝ }
+    ensures { λ r. ⌜ bendListSays r ≡ bendListIn (now (part .entry)) ⌝ }
 {
     let Number::Value(count, first) = number::read_number(part, 0) else {
         return BendList::Malformed;

@@ -5,13 +5,15 @@ use Prim.Native.Nat.{ℕ, _≤_, _<_}
 use native.Mathlib.Omega.{arith}
 use lib.ListN.{length, drop}
 use Rattle.number.specs.Readers.{Read, got, bad}
+use Rattle.number.specs.Said.{foundOr}
+use Rattle.number.proofs.Laws.{found-got, found-bad}
 use Rattle.number.proofs.Counted.{times-length}
 use Rattle.complex.specs.Decode.{decode}
 use Rattle.command.specs.Lists.{thingsRead, Stand}
 use Rattle.command.specs.declared.Command.{Command}
 use Rattle.command.specs.declared.Decoded.{Decoded}
 use Rattle.command.specs.declared.Decoded.the-variants.{Whole, Malformed}
-use Rattle.command.specs.View.{commandOf, decodedAs, Lies, Ended, Ends}
+use Rattle.command.specs.View.{commandOf, decodedSays, Lies, Ended, Ends}
 
 -- a script begins with the command c, which ends at `next`
 pub record Begins (s : List ℕ) (c : Command) (next : ℕ) : Type 0 where
@@ -20,14 +22,14 @@ pub record Begins (s : List ℕ) (c : Command) (next : ℕ) : Type 0 where
   pub fits : next ≤ length s
   pub lists : Lies s c
 
-pub begins : {s : List ℕ} {r : Decoded} {c : Command} {next : ℕ} → decodedAs s r ≡ decode s → Ends s 1 r → r ≡ Whole c next → Begins s c next
+pub begins : {s : List ℕ} {r : Decoded} {c : Command} {next : ℕ} → decodedSays s r ≡ foundOr 2 (decode s) → Ends s 1 r → r ≡ Whole c next → Begins s c next
 begins {s} {c = c} {next = next} d e f =
     let h : Ended s 1 c next = subst (Ends s 1) f e in
     let a = h .after in
-    record { read = sym d ∙ ap (decodedAs s) f; some = omega arith; fits = h .fits; lists = h .lists }
+    record { read = found-got 2 (decode s) (commandOf s c) (drop next s) (sym d ∙ ap (decodedSays s) f); some = omega arith; fits = h .fits; lists = h .lists }
 
-pub unread : (s : List ℕ) {r : Decoded} → decodedAs s r ≡ decode s → r ≡ Malformed → decode s ≡ bad
-unread s d f = sym d ∙ ap (decodedAs s) f
+pub unread : (s : List ℕ) {r : Decoded} → decodedSays s r ≡ foundOr 2 (decode s) → r ≡ Malformed → decode s ≡ bad
+unread s d f = found-bad 2 (decode s) (sym d ∙ ap (decodedSays s) f)
 
 -- as many things as were counted
 pub stand-length : {A : Type 0} (r : List ℕ → Read A) (s : List ℕ) (at n : ℕ) → Stand r s at n → length (thingsRead r s at n) ≡ n

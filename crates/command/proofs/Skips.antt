@@ -5,18 +5,13 @@ use Prim.Native.Nat.{ℕ, suc, _-_, _≤_, _<_}
 use native.Mathlib.Omega.{arith}
 use lib.ListN.{length, drop, length-drop}
 use Rattle.number.specs.Readers.{Read, got, bad, andThen, times}
+use Rattle.number.specs.Said.{done, no}
 use Rattle.number.specs.Numbers.{readNumber}
+use Rattle.number.proofs.Laws.{not-done, done-one}
 use Rattle.complex.specs.Cells.{lone, path}
 use Rattle.complex.specs.Decode.{stepOf, readStep, readCycle}
-use Rattle.command.specs.declared.Skip.the-variants.{To, Malformed}
 use Rattle.command.specs.Lists.{listOf, skipped, thingsRead}
 use Rattle.command.proofs.Rest.{Rest, Leaves, leaves-times, cycle-none, cycle-lone, cycle-path, steps-read}
-
-not-skipped : (next : ℕ) → Malformed ≡ To next → ⊥
-not-skipped next e = let z : _≡_ {A = ℕ} 0 1 = cc in omega arith
-
-same-place : (m n : ℕ) → To m ≡ To n → m ≡ n
-same-place m n e = cc
 
 -- a change of what was read moves no place
 pub skipped-changed : {A B : Type 0} (f : A → B) (end : ℕ) (q : Read A) → skipped end (andThen q λ x t. got (f x) t) ≡ skipped end q
@@ -24,8 +19,8 @@ skipped-changed f end (got x t) = refl
 skipped-changed f end bad = refl
 
 module _ {A : Type 0} where
-  pub skipped-none : (end : ℕ) (q : Read A) → skipped end q ≡ Malformed → q ≡ bad
-  skipped-none end (got x t) e = absurd (not-skipped (end - length t) (sym e))
+  pub skipped-none : (end : ℕ) (q : Read A) → skipped end q ≡ no 2 → q ≡ bad
+  skipped-none end (got x t) e = absurd (not-done 2 (end - length t) (sym e))
   skipped-none end bad e = refl
 
   module _ (r : List ℕ → Read A) (s : List ℕ) where
@@ -40,17 +35,17 @@ module _ {A : Type 0} where
           ∙ ap (λ (q : Read A). skipped (length s) (andThen q λ y u. andThen (times r (left - 1) u) λ xs w. got (y ∷ xs) w)) (sym e)
           ∙ ap (skipped (length s)) (sym (one-more left some (drop at s)))
 
-      pub skip-stop : r (drop at s) ≡ bad → Malformed ≡ skipped (length s) (times r left (drop at s))
+      pub skip-stop : r (drop at s) ≡ bad → no 2 ≡ skipped (length s) (times r left (drop at s))
       skip-stop e =
           ap (λ (q : Read A). skipped (length s) (andThen q λ y u. andThen (times r (left - 1) u) λ xs w. got (y ∷ xs) w)) (sym e)
           ∙ ap (skipped (length s)) (sym (one-more left some (drop at s)))
 
-    pub skip-end : (at left : ℕ) → at ≤ length s → left ≤ 0 → To at ≡ skipped (length s) (times r left (drop at s))
+    pub skip-end : (at left : ℕ) → at ≤ length s → left ≤ 0 → done at ≡ skipped (length s) (times r left (drop at s))
     skip-end at left h z =
         let d : length (drop at s) ≡ length s - at = length-drop at s in
         let e : at ≡ length s - length (drop at s) = omega arith in
         let n : 0 ≡ left = omega arith in
-        ap To e ∙ ap (λ (k : ℕ). skipped (length s) (times r k (drop at s))) n
+        ap done e ∙ ap (λ (k : ℕ). skipped (length s) (times r k (drop at s))) n
 
   -- ---- the place after what was read
   module _ (r : List ℕ → Read A) (L : Leaves r) (s : List ℕ) where
@@ -62,27 +57,27 @@ module _ {A : Type 0} where
         let p : q .next ≡ next = omega arith in
         (q .is ∙ ap (λ (k : ℕ). drop k s) p, omega arith, omega arith)
 
-    pub skipped-one : (at next : ℕ) → at ≤ length s → skipped (length s) (r (drop at s)) ≡ To next → (x : A) × ((r (drop at s) ≡ got x (drop next s)) × (at ≤ next) × (next ≤ length s))
+    pub skipped-one : (at next : ℕ) → at ≤ length s → skipped (length s) (r (drop at s)) ≡ done next → (x : A) × ((r (drop at s) ≡ got x (drop next s)) × (at ≤ next) × (next ≤ length s))
     skipped-one at next h e = go (r (drop at s)) refl e
       where
-        go : (q : Read A) → r (drop at s) ≡ q → skipped (length s) q ≡ To next → (x : A) × ((r (drop at s) ≡ got x (drop next s)) × (at ≤ next) × (next ≤ length s))
+        go : (q : Read A) → r (drop at s) ≡ q → skipped (length s) q ≡ done next → (x : A) × ((r (drop at s) ≡ got x (drop next s)) × (at ≤ next) × (next ≤ length s))
         go (got x t) f p =
-            let q = place-is at next t (L s at x t h f) (same-place (length s - length t) next p) in
+            let q = place-is at next t (L s at x t h f) (done-one (length s - length t) next p) in
             (x, (f ∙ ap (got x) (q .0), q .1, q .2))
-        go bad f p = absurd (not-skipped next p)
+        go bad f p = absurd (not-done 2 next p)
 
-    pub skipped-to : (at n next : ℕ) → at ≤ length s → skipped (length s) (times r n (drop at s)) ≡ To next → (times r n (drop at s) ≡ got (thingsRead r s at n) (drop next s)) × (at ≤ next) × (next ≤ length s)
+    pub skipped-to : (at n next : ℕ) → at ≤ length s → skipped (length s) (times r n (drop at s)) ≡ done next → (times r n (drop at s) ≡ got (thingsRead r s at n) (drop next s)) × (at ≤ next) × (next ≤ length s)
     skipped-to at n next h e = go (times r n (drop at s)) refl e
       where
-        go : (q : Read (List A)) → times r n (drop at s) ≡ q → skipped (length s) q ≡ To next → (times r n (drop at s) ≡ got (thingsRead r s at n) (drop next s)) × (at ≤ next) × (next ≤ length s)
+        go : (q : Read (List A)) → times r n (drop at s) ≡ q → skipped (length s) q ≡ done next → (times r n (drop at s) ≡ got (thingsRead r s at n) (drop next s)) × (at ≤ next) × (next ≤ length s)
         go (got xs t) f p =
-            let q = place-is at next t (leaves-times r L n s at xs t h f) (same-place (length s - length t) next p) in
+            let q = place-is at next t (leaves-times r L n s at xs t h f) (done-one (length s - length t) next p) in
             (f ∙ (λ i. got (listOf (sym f i)) (q .0 i)), q .1, q .2)
-        go bad f p = absurd (not-skipped next p)
+        go bad f p = absurd (not-done 2 next p)
 
 -- ---- a cycle: its length, then its vertex or its steps
 module _ (s : List ℕ) (at : ℕ) where
-  pub cycle-stop : readNumber (drop at s) ≡ bad → Malformed ≡ skipped (length s) (readCycle (drop at s))
+  pub cycle-stop : readNumber (drop at s) ≡ bad → no 2 ≡ skipped (length s) (readCycle (drop at s))
   cycle-stop e = ap (skipped (length s)) (sym (cycle-none (drop at s) e))
 
   module _ (m first : ℕ) (size : readNumber (drop at s) ≡ got m (drop first s)) where

@@ -3,7 +3,8 @@ use Prim.Native.Nat.{ℕ, _+_, _*_, _≤_}
 use mathlib.Core.Path.{_≡_}
 use mathlib.Core.List.{List}
 use lib.ListN.{length, drop}
-use Rattle.number.specs.Readers.{Read, got, bad}
+use Rattle.number.specs.Readers.{Read}
+use Rattle.number.specs.Said.{Said, done, no, foundOr}
 use Rattle.number.specs.Numbers.{readNumber}
 use Rattle.bends.specs.Bends.{positionsAt}
 use Rattle.complex.specs.Cells.{vertex, openEdge, closedEdge, face}
@@ -31,9 +32,10 @@ commandOf s (CutFaceOpen f c1 s1 c2 s2 n first m place) = bytes.cutFaceOpen f c1
 commandOf s (CutFaceClosed f n first m place) = bytes.cutFaceClosed f (positionsAt s first n) (numbersRead s place m)
 commandOf s (Uncut i) = bytes.uncut i
 
-abbrev pub decodedAs : List ℕ → Decoded → Read bytes.Command
-decodedAs s (Whole c next) = got (commandOf s c) (drop next s)
-decodedAs s Malformed = bad
+-- the cases of `Decoded`: 0 with a command and the bytes after it, or 2
+abbrev pub decodedSays : List ℕ → Decoded → Said (bytes.Command × List ℕ)
+decodedSays s (Whole c next) = done (commandOf s c, drop next s)
+decodedSays s Malformed = no 2
 
 -- the lists of a command lie in the script
 abbrev pub Lies : List ℕ → Command → Type 0
@@ -62,7 +64,7 @@ abbrev pub Ends : List ℕ → ℕ → Decoded → Type 0
 Ends s at (Whole c next) = Ended s at c next
 Ends s at Malformed = Unit {0}
 
--- r is what is read from `at` on
+-- r says what is read from `at` on, or 2
 pub record Decodes (s : List ℕ) (at : ℕ) (read : Read bytes.Command) (r : Decoded) : Type 0 where
-  pub answer : decodedAs s r ≡ read
+  pub answer : decodedSays s r ≡ foundOr 2 read
   pub ends : Ends s at r

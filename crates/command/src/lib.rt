@@ -4,11 +4,12 @@ ghost use mathlib.Core.Path.{_≡_};
 ghost use Prim.Native.Nat.{_≤_};
 ghost use lib.ListN.{length, drop};
 ghost use Rattle.number.specs.Readers.{times};
+ghost use Rattle.number.specs.Said.{foundOr};
 ghost use Rattle.number.specs.Numbers.{readNumber};
 ghost use Rattle.complex.specs.Decode.{readCycle, readVertex, readOpenEdge, readClosedEdge, readFace, readCreate, readCellOnly, readTwo, readPlace, readGlueEdges, readCutFaceOpen, readCutFaceClosed};
 ghost use Rattle.complex.specs.Decode as bytes;
-ghost use Rattle.command.specs.Lists.{skipped, BendsAt};
-ghost use Rattle.command.specs.View.{decodedAs, Decodes, Ends};
+ghost use Rattle.command.specs.Lists.{skipSays, skipped, BendsAt};
+ghost use Rattle.command.specs.View.{decodedSays, Decodes, Ends};
 use bends::BendList;
 use coordinate::Located;
 use number::Number;
@@ -73,7 +74,7 @@ pub enum Skip {
 
 pub fn skip_numbers(script: &[u8], at: usize, count: u32) -> Skip
     requires { ⌜ at ≤ length (now script) ⌝ }
-    ensures { λ r. ⌜ r ≡ skipped (length (now (script .entry))) (times readNumber count (drop at (now (script .entry)))) ⌝ }
+    ensures { λ r. ⌜ skipSays r ≡ skipped (length (now (script .entry))) (times readNumber count (drop at (now (script .entry)))) ⌝ }
 {
     let mut place = at;
     let mut left = count;
@@ -89,7 +90,7 @@ pub fn skip_numbers(script: &[u8], at: usize, count: u32) -> Skip
 
 // A length m, then a vertex if m = 0, else m steps.
 pub fn skip_cycle(script: &[u8], at: usize) -> Skip
-    ensures { λ r. ⌜ r ≡ skipped (length (now (script .entry))) (readCycle (drop at (now (script .entry)))) ⌝ }
+    ensures { λ r. ⌜ skipSays r ≡ skipped (length (now (script .entry))) (readCycle (drop at (now (script .entry)))) ⌝ }
 {
     let Number::Value(m, first) = number::read_number(script, at) else {
         return Skip::Malformed;
@@ -102,7 +103,7 @@ pub fn skip_cycle(script: &[u8], at: usize) -> Skip
 
 pub fn skip_cycles(script: &[u8], at: usize, count: u32) -> Skip
     requires { ⌜ at ≤ length (now script) ⌝ }
-    ensures { λ r. ⌜ r ≡ skipped (length (now (script .entry))) (times readCycle count (drop at (now (script .entry)))) ⌝ }
+    ensures { λ r. ⌜ skipSays r ≡ skipped (length (now (script .entry))) (times readCycle count (drop at (now (script .entry)))) ⌝ }
 {
     let mut place = at;
     let mut left = count;
@@ -360,7 +361,7 @@ fn decode_uncut(script: &[u8], at: usize) -> Decoded
 // ---- a kind byte, then its fields
 
 pub fn decode(script: &[u8]) -> Decoded
-    ensures { λ r. ⌜ decodedAs (now (script .entry)) r ≡ bytes.decode (now (script .entry)) ⌝ }
+    ensures { λ r. ⌜ decodedSays (now (script .entry)) r ≡ foundOr 2 (bytes.decode (now (script .entry))) ⌝ }
     ensures { λ r. ⌜ Ends (now (script .entry)) 1 r ⌝ }
 {
     if script.len() == 0 {

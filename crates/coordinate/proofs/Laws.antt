@@ -12,13 +12,13 @@ use lib.Seq.{drop-drop}
 use lib.Ieee.{Float, nan, inf, fin, binary64, ofBits, toBits, fits, isNan, nanBits, add, div}
 use lib.Ieee.Bits.{ofBits-toBits, ofBits-fits, toBits-lt, toBits-ofBits, nanBits-is, nanBits-above}
 use lib.Ieee.Fits.{mul-fits}
+use Rattle.number.specs.Said.{Said, done, no, placedOr}
 use Rattle.number.specs.Readers.{got, bad}
 use Rattle.number.proofs.Bytes.{Bytes, bytes-drop}
-use Rattle.number.proofs.Laws.{lt-or-le}
+use Rattle.number.proofs.Laws.{lt-or-le, done-two}
 use Rattle.coordinate.specs.declared.Position.{Position}
-use Rattle.coordinate.specs.declared.Located.the-variants.{At, Short}
 use Rattle.coordinate.specs.Bounds.{within, half, middle}
-use Rattle.coordinate.specs.Positions.{valueOf, bytesOf, coordinateIn, readCoordinate, coordinateBytes, Fits, positionAt, readPosition, positionBytes, located, locatedAt}
+use Rattle.coordinate.specs.Positions.{valueOf, bytesOf, coordinateIn, readCoordinate, coordinateBytes, Fits, positionAt, readPosition, positionBytes, locatedAt}
 use Rattle.coordinate.proofs.Bytes.{value-bytes, value-lt, bytes-value}
 use Rattle.coordinate.proofs.Within.{within-not-nan}
 
@@ -95,16 +95,16 @@ module _ (s : List ℕ) (at : ℕ) where
   pub position-short : length s < at + 16 → readPosition (drop at s) ≡ bad
   position-short h = let e : length (drop at s) ≡ length s - at = length-drop at s in position-none (drop at s) (omega arith)
 
-  pub located-long : at + 16 ≤ length s → locatedAt s at ≡ At (positionAt s at) (at + 16)
+  pub located-long : at + 16 ≤ length s → locatedAt s at ≡ done (positionAt s at, at + 16)
   located-long h =
       let e : length (drop (at + 16) s) ≡ length s - (at + 16) = length-drop (at + 16) s in
       let n : length s - length (drop (at + 16) s) ≡ at + 16 = omega arith in
-      ap (located (length s)) (position-at h) ∙ ap (At (positionAt s at)) n
+      ap (placedOr 2 (length s)) (position-at h) ∙ ap (λ (k : ℕ). done (positionAt s at, k)) n
 
-  pub located-short : length s < at + 16 → locatedAt s at ≡ Short
-  located-short h = ap (located (length s)) (position-short h)
+  pub located-short : length s < at + 16 → locatedAt s at ≡ no 2
+  located-short h = ap (placedOr 2 (length s)) (position-short h)
 
-  pub located-at : (p : Position) (next : ℕ) → locatedAt s at ≡ At p next → (readPosition (drop at s) ≡ got p (drop next s)) × (next ≡ at + 16) × (next ≤ length s)
+  pub located-at : (p : Position) (next : ℕ) → locatedAt s at ≡ done (p, next) → (readPosition (drop at s) ≡ got p (drop next s)) × (next ≡ at + 16) × (next ≤ length s)
   located-at p next e = ⊎-elim short long (lt-or-le (length s) (at + 16))
     where
       Reads : Type 0
@@ -112,16 +112,15 @@ module _ (s : List ℕ) (at : ℕ) where
 
       long : at + 16 ≤ length s → Reads
       long h =
-          let l = located-long h in
           let r = position-at h in
-          let q : positionAt s at ≡ p = cc in
-          let n : next ≡ at + 16 = cc in
-          (r ∙ cc, n, omega arith)
+          let l = done-two (positionAt s at) p (at + 16) next (sym (located-long h) ∙ e) in
+          let n = l .1 in
+          (r ∙ (λ i. got (l .0 i) (drop (n i) s)), sym n, omega arith)
 
       short : length s < at + 16 → Reads
       short h = let l = located-short h in clash (cc)
 
-  pub short-at : locatedAt s at ≡ Short → readPosition (drop at s) ≡ bad
+  pub short-at : locatedAt s at ≡ no 2 → readPosition (drop at s) ≡ bad
   short-at e = ⊎-elim (λ h. position-short h) long (lt-or-le (length s) (at + 16))
     where
       long : at + 16 ≤ length s → readPosition (drop at s) ≡ bad

@@ -6,6 +6,7 @@ use lib.ListN.{length, take, drop}
 use lib.Dec.{T, leb}
 use lib.Ieee.{Float, binary64, ofBits, toBits, fits}
 use Rattle.number.specs.Readers.{Read, got, bad, andThen}
+use Rattle.number.specs.Said.{Said, done, no, placedOr}
 use Rattle.coordinate.specs.declared.Position.{Position}
 use Rattle.coordinate.specs.declared.Located.{Located}
 use Rattle.coordinate.specs.declared.Located.the-variants.{At, Short}
@@ -47,10 +48,11 @@ readPosition s = andThen (readCoordinate s) λ x t. andThen (readCoordinate t) �
 abbrev pub positionBytes : Position → List ℕ
 positionBytes p = coordinateBytes (p .x) ++ coordinateBytes (p .y)
 
--- what is read from a place on: the position, and the place after it in bytes that end at `end`
-abbrev pub located : ℕ → Read Position → Located
-located end (got p t) = At p (end - length t)
-located end bad = Short
+-- the cases of `Located`: 0 with a position and the place after it, or 2
+abbrev pub locatedSays : Located → Said (Position × ℕ)
+locatedSays (At p next) = done (p, next)
+locatedSays Short = no 2
 
-abbrev pub locatedAt : List ℕ → ℕ → Located
-locatedAt s at = located (length s) (readPosition (drop at s))
+-- question 2 of the position at a place
+abbrev pub locatedAt : List ℕ → ℕ → Said (Position × ℕ)
+locatedAt s at = placedOr 2 (length s) (readPosition (drop at s))

@@ -6,7 +6,7 @@ ghost use lib.ListN.{length, take, drop};
 ghost use lib.Seq.{sets};
 ghost use lib.Ieee.{isNan};
 ghost use Rattle.coordinate.specs.Bounds.{inBounds, within, middle};
-ghost use Rattle.coordinate.specs.Positions.{valueOf, bytesOf, coordinateIn, coordinateBytes, positionAt, positionBytes, locatedAt};
+ghost use Rattle.coordinate.specs.Positions.{valueOf, bytesOf, coordinateIn, coordinateBytes, positionAt, positionBytes, locatedSays, locatedAt};
 
 pub struct Position {
     pub x: f64,
@@ -78,7 +78,7 @@ pub fn position_at(s: &[u8], at: usize) -> Position
 }
 
 pub fn read_position(s: &[u8], at: usize) -> Located
-    ensures { λ r. ⌜ r ≡ locatedAt (now (s .entry)) at ⌝ }
+    ensures { λ r. ⌜ locatedSays r ≡ locatedAt (now (s .entry)) at ⌝ }
 {
     if s.len() <= at {
         return Located::Short;

@@ -10,9 +10,9 @@ use borrow.Author.Tests.{ltb-true, ltb-false, lt-ltb, le-ltb, ne-eqb}
 use lib.Dec.{ltb, lit<}
 use lib.ListN.{length, drop, length-drop}
 use lib.Seq.{drop-drop}
-use Rattle.number.specs.declared.Number.the-variants.{Value, Malformed}
+use Rattle.number.specs.Said.{Said, done, no, foundOr, placedOr}
 use Rattle.number.specs.Readers.{Read, got, bad, andThen}
-use Rattle.number.specs.Numbers.{numberBytes, numbersEnd, more, readNumber, spelled, spell, placed, numberAt}
+use Rattle.number.specs.Numbers.{numberBytes, numbersEnd, more, readNumber, spelled, spell, numberAt}
 use Rattle.number.proofs.Bytes.{Bytes, bytes-tail}
 
 -- ---- what a reader found
@@ -24,6 +24,24 @@ got-thing x y s t e = cc
 
 pub got-rest : {A : Type 0} (x y : A) (s t : List ℕ) → got x s ≡ got y t → s ≡ t
 got-rest x y s t e = cc
+
+-- ---- what is said of it
+pub not-done : {A : Type 0} (q : ℕ) (x : A) → no q ≡ done x → ⊥
+not-done q x e = let z : _≡_ {A = ℕ} 0 1 = cc in omega arith
+
+pub done-one : {A : Type 0} (x y : A) → done x ≡ done y → x ≡ y
+done-one x y e = cc
+
+pub done-two : {A B : Type 0} (x y : A) (u v : B) → _≡_ {A = Said (A × B)} (done (x, u)) (done (y, v)) → (x ≡ y) × (u ≡ v)
+done-two x y u v e = let p = done-one (x, u) (y, v) e in (ap (λ z. z .0) p, ap (λ z. z .1) p)
+
+pub found-got : {A : Type 0} (q : ℕ) (r : Read A) (x : A) (t : List ℕ) → foundOr q r ≡ done (x, t) → r ≡ got x t
+found-got q (got y u) x t e = let p = done-two y x u t e in λ i. got (p .0 i) (p .1 i)
+found-got q bad x t e = absurd (not-done q (x, t) e)
+
+pub found-bad : {A : Type 0} (q : ℕ) (r : Read A) → foundOr q r ≡ no q → r ≡ bad
+found-bad q (got y u) e = absurd (not-done q (y, u) (sym e))
+found-bad q bad e = refl
 
 -- ---- orders, and powers of 128
 pub lt-or-le : (a b : ℕ) → (a < b) ⊎ (b ≤ a)
@@ -246,32 +264,26 @@ read-left s t at n e =
     let z : at + r .count ≡ length s - length t = omega arith in
     (r .is ∙ drop-drop (r .count) at s ∙ ap (λ (k : ℕ). drop k s) z, omega arith, omega arith)
 
-pub placed-bad : (n next : ℕ) → Malformed ≡ Value n next → ⊥
-placed-bad n next e = let z : _≡_ {A = ℕ} 0 1 = cc in omega arith
-
-pub placed-got : (n m next end : ℕ) → Value n next ≡ Value m end → (n ≡ m) × (next ≡ end)
-placed-got n m next end e = (cc, cc)
-
-pub value-at : (s : List ℕ) (at n next : ℕ) → numberAt s at ≡ Value n next → (readNumber (drop at s) ≡ got n (drop next s)) × (at < next) × (next ≤ length s)
+pub value-at : (s : List ℕ) (at n next : ℕ) → numberAt s at ≡ done (n, next) → (readNumber (drop at s) ≡ got n (drop next s)) × (at < next) × (next ≤ length s)
 value-at s at n next e = go (readNumber (drop at s)) refl e
   where
-    go : (r : Read ℕ) → readNumber (drop at s) ≡ r → placed (length s) r ≡ Value n next → (readNumber (drop at s) ≡ got n (drop next s)) × (at < next) × (next ≤ length s)
+    go : (r : Read ℕ) → readNumber (drop at s) ≡ r → placedOr 2 (length s) r ≡ done (n, next) → (readNumber (drop at s) ≡ got n (drop next s)) × (at < next) × (next ≤ length s)
     go (got m t) f p =
         let l = read-left s t at m f in
         let a = l .1 in
-        let v = placed-got m n (length s - length t) next p in
+        let v = done-two m n (length s - length t) next p in
         (f ∙ (λ i. got (v .0 i) ((l .0 ∙ ap (λ (k : ℕ). drop k s) (v .1)) i)), omega arith, omega arith)
-    go bad f p = absurd (placed-bad n next p)
+    go bad f p = absurd (not-done 2 (n, next) p)
 
-pub malformed-at : (s : List ℕ) (at : ℕ) → numberAt s at ≡ Malformed → readNumber (drop at s) ≡ bad
+pub malformed-at : (s : List ℕ) (at : ℕ) → numberAt s at ≡ no 2 → readNumber (drop at s) ≡ bad
 malformed-at s at e = go (readNumber (drop at s)) e
   where
-    go : (r : Read ℕ) → placed (length s) r ≡ Malformed → r ≡ bad
-    go (got m t) p = absurd (placed-bad m (length s - length t) (sym p))
+    go : (r : Read ℕ) → placedOr 2 (length s) r ≡ no 2 → r ≡ bad
+    go (got m t) p = absurd (not-done 2 (m, length s - length t) (sym p))
     go bad p = refl
 
-pub at-read : (s t : List ℕ) (at n : ℕ) → readNumber (drop at s) ≡ got n t → numberAt s at ≡ Value n (length s - length t)
-at-read s t at n e = ap (placed (length s)) e
+pub at-read : (s t : List ℕ) (at n : ℕ) → readNumber (drop at s) ≡ got n t → numberAt s at ≡ done (n, length s - length t)
+at-read s t at n e = ap (placedOr 2 (length s)) e
 
 -- ---- spellings
 spelled-short : (k n : ℕ) → length (spelled k n) ≤ k

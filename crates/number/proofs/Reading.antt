@@ -8,29 +8,29 @@ use native.Mathlib.Omega.{arith}
 use lib.Dec.{lit<, lit≤}
 use lib.ListN.{length, getD, drop, length-drop, drop-of-length-le}
 use lib.Seq.{drop-cons}
-use Rattle.number.specs.declared.Number.the-variants.{Value, Malformed}
+use Rattle.number.specs.Said.{done, no, placedOr}
 use Rattle.number.specs.Readers.{Read, got, bad}
-use Rattle.number.specs.Numbers.{numberBytes, more, readNumber, placed, numberAt}
+use Rattle.number.specs.Numbers.{numberBytes, more, readNumber, numberAt}
 use Rattle.number.proofs.Bytes.{Bytes, bytes-drop}
-use Rattle.number.proofs.Laws.{joined, more-last, more-next, read-last, read-next, more-small, above-suc, placed-got, placed-bad}
+use Rattle.number.proofs.Laws.{joined, more-last, more-next, read-last, read-next, more-small, above-suc, done-two, not-done}
 
 -- ---- a byte and the bytes after it
 drop-first : (s : List ℕ) (at : ℕ) → at < length s → drop at s ≡ getD s at 0 ∷ drop (at + 1) s
 drop-first s at h = drop-cons s at 0 h ∙ ap (λ (k : ℕ). getD s at 0 ∷ drop k s) (sym (add-one at))
 
-after-first : (s : List ℕ) (at n : ℕ) → at < length s → Value n (at + 1) ≡ placed (length s) (got n (drop (at + 1) s))
+after-first : (s : List ℕ) (at n : ℕ) → at < length s → done (n, at + 1) ≡ placedOr 2 (length s) (got n (drop (at + 1) s))
 after-first s at n h =
     let e : at + 1 ≡ length s - length (drop (at + 1) s) = omega (arith, length-drop (at + 1) s) in
-    ap (Value n) e
+    ap (λ (k : ℕ). done (n, k)) e
 
-joined-value : (end b n next : ℕ) (r : Read ℕ) → placed end r ≡ Value n next → Value (b - 128 + 128 * n) next ≡ placed end (joined b r)
+joined-value : (end b n next : ℕ) (r : Read ℕ) → placedOr 2 end r ≡ done (n, next) → done (b - 128 + 128 * n, next) ≡ placedOr 2 end (joined b r)
 joined-value end b n next (got m t) e =
-    let p = placed-got m n (end - length t) next e in
-    λ i. Value (b - 128 + 128 * sym (p .0) i) (sym (p .1) i)
-joined-value end b n next bad e = absurd (placed-bad n next e)
+    let p = done-two m n (end - length t) next e in
+    λ i. done (b - 128 + 128 * sym (p .0) i, sym (p .1) i)
+joined-value end b n next bad e = absurd (not-done 2 (n, next) e)
 
-joined-malformed : (end b : ℕ) (r : Read ℕ) → placed end r ≡ Malformed → Malformed ≡ placed end (joined b r)
-joined-malformed end b (got m t) e = absurd (placed-bad m (end - length t) (sym e))
+joined-malformed : (end b : ℕ) (r : Read ℕ) → placedOr 2 end r ≡ no 2 → no 2 ≡ placedOr 2 end (joined b r)
+joined-malformed end b (got m t) e = absurd (not-done 2 (m, end - length t) (sym e))
 joined-malformed end b bad e = refl
 
 -- ---- after the first byte, with at most k bytes to come
@@ -39,8 +39,8 @@ more-none zero = refl
 more-none (suc k) = refl
 
 module _ (s : List ℕ) (at k : ℕ) where
-  pub more-at-end : length s ≤ at → Malformed ≡ placed (length s) (more k (drop at s))
-  more-at-end h = ap (placed (length s)) (sym (more-none k) ∙ ap (more k) (sym (drop-of-length-le s h)))
+  pub more-at-end : length s ≤ at → no 2 ≡ placedOr 2 (length s) (more k (drop at s))
+  more-at-end h = ap (placedOr 2 (length s)) (sym (more-none k) ∙ ap (more k) (sym (drop-of-length-le s h)))
 
   module _ (some : k ≡ 0 → ⊥) (there : at < length s) where
     first : more (suc (k - 1)) (getD s at 0 ∷ drop (at + 1) s) ≡ more k (drop at s)
@@ -49,60 +49,60 @@ module _ (s : List ℕ) (at k : ℕ) where
         let e : suc (k - 1) ≡ k = omega arith in
         λ i. more (e i) (sym (drop-first s at there) i)
 
-    pub more-at-zero : getD s at 0 ≡ 0 → Malformed ≡ placed (length s) (more k (drop at s))
-    more-at-zero z = ap (λ (b : ℕ). placed (length s) (more (suc (k - 1)) (b ∷ drop (at + 1) s))) (sym z) ∙ ap (placed (length s)) first
+    pub more-at-zero : getD s at 0 ≡ 0 → no 2 ≡ placedOr 2 (length s) (more k (drop at s))
+    more-at-zero z = ap (λ (b : ℕ). placedOr 2 (length s) (more (suc (k - 1)) (b ∷ drop (at + 1) s))) (sym z) ∙ ap (placedOr 2 (length s)) first
 
-    pub more-at-last : (getD s at 0 ≡ 0 → ⊥) → getD s at 0 < 128 → Value (getD s at 0) (at + 1) ≡ placed (length s) (more k (drop at s))
-    more-at-last z h = after-first s at (getD s at 0) there ∙ ap (placed (length s)) (sym (more-last (k - 1) (getD s at 0) (drop (at + 1) s) h z) ∙ first)
+    pub more-at-last : (getD s at 0 ≡ 0 → ⊥) → getD s at 0 < 128 → done (getD s at 0, at + 1) ≡ placedOr 2 (length s) (more k (drop at s))
+    more-at-last z h = after-first s at (getD s at 0) there ∙ ap (placedOr 2 (length s)) (sym (more-last (k - 1) (getD s at 0) (drop (at + 1) s) h z) ∙ first)
 
     module _ (big : 128 ≤ getD s at 0) where
-      pub more-at-next : (n next : ℕ) → placed (length s) (more (k - 1) (drop (at + 1) s)) ≡ Value n next
-          → Value (getD s at 0 - 128 + 128 * n) next ≡ placed (length s) (more k (drop at s))
+      pub more-at-next : (n next : ℕ) → placedOr 2 (length s) (more (k - 1) (drop (at + 1) s)) ≡ done (n, next)
+          → done (getD s at 0 - 128 + 128 * n, next) ≡ placedOr 2 (length s) (more k (drop at s))
       more-at-next n next e =
           joined-value (length s) (getD s at 0) n next (more (k - 1) (drop (at + 1) s)) e
-          ∙ ap (placed (length s)) (sym (more-next (k - 1) (getD s at 0) (drop (at + 1) s) big) ∙ first)
+          ∙ ap (placedOr 2 (length s)) (sym (more-next (k - 1) (getD s at 0) (drop (at + 1) s) big) ∙ first)
 
-      pub more-at-stop : placed (length s) (more (k - 1) (drop (at + 1) s)) ≡ Malformed → Malformed ≡ placed (length s) (more k (drop at s))
+      pub more-at-stop : placedOr 2 (length s) (more (k - 1) (drop (at + 1) s)) ≡ no 2 → no 2 ≡ placedOr 2 (length s) (more k (drop at s))
       more-at-stop e =
           joined-malformed (length s) (getD s at 0) (more (k - 1) (drop (at + 1) s)) e
-          ∙ ap (placed (length s)) (sym (more-next (k - 1) (getD s at 0) (drop (at + 1) s) big) ∙ first)
+          ∙ ap (placedOr 2 (length s)) (sym (more-next (k - 1) (getD s at 0) (drop (at + 1) s) big) ∙ first)
 
 -- ---- the first byte
 module _ (s : List ℕ) (at : ℕ) where
-  pub read-at-end : length s ≤ at → Malformed ≡ numberAt s at
-  read-at-end h = ap (λ (v : List ℕ). placed (length s) (readNumber v)) (sym (drop-of-length-le s h))
+  pub read-at-end : length s ≤ at → no 2 ≡ numberAt s at
+  read-at-end h = ap (λ (v : List ℕ). placedOr 2 (length s) (readNumber v)) (sym (drop-of-length-le s h))
 
   module _ (there : at < length s) where
-    pub read-at-last : getD s at 0 < 128 → Value (getD s at 0) (at + 1) ≡ numberAt s at
+    pub read-at-last : getD s at 0 < 128 → done (getD s at 0, at + 1) ≡ numberAt s at
     read-at-last h =
         after-first s at (getD s at 0) there
-        ∙ ap (placed (length s)) (sym (read-last (getD s at 0) (drop (at + 1) s) h) ∙ ap readNumber (sym (drop-first s at there)))
+        ∙ ap (placedOr 2 (length s)) (sym (read-last (getD s at 0) (drop (at + 1) s) h) ∙ ap readNumber (sym (drop-first s at there)))
 
     module _ (big : 128 ≤ getD s at 0) where
-      pub read-at-next : (n next : ℕ) → placed (length s) (more (numberBytes - 1) (drop (at + 1) s)) ≡ Value n next
-          → Value (getD s at 0 - 128 + 128 * n) next ≡ numberAt s at
+      pub read-at-next : (n next : ℕ) → placedOr 2 (length s) (more (numberBytes - 1) (drop (at + 1) s)) ≡ done (n, next)
+          → done (getD s at 0 - 128 + 128 * n, next) ≡ numberAt s at
       read-at-next n next e =
           joined-value (length s) (getD s at 0) n next (more (numberBytes - 1) (drop (at + 1) s)) e
-          ∙ ap (placed (length s)) (sym (read-next (getD s at 0) (drop (at + 1) s) big) ∙ ap readNumber (sym (drop-first s at there)))
+          ∙ ap (placedOr 2 (length s)) (sym (read-next (getD s at 0) (drop (at + 1) s) big) ∙ ap readNumber (sym (drop-first s at there)))
 
-      pub read-at-stop : placed (length s) (more (numberBytes - 1) (drop (at + 1) s)) ≡ Malformed → Malformed ≡ numberAt s at
+      pub read-at-stop : placedOr 2 (length s) (more (numberBytes - 1) (drop (at + 1) s)) ≡ no 2 → no 2 ≡ numberAt s at
       read-at-stop e =
           joined-malformed (length s) (getD s at 0) (more (numberBytes - 1) (drop (at + 1) s)) e
-          ∙ ap (placed (length s)) (sym (read-next (getD s at 0) (drop (at + 1) s) big) ∙ ap readNumber (sym (drop-first s at there)))
+          ∙ ap (placedOr 2 (length s)) (sym (read-next (getD s at 0) (drop (at + 1) s) big) ∙ ap readNumber (sym (drop-first s at there)))
 
 -- ---- what was read fits
-placed-small : (k n next : ℕ) (s : List ℕ) → Bytes s → (at : ℕ) → placed (length s) (more k (drop at s)) ≡ Value n next → n < 128 ^ k
+placed-small : (k n next : ℕ) (s : List ℕ) → Bytes s → (at : ℕ) → placedOr 2 (length s) (more k (drop at s)) ≡ done (n, next) → n < 128 ^ k
 placed-small k n next s B at e = go (more k (drop at s)) refl e
   where
-    go : (r : Read ℕ) → more k (drop at s) ≡ r → placed (length s) r ≡ Value n next → n < 128 ^ k
+    go : (r : Read ℕ) → more k (drop at s) ≡ r → placedOr 2 (length s) r ≡ done (n, next) → n < 128 ^ k
     go (got m t) f p =
         let h = more-small k m (drop at s) t (bytes-drop at s B) f in
-        let q = placed-got m n (length s - length t) next p .0 in
+        let q = done-two m n (length s - length t) next p .0 in
         omega arith
-    go bad f p = absurd (placed-bad n next p)
+    go bad f p = absurd (not-done 2 (n, next) p)
 
 pub value-fits : (s : List ℕ) (at k b n next : ℕ) → Bytes s → b < 256 → (k ≡ 0 → ⊥) → k ≤ numberBytes
-    → placed (length s) (more (k - 1) (drop at s)) ≡ Value n next → b - 128 + 128 * n < 2 ^ 32
+    → placedOr 2 (length s) (more (k - 1) (drop at s)) ≡ done (n, next) → b - 128 + 128 * n < 2 ^ 32
 value-fits s at k b n next B h z l e =
     let p = pos-of-ne-zero z in
     let q : suc (k - 1) ≡ k = omega arith in

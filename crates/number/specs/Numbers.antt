@@ -8,6 +8,7 @@ use lib.Dec.{eqb, ltb}
 use Rattle.number.specs.declared.Number.{Number}
 use Rattle.number.specs.declared.Number.the-variants.{Value, Malformed}
 use Rattle.number.specs.Readers.{Read, got, bad, andThen, times, spread}
+use Rattle.number.specs.Said.{Said, done, no, placedOr}
 
 -- the most bytes that a number takes
 abbrev pub numberBytes : ℕ
@@ -47,13 +48,14 @@ spelled (suc k) n =
 abbrev pub spell : ℕ → List ℕ
 spell n = spelled numberBytes n
 
--- what is read from a place on: the number, and the place after it in bytes that end at `end`
-abbrev pub placed : ℕ → Read ℕ → Number
-placed end (got n t) = Value n (end - length t)
-placed end bad = Malformed
+-- the cases of `Number`: 0 with a number and the place after it, or 2
+abbrev pub numberSays : Number → Said (ℕ × ℕ)
+numberSays (Value n next) = done (n, next)
+numberSays Malformed = no 2
 
-abbrev pub numberAt : List ℕ → ℕ → Number
-numberAt s at = placed (length s) (readNumber (drop at s))
+-- question 2 of the number at a place
+abbrev pub numberAt : List ℕ → ℕ → Said (ℕ × ℕ)
+numberAt s at = placedOr 2 (length s) (readNumber (drop at s))
 
 -- ---- a count, and so many things
 abbrev pub counted : {A : Type 0} → (List ℕ → Read A) → List ℕ → Read (List A)

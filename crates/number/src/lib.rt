@@ -2,7 +2,8 @@ ghost use mathlib.Core.Path.{_≡_};
 ghost use Prim.Native.Nat.{_+_, _≤_, _<_};
 ghost use lib.ListN.{length, drop};
 ghost use lib.Seq.{sets};
-ghost use Rattle.number.specs.Numbers.{numberAt, numberBytes, numbersEnd, more, placed, spell};
+ghost use Rattle.number.specs.Said.{placedOr};
+ghost use Rattle.number.specs.Numbers.{numberSays, numberAt, numberBytes, numbersEnd, more, spell};
 
 // The most bytes that a number takes.
 const NUMBER_BYTES: usize = 3;
@@ -16,7 +17,7 @@ pub enum Number {
 // Groups of seven bits, low group first, the top bit set on all but the last byte; the shortest
 // form alone.
 pub fn read_number(s: &[u8], at: usize) -> Number
-    ensures { λ r. ⌜ r ≡ numberAt (now (s .entry)) at ⌝ }
+    ensures { λ r. ⌜ numberSays r ≡ numberAt (now (s .entry)) at ⌝ }
 {
     if s.len() <= at {
         return Number::Malformed;
@@ -34,7 +35,7 @@ pub fn read_number(s: &[u8], at: usize) -> Number
 // The groups after the first, of which at most `left` are to come.
 fn read_more(s: &[u8], at: usize, left: usize) -> Number
     requires { ⌜ left ≤ numberBytes ⌝ }
-    ensures { λ r. ⌜ r ≡ placed (length (now (s .entry))) (more left (drop at (now (s .entry)))) ⌝ }
+    ensures { λ r. ⌜ numberSays r ≡ placedOr 2 (length (now (s .entry))) (more left (drop at (now (s .entry)))) ⌝ }
 {
     if left == 0 {
         return Number::Malformed;

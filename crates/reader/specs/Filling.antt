@@ -5,6 +5,7 @@ use mathlib.Core.Bool.{true}
 use mathlib.Core.List.{List, [], _∷_, _++_, map}
 use lib.ListN.{length, take, drop}
 use Rattle.number.specs.Readers.{Read, got, bad, times, spread}
+use Rattle.number.specs.Said.{Said, done, no, Says}
 use Rattle.number.specs.Numbers.{readNumber}
 use Rattle.coordinate.specs.declared.Position.{Position}
 use Rattle.coordinate.specs.Positions.{readPosition}
@@ -34,9 +35,13 @@ pub record NumbersIn (s : List ℕ) (at m : ℕ) (out : List ℕ) (used : ℕ) (
   pub inside : next ≤ length s
   pub added : Added out used numbers out′
 
+-- the cases of `Put`: 0 with the place after the numbers, or 10
+abbrev pub putSays : Put → Said ℕ
+putSays (Upto next) = done next
+putSays Malformed = no 10
+
 abbrev pub NumbersPut : List ℕ → ℕ → ℕ → List ℕ → ℕ → List ℕ → Put → Type 0
-NumbersPut s at m out used out′ (Upto next) = NumbersIn s at m out used out′ next
-NumbersPut s at m out used out′ Malformed = times readNumber m (drop at s) ≡ bad
+NumbersPut s at m out used out′ r = Says 10 (NumbersIn s at m out used out′) (times readNumber m (drop at s) ≡ bad) (putSays r)
 
 -- ---- cycles: how many steps each has, and the steps
 pub record CyclesIn (q : Read (List Cycle)) (s counts steps : List ℕ) (used : Used)
@@ -57,9 +62,14 @@ CyclesOver q used =
     (ks : List Cycle) (t : List ℕ) → q ≡ got ks t
     → used .cycles + length ks ≤ cyclesMost → used .steps + length (spread stepsIn ks) ≤ stepsMost → ⊥
 
+-- the cases of `Loaded`: 0 with the place after what was read and what is then in use, or 10
+abbrev pub loadedSays : Loaded → Said (ℕ × Used)
+loadedSays (Next next used′) = done (next, used′)
+loadedSays Refused = no 10
+
 abbrev pub CyclesLoaded : Read (List Cycle) → List ℕ → List ℕ → List ℕ → Used → List ℕ → List ℕ → Loaded → Type 0
-CyclesLoaded q s counts steps used counts′ steps′ (Next next used′) = CyclesIn q s counts steps used counts′ steps′ next used′
-CyclesLoaded q s counts steps used counts′ steps′ Refused = CyclesOver q used
+CyclesLoaded q s counts steps used counts′ steps′ r =
+    Says 10 (λ v. CyclesIn q s counts steps used counts′ steps′ (v .0) (v .1)) (CyclesOver q used) (loadedSays r)
 
 -- ---- bends: the place of each
 abbrev pub spotsFrom : ℕ → ℕ → List ℕ
@@ -84,9 +94,8 @@ PartsOver s first x used =
     → used .bends + length bs ≤ bendsMost → used .cycles + length ks ≤ cyclesMost → used .steps + length (spread stepsIn ks) ≤ stepsMost → ⊥
 
 abbrev pub PartsLoaded : List ℕ → ℕ → Shape → List ℕ → List ℕ → List ℕ → Used → List ℕ → List ℕ → List ℕ → Loaded → Type 0
-PartsLoaded s first x spots counts steps used spots′ counts′ steps′ (Next next used′) =
-    PartsIn s first x spots counts steps used spots′ counts′ steps′ next used′
-PartsLoaded s first x spots counts steps used spots′ counts′ steps′ Refused = PartsOver s first x used
+PartsLoaded s first x spots counts steps used spots′ counts′ steps′ r =
+    Says 10 (λ v. PartsIn s first x spots counts steps used spots′ counts′ steps′ (v .0) (v .1)) (PartsOver s first x used) (loadedSays r)
 
 -- the arrays have room for so much
 pub record Room (used : Used) (spots counts steps : List ℕ) : Type 0 where

@@ -4,6 +4,7 @@ use mathlib.Core.Path.{_≡_}
 use mathlib.Core.List.{List, [], _∷_}
 use lib.ListN.{length, getD, drop}
 use Rattle.number.specs.Readers.{Read, got, bad, andThen}
+use Rattle.number.specs.Said.{Said, done, no, Says}
 use Rattle.number.specs.Numbers.{readNumber}
 use Rattle.coordinate.specs.Positions.{readPosition}
 use Rattle.store.specs.declared.Shape.{Shape}
@@ -45,10 +46,18 @@ pub record Found {A : Type 0} (q : Read A) (s : List ℕ) (x : A) (next : ℕ) :
   pub read : q ≡ got x (drop next s)
   pub inside : next ≤ length s
 
+-- the cases of `ShapeFound`: 0 with a shape and the place after it, or 10
+abbrev pub shapeSays : ShapeFound → Said (Shape × ℕ)
+shapeSays (Shaped x next) = done (x, next)
+shapeSays NoShape = no 10
+
 abbrev pub ShapeRead : (List ℕ → Read Shape) → List ℕ → ℕ → ShapeFound → Type 0
-ShapeRead r s at (Shaped x next) = Found (r (drop at s)) s x next
-ShapeRead r s at NoShape = r (drop at s) ≡ bad
+ShapeRead r s at f = Says 10 (λ v. Found (r (drop at s)) s (v .0) (v .1)) (r (drop at s) ≡ bad) (shapeSays f)
+
+-- the cases of `CellFound`: 0 with a cell and the place after its counts, or 10
+abbrev pub cellSays : CellFound → Said (Cell × ℕ)
+cellSays (Begun c next) = done (c, next)
+cellSays NoCell = no 10
 
 abbrev pub HeadRead : List ℕ → ℕ → CellFound → Type 0
-HeadRead s at (Begun c next) = Found (readHead (drop at s)) s c next
-HeadRead s at NoCell = readHead (drop at s) ≡ bad
+HeadRead s at f = Says 10 (λ v. Found (readHead (drop at s)) s (v .0) (v .1)) (readHead (drop at s) ≡ bad) (cellSays f)

@@ -16,8 +16,7 @@ use Rattle.store.specs.View.{bendCount, cycleCount, bendTotal, cycleTotal, step
 use Rattle.store.specs.Edits.{placesOf}
 use Rattle.store.specs.Index.{Indexes}
 use Rattle.store.proofs.Lists.{sum-more, sum-le, places-sum, width-places}
-use Rattle.sound.specs.declared.Sums.{Sums}
-use Rattle.sound.specs.declared.Sums.the-variants.{Within, Above}
+use Rattle.number.specs.Said.{Said, done, no}
 use Rattle.sound.specs.Soundness.{capped, sumsFit, sumsOf}
 use Rattle.sound.proofs.Testing.{and-true, and-false}
 
@@ -52,17 +51,17 @@ capped-is m s r g h = capped-same m s r (leb s m) refl g h
 
 -- ---- the three sums, one test after another
 module _ (bs ks ns : List ℕ) (b : ℕ) (eb : b ≡ capped bendsMost (total (placesOf 0) bs)) where
-  abbrev fitting : Bool → Sums
-  fitting t = cond t (Within (total (placesOf 0) bs) (total (placesOf 0) ks)) Above
+  abbrev fitting : Bool → Said (ℕ × ℕ)
+  fitting t = cond t (done (total (placesOf 0) bs, total (placesOf 0) ks)) (no 1)
 
-  pub sums-not-bends : bendsMost < b → Above ≡ sumsOf bs ks ns
+  pub sums-not-bends : bendsMost < b → no 1 ≡ sumsOf bs ks ns
   sums-not-bends h = sym (ap fitting (and-false _ (sym (capped-test bendsMost (total (placesOf 0) bs) b eb) ∙ lt-leb b bendsMost h)))
 
   module _ (h : b ≤ bendsMost) (k : ℕ) (ek : k ≡ capped cyclesMost (total (placesOf 0) ks)) where
     first : sumsOf bs ks ns ≡ fitting (leb (total (placesOf 0) ks) cyclesMost && leb (total (placesOf 1) (take (total (placesOf 0) ks) ns)) stepsMost)
     first = ap fitting (and-true _ (sym (capped-test bendsMost (total (placesOf 0) bs) b eb) ∙ le-leb b bendsMost h))
 
-    pub sums-not-cycles : cyclesMost < k → Above ≡ sumsOf bs ks ns
+    pub sums-not-cycles : cyclesMost < k → no 1 ≡ sumsOf bs ks ns
     sums-not-cycles u = sym (first ∙ ap fitting (and-false _ (sym (capped-test cyclesMost (total (placesOf 0) ks) k ek) ∙ lt-leb k cyclesMost u)))
 
     module _ (u : k ≤ cyclesMost) (s : ℕ) (es : s ≡ capped stepsMost (total (placesOf 1) (take k ns))) where
@@ -72,12 +71,12 @@ module _ (bs ks ns : List ℕ) (b : ℕ) (eb : b ≡ capped bendsMost (total (pl
           ∙ ap (λ (n : ℕ). leb (total (placesOf 1) (take n ns)) stepsMost) (sym (capped-is cyclesMost (total (placesOf 0) ks) k ek u))
           ∙ sym (capped-test stepsMost (total (placesOf 1) (take k ns)) s es))
 
-      pub sums-not-steps : stepsMost < s → Above ≡ sumsOf bs ks ns
+      pub sums-not-steps : stepsMost < s → no 1 ≡ sumsOf bs ks ns
       sums-not-steps w = sym (second ∙ ap fitting (lt-leb s stepsMost w))
 
-      pub sums-fit : s ≤ stepsMost → Within b k ≡ sumsOf bs ks ns
+      pub sums-fit : s ≤ stepsMost → done (b, k) ≡ sumsOf bs ks ns
       sums-fit w =
-          ap₂ Within (capped-is bendsMost (total (placesOf 0) bs) b eb h) (capped-is cyclesMost (total (placesOf 0) ks) k ek u)
+          ap₂ (λ (n m : ℕ). done (n, m)) (capped-is bendsMost (total (placesOf 0) bs) b eb h) (capped-is cyclesMost (total (placesOf 0) ks) k ek u)
           ∙ sym (second ∙ ap fitting (le-leb s stepsMost w))
 
 -- ---- of a drawing
@@ -88,7 +87,7 @@ module _ (d : Drawing) (ix : Index) (x : Indexes d ix) where
   cycle-places : total (placesOf 0) (take (d .count) (ix .cycles)) ≡ cycleTotal d
   cycle-places = ap (total (placesOf 0)) (x .cycles) ∙ places-sum (λ (c : Cell). cycleCount (c .shape)) (take (d .count) (d .cells))
 
-  pub drawing-sums : sumsOf (take (d .count) (ix .bends)) (take (d .count) (ix .cycles)) (d .cycles) ≡ cond (sumsFit (bendTotal d) (cycleTotal d) (stepTotal d)) (Within (bendTotal d) (cycleTotal d)) Above
+  pub drawing-sums : sumsOf (take (d .count) (ix .bends)) (take (d .count) (ix .cycles)) (d .cycles) ≡ cond (sumsFit (bendTotal d) (cycleTotal d) (stepTotal d)) (done (bendTotal d, cycleTotal d)) (no 1)
   drawing-sums =
-      ap₂ (λ (b k : ℕ). cond (sumsFit b k (total (placesOf 1) (take k (d .cycles)))) (Within b k) Above) bend-places cycle-places
-      ∙ ap (λ (s : ℕ). cond (sumsFit (bendTotal d) (cycleTotal d) s) (Within (bendTotal d) (cycleTotal d)) Above) (width-places (take (cycleTotal d) (d .cycles)))
+      ap₂ (λ (b k : ℕ). cond (sumsFit b k (total (placesOf 1) (take k (d .cycles)))) (done (b, k)) (no 1)) bend-places cycle-places
+      ∙ ap (λ (s : ℕ). cond (sumsFit (bendTotal d) (cycleTotal d) s) (done (bendTotal d, cycleTotal d)) (no 1)) (width-places (take (cycleTotal d) (d .cycles)))

@@ -24,9 +24,11 @@ use Rattle.store.specs.Places.{word, headOf, cyclesIn, bendsIn, stepsIn, cycles
 use Rattle.store.specs.Index.{Indexes, kindOf, startOf, endOf}
 use Rattle.store.proofs.Encode.{flat-append}
 use Rattle.store.proofs.Stands.{stands, used-cycles, bend-total, cycle-total, step-total, count-is, ids-same}
+use Rattle.number.specs.Said.{done, no}
+use Rattle.number.proofs.Laws.{not-done, done-two}
 use Rattle.sound.specs.declared.Sums.{Sums}
 use Rattle.sound.specs.declared.Sums.the-variants.{Within, Above}
-use Rattle.sound.specs.Soundness.{sumsFit, sumsOf, fitsIn, soundSheet, soundDrawing, cellPlaced, allPlaced}
+use Rattle.sound.specs.Soundness.{sumsFit, sumsSay, sumsOf, fitsIn, soundSheet, soundDrawing, cellPlaced, allPlaced}
 use Rattle.sound.specs.Rows.{hintPlaces, Rows, Lent, Numbers, rowsOf, edgeGood, rowGood, allFrom, cyclesGood, numbersGood}
 use Rattle.sound.proofs.Testing.{and-true, and-false, all-rows}
 use Rattle.sound.proofs.Totals.{drawing-sums}
@@ -180,21 +182,18 @@ pub record Summed (d : Drawing) (b k : ℕ) : Type 0 where
   pub bends : b ≡ bendTotal d
   pub cycles : k ≡ cycleTotal d
 
-differ : (b k : ℕ) → Within b k ≡ Above → ⊥
-differ b k e = let w : _≡_ {A = ℕ} 0 1 = cc in omega arith
-
-module _ (d : Drawing) (h : d .count ≤ cellsMost) (ix : Index) (x : Indexes d ix) (s : Sums) (e : s ≡ sumsOf (take (d .count) (ix .bends)) (take (d .count) (ix .cycles)) (d .cycles)) where
+module _ (d : Drawing) (h : d .count ≤ cellsMost) (ix : Index) (x : Indexes d ix) (s : Sums) (e : sumsSay s ≡ sumsOf (take (d .count) (ix .bends)) (take (d .count) (ix .cycles)) (d .cycles)) where
   fit-is : (t : Bool) → sumsFit (bendTotal d) (cycleTotal d) (stepTotal d) ≡ t → fitsIn d ≡ t
   fit-is t g = and-true _ (le-leb (d .count) cellsMost h) ∙ g
 
-  sums-are : (t : Bool) → sumsFit (bendTotal d) (cycleTotal d) (stepTotal d) ≡ t → s ≡ cond t (Within (bendTotal d) (cycleTotal d)) Above
-  sums-are t g = e ∙ drawing-sums d ix x ∙ ap (λ (y : Bool). cond y (Within (bendTotal d) (cycleTotal d)) Above) g
+  sums-are : (t : Bool) → sumsFit (bendTotal d) (cycleTotal d) (stepTotal d) ≡ t → sumsSay s ≡ cond t (done (bendTotal d, cycleTotal d)) (no 1)
+  sums-are t g = e ∙ drawing-sums d ix x ∙ ap (λ (y : Bool). cond y (done (bendTotal d, cycleTotal d)) (no 1)) g
 
   pub sound-above : s ≡ Above → false ≡ soundDrawing d
   sound-above a = go (sumsFit (bendTotal d) (cycleTotal d) (stepTotal d)) refl
     where
       go : (t : Bool) → sumsFit (bendTotal d) (cycleTotal d) (stepTotal d) ≡ t → false ≡ soundDrawing d
-      go true g = absurd (differ (bendTotal d) (cycleTotal d) (sym (sums-are true g) ∙ a))
+      go true g = absurd (not-done 1 (bendTotal d, cycleTotal d) (sym (ap sumsSay a) ∙ sums-are true g))
       go false g = sym (and-false (soundSheet d) (fit-is false g))
 
   pub sums-within : (b k : ℕ) → s ≡ Within b k → Summed d b k
@@ -202,9 +201,9 @@ module _ (d : Drawing) (h : d .count ≤ cellsMost) (ix : Index) (x : Indexes d 
     where
       go : (t : Bool) → sumsFit (bendTotal d) (cycleTotal d) (stepTotal d) ≡ t → Summed d b k
       go true g =
-          let w : Within b k ≡ Within (bendTotal d) (cycleTotal d) = sym a ∙ sums-are true g in
-          record { fits = fits-is d (truth (fit-is true g)); test = fit-is true g; bends = cc; cycles = cc }
-      go false g = absurd (differ b k (sym a ∙ sums-are false g))
+          let w = done-two b (bendTotal d) k (cycleTotal d) (sym (ap sumsSay a) ∙ sums-are true g) in
+          record { fits = fits-is d (truth (fit-is true g)); test = fit-is true g; bends = w .0; cycles = w .1 }
+      go false g = absurd (not-done 1 (b, k) (sym (sums-are false g) ∙ ap sumsSay a))
 
 module _ (d : Drawing) (z : Sizes d) (ix : Index) (x : Indexes d ix) (b k : ℕ) (s : Summed d b k) where
   -- what is asked of the numbers

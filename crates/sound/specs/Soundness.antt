@@ -4,6 +4,7 @@ use mathlib.Core.Bool.{Bool, true, _&&_, cond}
 use mathlib.Core.List.{List}
 use lib.Dec.{leb}
 use lib.ListN.{take}
+use Rattle.number.specs.Said.{Said, done, no}
 use Rattle.complex.specs.Lists.{all, total}
 use Rattle.complex.specs.Sound.{sound, cellsMost, cyclesMost, stepsMost, bendsMost}
 use Rattle.coordinate.specs.Bounds.{within}
@@ -35,12 +36,17 @@ soundDrawing d = fitsIn d && soundSheet d
 abbrev pub capped : ℕ → ℕ → ℕ
 capped m n = cond (leb n m) n (m + 1)
 
--- the sums of the cells' bends and cycles, where ns are the numbers of the cycles' steps
-abbrev pub sumsOf : List ℕ → List ℕ → List ℕ → Sums
+-- the cases of `Sums`: 0 with the sums of bends and cycles, or 1
+abbrev pub sumsSay : Sums → Said (ℕ × ℕ)
+sumsSay (Within b k) = done (b, k)
+sumsSay Above = no 1
+
+-- question 1 of the sums of the cells' bends and cycles, where ns are the numbers of the cycles' steps
+abbrev pub sumsOf : List ℕ → List ℕ → List ℕ → Said (ℕ × ℕ)
 sumsOf bs ks ns =
-    cond (sumsFit (total (placesOf 0) bs) (total (placesOf 0) ks) (total (placesOf 1) (take (total (placesOf 0) ks) ns)))
-    (Within (total (placesOf 0) bs) (total (placesOf 0) ks))
-    Above
+    let b = total (placesOf 0) bs in
+    let k = total (placesOf 0) ks in
+    cond (sumsFit b k (total (placesOf 1) (take k ns))) (done (b, k)) (no 1)
 
 -- ---- positions
 -- a vertex lies in bounds

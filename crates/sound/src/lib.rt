@@ -8,7 +8,7 @@ ghost use Rattle.coordinate.specs.Bounds.{within};
 ghost use Rattle.store.specs.Edits.{placesOf};
 ghost use Rattle.store.specs.Index.{Rising, rowOf};
 ghost use Rattle.store.specs.View.{width, widthSum};
-ghost use Rattle.sound.specs.Soundness.{capped, sumsOf, soundDrawing, placed, cellPlaced};
+ghost use Rattle.sound.specs.Soundness.{capped, sumsSay, sumsOf, soundDrawing, placed, cellPlaced};
 ghost use Rattle.sound.specs.Rows.{hintPlaces, Lent, Numbers, rowsOf, sideAt, isVertexIn, goesOnAt, leadsIn, joinsIn, cycleGood, cyclesGood, rowGood, allFrom, numbersGood};
 use coordinate::Position;
 use store::Cell;
@@ -73,7 +73,7 @@ fn sums_of<'a>(
     requires { ⌜ length (now bends) ≡ cellsMost ⌝ }
     requires { ⌜ length (now cycles) ≡ cellsMost ⌝ }
     requires { ⌜ length (now counts) ≡ cyclesMost ⌝ }
-    ensures { λ r. ⌜ r ≡ sumsOf (take n (now (bends .entry))) (take n (now (cycles .entry))) (now (counts .entry)) ⌝ }
+    ensures { λ r. ⌜ sumsSay r ≡ sumsOf (take n (now (bends .entry))) (take n (now (cycles .entry))) (now (counts .entry)) ⌝ }
 {
     let b = places_upto(bends, n, 0, BENDS_MOST);
     if BENDS_MOST < b {

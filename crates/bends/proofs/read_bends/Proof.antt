@@ -1,12 +1,12 @@
 -- `bends::read_bends` meets its contract. Assumes nothing.
 use Prim.Native.Nat.{_<_, _≤_}
-use mathlib.Core.Path.{_≡_, sym, _∙_}
+use mathlib.Core.Path.{_≡_, sym, ap, _∙_}
 use borrow.Author.Needs.{needs}
 use native.Mathlib.Omega.{arith}
 use denote.Ref.{now}
 use lib.ListN.{length, drop}
 use Rattle.number.specs.Readers.{got}
-use Rattle.number.specs.Numbers.{readNumber}
+use Rattle.number.specs.Numbers.{readNumber, numberSays}
 use Rattle.number.proofs.Laws.{value-at, malformed-at}
 use Rattle.bends.proofs.Laws.{listed-none, listed-short, listed-long}
 use Rattle.bends.proofs.read_bends.Statement.{statement}
@@ -24,7 +24,7 @@ enum-told c = search needs
 returns : tie.Need-returns
 returns c =
     let s = now (c .before .before .before .before .args .part) in
-    sym (listed-none s (malformed-at s 0 (sym (c .before .before .read-number .ensures) ∙ c .enum-told .given .1)))
+    sym (listed-none s (malformed-at s 0 (sym (c .before .before .read-number .ensures) ∙ ap numberSays (c .enum-told .given .1))))
 
 -- the count that was read, and the place after it
 number-of :
@@ -33,7 +33,7 @@ number-of :
     let n = c .before .count .given .0 in
     (readNumber s ≡ got (n .0) (drop (n .1 .0) s)) × (0 < n .1 .0) × (n .1 .0 ≤ length s)
 number-of c =
-    value-at (now (c .before .before .before .before .before .args .part)) 0 _ _ (sym (c .before .before .before .read-number .ensures) ∙ c .before .count .given .1)
+    value-at (now (c .before .before .before .before .before .args .part)) 0 _ _ (sym (c .before .before .before .read-number .ensures) ∙ ap numberSays (c .before .count .given .1))
 
 cast-bytes : tie.Need-cast-bytes
 cast-bytes c = search needs

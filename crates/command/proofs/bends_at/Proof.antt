@@ -29,7 +29,7 @@ enum-told c = search needs
 returns : tie.Need-returns
 returns c =
     let a = c .before .before .before .before .before in
-    part-none (now (a .args .script)) (a .args .at) (a .pre) (c .before .before .read-bends .ensures) (c .enum-told .given .1)
+    part-none (now (a .args .script)) (a .args .at) (a .pre) _ (c .before .before .read-bends .ensures) (c .enum-told .given .1)
 
 -- the list's places lie in the script
 fits :
@@ -39,7 +39,7 @@ fits :
     (a .at + b .1 .0 ≤ length (now (a .script))) × (a .at + b .1 .1 .0 ≤ length (now (a .script)))
 fits c =
     let a = c .before .before .before .before .before .before in
-    part-fits (now (a .args .script)) (a .args .at) (a .pre) (c .before .before .before .read-bends .ensures) (c .before .count .given .1)
+    part-fits (now (a .args .script)) (a .args .at) (a .pre) _ (c .before .before .before .read-bends .ensures) (c .before .count .given .1)
 
 add-t8 : tie.Need-add-t8
 add-t8 c = let l = fits c in omega arith
@@ -50,7 +50,7 @@ add-t11 c = let l = fits c in omega arith
 returns-2 : tie.Need-returns-2
 returns-2 c =
     let a = c .before .before .before .before .before .before in
-    part-listed (now (a .args .script)) (a .args .at) (a .pre) (c .before .before .before .read-bends .ensures) (c .before .count .given .1)
+    part-listed (now (a .args .script)) (a .args .at) (a .pre) _ (c .before .before .before .read-bends .ensures) (c .before .count .given .1)
 
 pub bends-at-spec : {M : Type 1} → statement M
 bends-at-spec =

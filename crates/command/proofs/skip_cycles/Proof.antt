@@ -1,5 +1,5 @@
 -- `command::skip_cycles` meets its contract. The loop's invariant: the cycles that are left, from the place that the loop is at, end where all of them end. The measure is how many are left. Assumes nothing.
-use mathlib.Core.Path.{_≡_, refl, sym, _∙_}
+use mathlib.Core.Path.{_≡_, refl, sym, ap, _∙_}
 use Prim.Native.Nat.{_≤_}
 use borrow.Author.Needs.{needs}
 use native.Mathlib.Omega.{arith}
@@ -7,7 +7,7 @@ use denote.Ref.{now}
 use lib.ListN.{length, drop}
 use Rattle.number.specs.Readers.{times}
 use Rattle.complex.specs.Decode.{readCycle}
-use Rattle.command.specs.Lists.{skipped}
+use Rattle.command.specs.Lists.{skipSays, skipped}
 use Rattle.command.proofs.Rest.{leaves-cycle}
 use Rattle.command.proofs.Skips.{skip-turn, skip-stop, skip-end, skipped-one, skipped-none}
 use Rattle.command.proofs.skip_cycles.Statement.{statement}
@@ -37,7 +37,7 @@ returns c =
     let i = c .before .before .before in
     let l = i .before .loop in
     let s = now (i .before .before .before .args .script) in
-    skip-stop readCycle s (l .place) (l .left) (i .loop-test .taken) (skipped-none (length s) (readCycle (drop (l .place) s)) (sym (c .before .before .skip-cycle .ensures) ∙ c .enum-told .given .1)) ∙ l .inv .1
+    skip-stop readCycle s (l .place) (l .left) (i .loop-test .taken) (skipped-none (length s) (readCycle (drop (l .place) s)) (sym (c .before .before .skip-cycle .ensures) ∙ ap skipSays (c .enum-told .given .1))) ∙ l .inv .1
 
 sub-left : tie.Need-sub-left Inv-loop μ-loop
 sub-left c = search needs
@@ -50,7 +50,7 @@ loop-again c =
     let i = c .before .before .before .before in
     let l = i .before .loop in
     let s = now (i .before .before .before .args .script) in
-    let k = skipped-one readCycle leaves-cycle s (l .place) (c .before .next .given .0 .0) (l .inv .0) (sym (c .before .before .before .skip-cycle .ensures) ∙ c .before .next .given .1) in
+    let k = skipped-one readCycle leaves-cycle s (l .place) (c .before .next .given .0 .0) (l .inv .0) (sym (c .before .before .before .skip-cycle .ensures) ∙ ap skipSays (c .before .next .given .1)) in
     (k .1 .2, skip-turn readCycle s (l .place) (l .left) (i .loop-test .taken) (k .0) (c .before .next .given .0 .0) (k .1 .0) ∙ l .inv .1)
 
 returns-2 : tie.Need-returns-2 Inv-loop μ-loop

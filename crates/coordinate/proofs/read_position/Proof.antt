@@ -4,7 +4,7 @@ use native.Mathlib.Omega.{arith}
 use mathlib.Core.Path.{sym, ap, _∙_}
 use Prim.Native.Nat.{_+_}
 use Rattle.coordinate.specs.declared.Position.{Position}
-use Rattle.coordinate.specs.declared.Located.the-variants.{At}
+use Rattle.number.specs.Said.{done}
 use Rattle.coordinate.proofs.Laws.{located-long, located-short}
 use Rattle.coordinate.proofs.read_position.Statement.{statement}
 use Rattle.coordinate.proofs.read_position.Tie as tie
@@ -28,7 +28,7 @@ returns-3 : tie.Need-returns-3
 returns-3 c =
     let s = c .before .before .before .before .args .s .now in
     let at = c .before .before .before .before .args .at in
-    ap (λ (p : Position). At p (at + 16)) (c .position-at .ensures) ∙ sym (located-long s at (omega arith))
+    ap (λ (p : Position). done (p, at + 16)) (c .position-at .ensures) ∙ sym (located-long s at (omega arith))
 
 pub read-position-spec : {M : Type 1} → statement M
 read-position-spec =

@@ -8,7 +8,7 @@ use lib.ListN.{length, drop}
 use Rattle.complex.specs.Lists.{all}
 use Rattle.complex.specs.Decode.{readCycle}
 use Rattle.sound.specs.Rows.{rowsOf}
-use Rattle.command.specs.Lists.{cyclesRead, Stand}
+use Rattle.command.specs.Lists.{skipSays, cyclesRead, Stand}
 use Rattle.command.proofs.Rest.{leaves-cycle}
 use Rattle.command.proofs.Skips.{skipped-one, skipped-none}
 use Rattle.script.proofs.Steps.{turn, stuck, none-left}
@@ -57,7 +57,7 @@ returns-2 c =
     let i = q .before .before .before in
     let l = i .before .loop in
     let s = i .before .before .before .args .script .now in
-    absurd (stuck readCycle s (l .at) (l .left) (i .loop-test .taken) (l .inv .0) (skipped-none (length s) (readCycle (drop (l .at) s)) (sym (q .skip-cycle .ensures) ∙ c .enum-told .given .1)))
+    absurd (stuck readCycle s (l .at) (l .left) (i .loop-test .taken) (l .inv .0) (skipped-none (length s) (readCycle (drop (l .at) s)) (sym (q .skip-cycle .ensures) ∙ ap skipSays (c .enum-told .given .1))))
 
 sub-left : tie.Need-sub-left Inv-loop μ-loop
 sub-left c = search needs
@@ -77,7 +77,7 @@ loop-again c =
     let x = v .reach .after in
     let y = v .reach .fits in
     let next = c .before .next .given .0 .0 in
-    let k = skipped-one readCycle leaves-cycle s (l .at) next (omega arith) (sym (q .skip-cycle .ensures) ∙ c .before .next .given .1) in
+    let k = skipped-one readCycle leaves-cycle s (l .at) next (omega arith) (sym (q .skip-cycle .ensures) ∙ ap skipSays (c .before .next .given .1)) in
     let t = turn readCycle s (l .at) (l .left) (i .loop-test .taken) v leaves-cycle (k .0) next (k .1 .0) (k .1 .2) in
     (t .1, first-passes (passesIn (rowsOf (a .n) (a .ids .now) (a .kinds .now) (a .starts .now) (a .ends .now)) (a .names)) s (l .at) (l .left) (k .0) (drop next s) (cyclesRead s next (l .left - 1)) (k .1 .0) (t .0) (sym (e .before .cycle-passes .ensures) ∙ not-false _ (e .if1 .left)) ∙ l .inv .1)
 

@@ -6,7 +6,8 @@ use native.Mathlib.Nat.{pos-of-ne-zero}
 use native.Mathlib.Omega.{arith}
 use denote.Ref.{now}
 use lib.ListN.{length, getD, drop}
-use Rattle.number.specs.Numbers.{more, placed}
+use Rattle.number.specs.Said.{placedOr}
+use Rattle.number.specs.Numbers.{more, numberSays}
 use Rattle.number.proofs.Reading.{more-at-end, more-at-zero, more-at-last, more-at-next, more-at-stop, value-fits}
 use borrow.Fn.Kinds.{In}
 use borrow.Fn.PlainCycle.{Measures, is, falls, and}
@@ -29,7 +30,7 @@ read-more-below t =
 read-more-returns :
     (t : ℕ) →
     read-more-lts.Need-returns (read-more-below t, read-more.Post) (read-more-at t) read-more.Post
-read-more-returns t c = ap (λ (k : ℕ). placed (length (now (c .before .before .args .s))) (more k (drop (c .before .before .args .at) (now (c .before .before .args .s))))) (sym (c .if1 .taken))
+read-more-returns t c = ap (λ (k : ℕ). placedOr 2 (length (now (c .before .before .args .s))) (more k (drop (c .before .before .args .at) (now (c .before .before .args .s))))) (sym (c .if1 .taken))
 
 read-more-returns-2 :
     (t : ℕ) →
@@ -121,7 +122,7 @@ read-more-returns-5 :
 read-more-returns-5 t c =
     let e = c .before .before .before in
     let a = e .before .before .before .before .before .before .args in
-    more-at-stop (now (a .s)) (a .at) (a .left) (e .before .before .before .before .if1 .left) (e .before .before .before .if2 .left) (e .if4 .left) (sym (c .before .before .read-more .ensures) ∙ c .enum-told .given .1)
+    more-at-stop (now (a .s)) (a .at) (a .left) (e .before .before .before .before .if1 .left) (e .before .before .before .if2 .left) (e .if4 .left) (sym (c .before .before .read-more .ensures) ∙ ap numberSays (c .enum-told .given .1))
 
 -- the number that was read fits its type
 fits :
@@ -131,7 +132,7 @@ fits t c =
     let e = c .before .before .before .before in
     let f = e .before .before .before .before .before .before in
     let B : (i : ℕ) → getD (now (f .args .s)) i 0 < 256 = λ i. e .before .before .shared-slice-known2 .given i .fits in
-    value-fits (now (f .args .s)) (f .args .at + 1) (f .args .left) (getD (now (f .args .s)) (f .args .at) 0) _ _ B (B (f .args .at)) (e .before .before .before .before .if1 .left) (f .pre .1) (sym (c .before .before .before .read-more .ensures) ∙ c .before .n .given .1)
+    value-fits (now (f .args .s)) (f .args .at + 1) (f .args .left) (getD (now (f .args .s)) (f .args .at) 0) _ _ B (B (f .args .at)) (e .before .before .before .before .if1 .left) (f .pre .1) (sym (c .before .before .before .read-more .ensures) ∙ ap numberSays (c .before .n .given .1))
 
 read-more-mul-t15 :
     (t : ℕ) →
@@ -152,7 +153,7 @@ read-more-returns-6 :
 read-more-returns-6 t c =
     let e = c .before .before .before .before in
     let a = e .before .before .before .before .before .before .args in
-    more-at-next (now (a .s)) (a .at) (a .left) (e .before .before .before .before .if1 .left) (e .before .before .before .if2 .left) (e .if4 .left) _ _ (sym (c .before .before .before .read-more .ensures) ∙ c .before .n .given .1)
+    more-at-next (now (a .s)) (a .at) (a .left) (e .before .before .before .before .if1 .left) (e .before .before .before .if2 .left) (e .if4 .left) _ _ (sym (c .before .before .before .read-more .ensures) ∙ ap numberSays (c .before .n .given .1))
 
 pub +read-more-spec : {M : Type 1} → statement M
 +read-more-spec =

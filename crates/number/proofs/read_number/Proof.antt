@@ -1,11 +1,11 @@
 -- `number::read_number` meets its contract. Assumes nothing.
 use Prim.Native.Nat.{ℕ, _+_, _-_, _*_, _^_, _<_}
-use mathlib.Core.Path.{sym, _∙_}
+use mathlib.Core.Path.{sym, ap, _∙_}
 use borrow.Author.Needs.{needs}
 use native.Mathlib.Omega.{arith}
 use denote.Ref.{now}
 use lib.ListN.{getD}
-use Rattle.number.specs.Numbers.{numberBytes}
+use Rattle.number.specs.Numbers.{numberBytes, numberSays}
 use Rattle.number.proofs.Reading.{read-at-end, read-at-last, read-at-next, read-at-stop, value-fits}
 use Rattle.number.proofs.read_number.Statement.{statement}
 use Rattle.number.proofs.read_number.Tie as tie
@@ -46,7 +46,7 @@ returns-3 : tie.Need-returns-3
 returns-3 c =
     let e = c .before .before .before in
     let a = e .before .before .before .before .args in
-    read-at-stop (now (a .s)) (a .at) (e .before .before .if1 .left) (e .if2 .left) (sym (c .before .before .read-more .ensures) ∙ c .enum-told .given .1)
+    read-at-stop (now (a .s)) (a .at) (e .before .before .if1 .left) (e .if2 .left) (sym (c .before .before .read-more .ensures) ∙ ap numberSays (c .enum-told .given .1))
 
 -- the number that was read fits its type
 fits : (c : tie.After-known-told) → getD (now (c .before .before .before .before .before .before .before .before .args .s)) (c .before .before .before .before .before .before .before .before .args .at) 0 - 128 + 128 * c .before .n .given .0 .0 < 2 ^ 32
@@ -54,7 +54,7 @@ fits c =
     let e = c .before .before .before .before in
     let a = e .before .before .before .before .args in
     let B : (i : ℕ) → getD (now (a .s)) i 0 < 256 = λ i. e .before .shared-slice-known2 .given i .fits in
-    value-fits (now (a .s)) (a .at + 1) numberBytes (getD (now (a .s)) (a .at) 0) _ _ B (B (a .at)) (λ z. omega arith) (omega arith) (sym (c .before .before .before .read-more .ensures) ∙ c .before .n .given .1)
+    value-fits (now (a .s)) (a .at + 1) numberBytes (getD (now (a .s)) (a .at) 0) _ _ B (B (a .at)) (λ z. omega arith) (omega arith) (sym (c .before .before .before .read-more .ensures) ∙ ap numberSays (c .before .n .given .1))
 
 mul-t14 : tie.Need-mul-t14
 mul-t14 c = let h = fits c in record { fits = omega arith }
@@ -66,7 +66,7 @@ returns-4 : tie.Need-returns-4
 returns-4 c =
     let e = c .before .before .before .before in
     let a = e .before .before .before .before .args in
-    read-at-next (now (a .s)) (a .at) (e .before .before .if1 .left) (e .if2 .left) _ _ (sym (c .before .before .before .read-more .ensures) ∙ c .before .n .given .1)
+    read-at-next (now (a .s)) (a .at) (e .before .before .if1 .left) (e .if2 .left) _ _ (sym (c .before .before .before .read-more .ensures) ∙ ap numberSays (c .before .n .given .1))
 
 pub read-number-spec : {M : Type 1} → statement M
 read-number-spec =

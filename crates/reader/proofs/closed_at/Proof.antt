@@ -1,7 +1,8 @@
 -- `reader::closed_at` meets its contract. Assumes nothing.
-use mathlib.Core.Path.{sym, _∙_}
+use mathlib.Core.Path.{refl, sym, ap, _∙_}
 use borrow.Author.Needs.{needs}
 use denote.Ref.{now}
+use Rattle.number.specs.Numbers.{numberSays}
 use Rattle.store.specs.declared.Shape.the-variants.{Closed}
 use Rattle.reader.proofs.Places.{number-bad, number-found}
 use Rattle.reader.proofs.closed_at.Statement.{statement}
@@ -20,13 +21,13 @@ returns : tie.Need-returns
 returns c =
     let r = c .before .before in
     let a = r .before .before .args in
-    number-bad Closed (now (a .s)) (a .at) (sym (r .read-number .ensures) ∙ c .enum-told .given .1)
+    (refl, number-bad Closed (now (a .s)) (a .at) (sym (r .read-number .ensures) ∙ ap numberSays (c .enum-told .given .1)))
 
 returns-2 : tie.Need-returns-2
 returns-2 c =
     let r = c .before .before .before in
     let a = r .before .before .args in
-    number-found Closed (now (a .s)) (a .at) _ _ (sym (r .read-number .ensures) ∙ c .before .bends .given .1)
+    number-found Closed (now (a .s)) (a .at) _ _ (sym (r .read-number .ensures) ∙ ap numberSays (c .before .bends .given .1))
 
 pub closed-at-spec : {M : Type 1} → statement M
 closed-at-spec = tie.close (tie.spec read-number-requires enum-known-bends enum-told returns returns-2)

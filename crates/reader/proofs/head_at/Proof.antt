@@ -1,9 +1,9 @@
 -- `reader::head_at` meets its contract. Assumes nothing.
-use mathlib.Core.Path.{_≡_, sym, subst, _∙_}
+use mathlib.Core.Path.{_≡_, refl, sym, subst, ap, _∙_}
 use borrow.Author.Needs.{needs}
 use denote.Ref.{now}
-use Rattle.number.specs.declared.Number.the-variants.{Value}
-use Rattle.number.specs.Numbers.{numberAt}
+use Rattle.number.specs.Said.{done}
+use Rattle.number.specs.Numbers.{numberAt, numberSays}
 use Rattle.reader.specs.Heads.{readShape, ShapeRead}
 use Rattle.reader.proofs.Places.{id-bad, kind-bad, shape-bad, head-found}
 use Rattle.reader.proofs.head_at.Statement.{statement}
@@ -22,14 +22,14 @@ returns : tie.Need-returns
 returns c =
     let r = c .before .before in
     let a = r .before .before .args in
-    id-bad (now (a .s)) (a .at) (sym (r .read-number .ensures) ∙ c .enum-told .given .1)
+    (refl, id-bad (now (a .s)) (a .at) (sym (r .read-number .ensures) ∙ ap numberSays (c .enum-told .given .1)))
 
 -- the id, and the place after it
 id-value :
     (c : tie.After-known-told) →
     let a = c .before .before .before .before .before .args in
-    numberAt (now (a .s)) (a .at) ≡ Value (c .before .id .given .0 .0) (c .before .id .given .0 .1 .0)
-id-value c = sym (c .before .before .before .read-number .ensures) ∙ c .before .id .given .1
+    numberAt (now (a .s)) (a .at) ≡ done (c .before .id .given .0 .0, c .before .id .given .0 .1 .0)
+id-value c = sym (c .before .before .before .read-number .ensures) ∙ ap numberSays (c .before .id .given .1)
 
 read-number-requires-2 : tie.Need-read-number-requires-2
 read-number-requires-2 c κs = search needs
@@ -45,14 +45,14 @@ returns-2 c =
     let r = c .before .before in
     let w = r .before in
     let a = w .before .before .before .before .before .args in
-    kind-bad (now (a .s)) (a .at) _ _ (id-value w) (sym (r .read-number2 .ensures) ∙ c .enum-told2 .given .1)
+    (refl, kind-bad (now (a .s)) (a .at) _ _ (id-value w) (sym (r .read-number2 .ensures) ∙ ap numberSays (c .enum-told2 .given .1)))
 
 -- the kind, and the place after it
 kind-value :
     (c : tie.After-known-told2) →
     let w = c .before .before .before .before in
-    numberAt (now (w .before .before .before .before .before .args .s)) (w .before .id .given .0 .1 .0) ≡ Value (c .before .kind .given .0 .0) (c .before .kind .given .0 .1 .0)
-kind-value c = sym (c .before .before .before .read-number2 .ensures) ∙ c .before .kind .given .1
+    numberAt (now (w .before .before .before .before .before .args .s)) (w .before .id .given .0 .1 .0) ≡ done (c .before .kind .given .0 .0, c .before .kind .given .0 .1 .0)
+kind-value c = sym (c .before .before .before .read-number2 .ensures) ∙ ap numberSays (c .before .kind .given .1)
 
 shape-at-requires : tie.Need-shape-at-requires
 shape-at-requires c κs = search needs
@@ -69,7 +69,7 @@ returns-3 c =
     let v = r .before in
     let w = v .before .before .before .before in
     let a = w .before .before .before .before .before .args in
-    shape-bad (now (a .s)) (a .at) _ _ (id-value w) _ _ (kind-value v) (subst (ShapeRead (readShape (v .before .kind .given .0 .0)) (now (a .s)) (v .before .kind .given .0 .1 .0)) (c .enum-told3 .given .1) (r .shape-at .ensures))
+    (refl, shape-bad (now (a .s)) (a .at) _ _ (id-value w) _ _ (kind-value v) (subst (ShapeRead (readShape (v .before .kind .given .0 .0)) (now (a .s)) (v .before .kind .given .0 .1 .0)) (c .enum-told3 .given .1) (r .shape-at .ensures) .1))
 
 returns-4 : tie.Need-returns-4
 returns-4 c =

@@ -1,11 +1,11 @@
 -- `reader::load_cycle` meets its contract. Assumes nothing.
 use Prim.Native.Nat.{_≤_}
 use native.Mathlib.Omega.{arith}
-use mathlib.Core.Path.{_≡_, sym, subst, _∙_}
+use mathlib.Core.Path.{_≡_, refl, sym, subst, ap, _∙_}
 use denote.Ref.{now}
 use lib.ListN.{length, drop}
 use Rattle.number.specs.Readers.{got}
-use Rattle.number.specs.Numbers.{readNumber}
+use Rattle.number.specs.Numbers.{readNumber, numberSays}
 use Rattle.number.proofs.Laws.{value-at, malformed-at}
 use Rattle.store.specs.View.{width}
 use Rattle.store.proofs.Lists.{places-one}
@@ -28,7 +28,7 @@ returns : tie.Need-returns
 returns c =
     let r = c .before .before in
     let a = r .before .before .before .before .args in
-    no-length (drop (a .at) (now (a .s))) (a .used) (malformed-at (now (a .s)) (a .at) (sym (r .read-number .ensures) ∙ c .enum-told .given .1))
+    (refl, no-length (drop (a .at) (now (a .s))) (a .used) (malformed-at (now (a .s)) (a .at) (sym (r .read-number .ensures) ∙ ap numberSays (c .enum-told .given .1))))
 
 -- the number of steps, the place after it and the places that the cycle takes
 length-found :
@@ -40,7 +40,7 @@ length-found c =
     let r = c .before .before .before .before in
     let a = r .before .before .before .before .args in
     let g = c .before .before .m .given in
-    let v = value-at (now (a .s)) (a .at) (g .0 .0) (g .0 .1 .0) (sym (r .read-number .ensures) ∙ g .1) in
+    let v = value-at (now (a .s)) (a .at) (g .0 .0) (g .0 .1 .0) (sym (r .read-number .ensures) ∙ ap numberSays (g .1)) in
     (v .0, v .2, c .places .ensures ∙ places-one (g .0 .0))
 
 places-requires : tie.Need-places-requires
@@ -56,7 +56,7 @@ returns-2 c =
     let a = st .args in
     let l = length-found p in
     let w = l .2 in
-    too-long (drop (a .at) (now (a .s))) _ _ (a .used) (l .0) (omega (arith, c .if1 .taken, st .pre .1 .1 .1))
+    (refl, too-long (drop (a .at) (now (a .s))) _ _ (a .used) (l .0) (omega (arith, c .if1 .taken, st .pre .1 .1 .1)))
 
 mul-cycles : tie.Need-mul-cycles
 mul-cycles c = search needs
@@ -89,8 +89,8 @@ returns-3 c =
     let a = p .before .before .before .before .before .before .before .before .args in
     let g = p .before .before .m .given .0 in
     let l = length-found p in
-    no-numbers (now (a .s)) (a .at) (g .1 .0) (g .0) (p .places .result) (l .2) (l .0) (a .used)
-    (subst (NumbersPut (now (a .s)) (g .1 .0) (p .places .result) (now (a .steps)) (a .used .steps) _) (c .enum-told2 .given .1) (n .put-numbers .ensures))
+    (refl, no-numbers (now (a .s)) (a .at) (g .1 .0) (g .0) (p .places .result) (l .2) (l .0) (a .used)
+    (subst (NumbersPut (now (a .s)) (g .1 .0) (p .places .result) (now (a .steps)) (a .used .steps) _) (c .enum-told2 .given .1) (n .put-numbers .ensures) .1))
 
 add-t13 : tie.Need-add-t13
 add-t13 c = search needs

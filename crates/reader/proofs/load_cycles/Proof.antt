@@ -2,7 +2,7 @@
 use Prim.Native.Nat.{_-_, _≤_}
 use borrow.Author.Needs.{needs}
 use native.Mathlib.Omega.{arith}
-use mathlib.Core.Path.{subst, _∙_}
+use mathlib.Core.Path.{refl, subst, _∙_}
 use denote.Ref.{now}
 use lib.ListN.{drop}
 use Rattle.number.specs.Readers.{times}
@@ -24,7 +24,7 @@ sub-if1 c = c .before .before .before .before .pre .1 .1 .1 .0
 returns : tie.Need-returns Inv-loop μ-loop
 returns c =
     let a = c .before .before .before .before .before .args in
-    too-many (drop (a .at) (now (a .s))) (a .n) (a .used) (omega arith)
+    (refl, too-many (drop (a .at) (now (a .s))) (a .n) (a .used) (omega arith))
 
 loop-holds : tie.Need-loop-holds Inv-loop μ-loop
 loop-holds c =
@@ -62,8 +62,8 @@ returns-2 c =
     let at = l .before .before .before .before in
     let a = at .before .before .before .before .before .before .args in
     let L = at .loop .inv .1 in
-    loading-over _ _ _ _ _ _ _ _ _ _ _ L (l .before .before .before .loop-test .taken)
-    (subst (CyclesLoaded (times readCycle 1 (drop (at .loop .p) (now (a .s)))) (now (a .s)) (at .loop .cycles) (at .loop .steps) (at .loop .u) _ _) (c .enum-told .given .1) (l .load-cycle .ensures))
+    (refl, loading-over _ _ _ _ _ _ _ _ _ _ _ L (l .before .before .before .loop-test .taken)
+    (subst (CyclesLoaded (times readCycle 1 (drop (at .loop .p) (now (a .s)))) (now (a .s)) (at .loop .cycles) (at .loop .steps) (at .loop .u) _ _) (c .enum-told .given .1) (l .load-cycle .ensures) .1))
 
 add-i : tie.Need-add-i Inv-loop μ-loop
 add-i c = search needs

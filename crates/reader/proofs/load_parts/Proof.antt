@@ -1,6 +1,6 @@
 -- `reader::load_parts` meets its contract. Assumes nothing.
 use native.Mathlib.Omega.{arith}
-use mathlib.Core.Path.{_≡_, _∙_}
+use mathlib.Core.Path.{_≡_, refl, _∙_}
 use denote.Ref.{now}
 use Rattle.store.specs.View.{bendCount, cycleCount}
 use Rattle.reader.proofs.ShapeParts.{too-many-bends, too-few-bytes, parts-loaded}
@@ -35,7 +35,7 @@ returns c =
     let w = c .before in
     let st = w .before .before .before .before .before .before .before .before in
     let a = st .args in
-    too-many-bends (now (a .s)) (a .first) (a .shape) (a .used) _ (counts w .0) (omega (arith, c .if1 .taken, st .pre .1 .bendsFit))
+    (refl, too-many-bends (now (a .s)) (a .first) (a .shape) (a .used) _ (counts w .0) (omega (arith, c .if1 .taken, st .pre .1 .bendsFit)))
 
 mul-bytes : tie.Need-mul-bytes
 mul-bytes c = search needs
@@ -48,7 +48,7 @@ returns-2 c =
     let w = c .before .before in
     let st = w .before .before .before .before .before .before .before .before in
     let a = st .args in
-    too-few-bytes (now (a .s)) (a .first) (a .shape) (a .used) _ (counts w .0) (st .pre .0) (omega (arith, c .if2 .taken, st .pre .0))
+    (refl, too-few-bytes (now (a .s)) (a .first) (a .shape) (a .used) _ (counts w .0) (st .pre .0) (omega (arith, c .if2 .taken, st .pre .0)))
 
 put-spots-requires : tie.Need-put-spots-requires
 put-spots-requires c κs = search needs

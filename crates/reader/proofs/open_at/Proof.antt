@@ -1,9 +1,9 @@
 -- `reader::open_at` meets its contract. Assumes nothing.
-use mathlib.Core.Path.{_≡_, sym, _∙_}
+use mathlib.Core.Path.{_≡_, refl, sym, ap, _∙_}
 use borrow.Author.Needs.{needs}
 use denote.Ref.{now}
-use Rattle.number.specs.declared.Number.the-variants.{Value}
-use Rattle.number.specs.Numbers.{numberAt}
+use Rattle.number.specs.Said.{done}
+use Rattle.number.specs.Numbers.{numberAt, numberSays}
 use Rattle.reader.proofs.Places.{start-bad, end-bad, bends-bad, open-found}
 use Rattle.reader.proofs.open_at.Statement.{statement}
 use Rattle.reader.proofs.open_at.Tie as tie
@@ -21,14 +21,14 @@ returns : tie.Need-returns
 returns c =
     let r = c .before .before in
     let a = r .before .before .args in
-    start-bad (now (a .s)) (a .at) (sym (r .read-number .ensures) ∙ c .enum-told .given .1)
+    (refl, start-bad (now (a .s)) (a .at) (sym (r .read-number .ensures) ∙ ap numberSays (c .enum-told .given .1)))
 
 -- the start, and the place after it
 start-value :
     (c : tie.After-known-told) →
     let a = c .before .before .before .before .before .args in
-    numberAt (now (a .s)) (a .at) ≡ Value (c .before .start .given .0 .0) (c .before .start .given .0 .1 .0)
-start-value c = sym (c .before .before .before .read-number .ensures) ∙ c .before .start .given .1
+    numberAt (now (a .s)) (a .at) ≡ done (c .before .start .given .0 .0, c .before .start .given .0 .1 .0)
+start-value c = sym (c .before .before .before .read-number .ensures) ∙ ap numberSays (c .before .start .given .1)
 
 read-number-requires-2 : tie.Need-read-number-requires-2
 read-number-requires-2 c κs = search needs
@@ -44,14 +44,14 @@ returns-2 c =
     let r = c .before .before in
     let w = r .before in
     let a = w .before .before .before .before .before .args in
-    end-bad (now (a .s)) (a .at) _ _ (start-value w) (sym (r .read-number2 .ensures) ∙ c .enum-told2 .given .1)
+    (refl, end-bad (now (a .s)) (a .at) _ _ (start-value w) (sym (r .read-number2 .ensures) ∙ ap numberSays (c .enum-told2 .given .1)))
 
 -- the end, and the place after it
 end-value :
     (c : tie.After-known-told2) →
     let w = c .before .before .before .before in
-    numberAt (now (w .before .before .before .before .before .args .s)) (w .before .start .given .0 .1 .0) ≡ Value (c .before .end .given .0 .0) (c .before .end .given .0 .1 .0)
-end-value c = sym (c .before .before .before .read-number2 .ensures) ∙ c .before .end .given .1
+    numberAt (now (w .before .before .before .before .before .args .s)) (w .before .start .given .0 .1 .0) ≡ done (c .before .end .given .0 .0, c .before .end .given .0 .1 .0)
+end-value c = sym (c .before .before .before .read-number2 .ensures) ∙ ap numberSays (c .before .end .given .1)
 
 read-number-requires-3 : tie.Need-read-number-requires-3
 read-number-requires-3 c κs = search needs
@@ -68,7 +68,7 @@ returns-3 c =
     let v = r .before in
     let w = v .before .before .before .before in
     let a = w .before .before .before .before .before .args in
-    bends-bad (now (a .s)) (a .at) _ _ (start-value w) _ _ (end-value v) (sym (r .read-number3 .ensures) ∙ c .enum-told3 .given .1)
+    (refl, bends-bad (now (a .s)) (a .at) _ _ (start-value w) _ _ (end-value v) (sym (r .read-number3 .ensures) ∙ ap numberSays (c .enum-told3 .given .1)))
 
 returns-4 : tie.Need-returns-4
 returns-4 c =
@@ -76,7 +76,7 @@ returns-4 c =
     let v = r .before in
     let w = v .before .before .before .before in
     let a = w .before .before .before .before .before .args in
-    open-found (now (a .s)) (a .at) _ _ (start-value w) _ _ (end-value v) _ _ (sym (r .read-number3 .ensures) ∙ c .before .bends .given .1)
+    open-found (now (a .s)) (a .at) _ _ (start-value w) _ _ (end-value v) _ _ (sym (r .read-number3 .ensures) ∙ ap numberSays (c .before .bends .given .1))
 
 pub open-at-spec : {M : Type 1} → statement M
 open-at-spec =

@@ -2,12 +2,12 @@
 use Prim.Native.Nat.{_≤_}
 use native.Mathlib.Omega.{arith}
 use borrow.Author.Needs.{needs}
-use mathlib.Core.Path.{_≡_, sym, subst, _∙_}
+use mathlib.Core.Path.{_≡_, sym, subst, ap, _∙_}
 use mathlib.Core.Logic.{inr}
 use denote.Ref.{now}
 use lib.ListN.{length, drop}
 use Rattle.number.specs.Readers.{got, times}
-use Rattle.number.specs.Numbers.{readNumber}
+use Rattle.number.specs.Numbers.{readNumber, numberSays}
 use Rattle.number.proofs.Laws.{value-at, malformed-at}
 use Rattle.complex.specs.File.{readCell}
 use Rattle.reader.specs.Outcome.{CellsRead}
@@ -31,7 +31,7 @@ returns : tie.Need-returns
 returns c =
     let r = c .before .before .before in
     let s = now (r .before .before .args .s) in
-    inr (c .nothing .ensures, no-next s (malformed-at s 0 (sym (r .read-number .ensures) ∙ c .before .enum-told .given .1)))
+    inr (c .nothing .ensures, no-next s (malformed-at s 0 (sym (r .read-number .ensures) ∙ ap numberSays (c .before .enum-told .given .1))))
 
 -- the next id, and the place after it
 next-found :
@@ -39,7 +39,7 @@ next-found :
     let s = now (c .before .before .before .before .before .args .s) in
     let g = c .before .next .given .0 in
     readNumber s ≡ got (g .0) (drop (g .1 .0) s)
-next-found c = value-at (now (c .before .before .before .before .before .args .s)) 0 _ _ (sym (c .before .before .before .read-number .ensures) ∙ c .before .next .given .1) .0
+next-found c = value-at (now (c .before .before .before .before .before .args .s)) 0 _ _ (sym (c .before .before .before .read-number .ensures) ∙ ap numberSays (c .before .next .given .1)) .0
 
 read-number-requires-2 : tie.Need-read-number-requires-2
 read-number-requires-2 c κs = search needs
@@ -59,7 +59,7 @@ returns-2 c =
     let w = r .before in
     let s = now (w .before .before .before .before .before .args .s) in
     let g = w .before .next .given .0 in
-    inr (c .nothing2 .ensures, no-count s (drop (g .1 .0) s) (g .0) (next-found w) (malformed-at s (g .1 .0) (sym (r .read-number2 .ensures) ∙ c .before .enum-told2 .given .1)))
+    inr (c .nothing2 .ensures, no-count s (drop (g .1 .0) s) (g .0) (next-found w) (malformed-at s (g .1 .0) (sym (r .read-number2 .ensures) ∙ ap numberSays (c .before .enum-told2 .given .1))))
 
 -- the count of the cells, and the place after it
 count-found :
@@ -71,7 +71,7 @@ count-found :
 count-found c =
     let w = c .before .before .before .before in
     let s = now (w .before .before .before .before .before .args .s) in
-    let v = value-at s (w .before .next .given .0 .1 .0) _ _ (sym (c .before .before .before .read-number2 .ensures) ∙ c .before .count .given .1) in
+    let v = value-at s (w .before .next .given .0 .1 .0) _ _ (sym (c .before .before .before .read-number2 .ensures) ∙ ap numberSays (c .before .count .given .1)) in
     (v .0, v .2)
 
 wide-requires : tie.Need-wide-requires

@@ -1,10 +1,10 @@
 -- `reader::put_numbers` meets its contract. The loop's invariant: i numbers were read and put into out. Assumes nothing.
 use Prim.Native.Nat.{_-_, _≤_}
-use mathlib.Core.Path.{sym, _∙_}
+use mathlib.Core.Path.{refl, sym, ap, _∙_}
 use borrow.Author.Needs.{needs}
 use native.Mathlib.Omega.{arith}
 use denote.Ref.{now}
-use Rattle.number.specs.Numbers.{readNumber}
+use Rattle.number.specs.Numbers.{readNumber, numberSays}
 use Rattle.number.proofs.Laws.{malformed-at, value-at}
 use Rattle.reader.proofs.Reading.{reading-bad}
 use Rattle.reader.proofs.Putting.{Putting, putting-start, putting-turn, putting-end}
@@ -38,8 +38,8 @@ returns c =
     let at = r .before .before in
     let a = at .before .before .before .args in
     let P = at .loop .inv .1 in
-    reading-bad readNumber (now (a .s)) (a .at) (a .m) (at .loop .i) (at .loop .p) (P .numbers) (P .reading) (r .before .loop-test .taken)
-    (malformed-at (now (a .s)) (at .loop .p) (sym (r .read-number .ensures) ∙ c .enum-told .given .1))
+    (refl, reading-bad readNumber (now (a .s)) (a .at) (a .m) (at .loop .i) (at .loop .p) (P .numbers) (P .reading) (r .before .loop-test .taken)
+    (malformed-at (now (a .s)) (at .loop .p) (sym (r .read-number .ensures) ∙ ap numberSays (c .enum-told .given .1))))
 
 add-out : tie.Need-add-out Inv-loop μ-loop
 add-out c = search needs
@@ -65,7 +65,7 @@ loop-again c =
     let st = at .before .before .before in
     let a = st .args in
     let P = at .loop .inv .1 in
-    let v = value-at (now (a .s)) (at .loop .p) _ _ (sym (r .read-number .ensures) ∙ c .before .v .given .1) in (
+    let v = value-at (now (a .s)) (at .loop .p) _ _ (sym (r .read-number .ensures) ∙ ap numberSays (c .before .v .given .1)) in (
       omega arith,
       putting-turn (now (a .s)) (a .at) (a .m) (now (a .out)) (a .used) (at .loop .i) (at .loop .p) (at .loop .out) P _ _ (r .before .loop-test .taken) (omega (arith, st .pre .1)) (v .0) (v .2),
     )

@@ -39,7 +39,7 @@ returns c =
     let at = h .before .before in
     let a = at .before .before .args in
     let F = at .loop .inv .1 in
-    inr (c .nothing .ensures, head-bad _ _ _ _ _ _ _ _ _ _ F (h .before .loop-test .taken) (subst (HeadRead (now (a .s)) (at .loop .p)) (c .before .enum-told .given .1) (h .head-at .ensures)))
+    inr (c .nothing .ensures, head-bad _ _ _ _ _ _ _ _ _ _ F (h .before .loop-test .taken) (subst (HeadRead (now (a .s)) (at .loop .p)) (c .before .enum-told .given .1) (h .head-at .ensures) .1))
 
 -- the cell's head
 head-found :
@@ -87,7 +87,7 @@ returns-2 c =
     inr (
       c .nothing2 .ensures,
       parts-over _ _ _ _ _ _ _ _ _ _ F (g .0) (g .1 .0) (w .before .before .before .before .loop-test .taken) (head-found w)
-          (subst (PartsLoaded s (g .1 .0) (g .0 .shape) (at .loop .spots) (at .loop .cycles) (at .loop .steps) (at .loop .used) _ _ _) (c .before .enum-told2 .given .1) (l .load-parts .ensures)),
+          (subst (PartsLoaded s (g .1 .0) (g .0 .shape) (at .loop .spots) (at .loop .cycles) (at .loop .steps) (at .loop .used) _ _ _) (c .before .enum-told2 .given .1) (l .load-parts .ensures) .1),
     )
 
 mul-cells : tie.Need-mul-cells Inv-loop μ-loop

@@ -46,7 +46,7 @@ returns-4 : tie.Need-returns-4
 returns-4 c = let a = c .before .before .before .args in of-kind (now (a .s)) (a .at) (c .face-at .result) 3 (a .kind) (c .before .match .keys4) (c .face-at .ensures)
 
 returns-5 : tie.Need-returns-5
-returns-5 c = let r = c .match .rest in no-kind _ _ (r .0 .0 .0 .1) (r .0 .0 .1) (r .0 .1) (r .1)
+returns-5 c = let r = c .match .rest in (refl, no-kind _ _ (r .0 .0 .0 .1) (r .0 .0 .1) (r .0 .1) (r .1))
 
 pub shape-at-spec : {M : Type 1} → statement M
 shape-at-spec =

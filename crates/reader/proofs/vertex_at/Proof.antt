@@ -1,11 +1,12 @@
 -- `reader::vertex_at` meets its contract. Assumes nothing.
 use Prim.Native.Nat.{ℕ}
-use mathlib.Core.Path.{refl, sym, _∙_}
+use mathlib.Core.Path.{refl, sym, ap, _∙_}
 use mathlib.Core.List.{List}
 use borrow.Author.Needs.{needs}
 use denote.Ref.{now}
 use Rattle.number.specs.Readers.{Read, got}
 use Rattle.coordinate.specs.declared.Position.{Position}
+use Rattle.coordinate.specs.Positions.{locatedSays}
 use Rattle.coordinate.proofs.Laws.{located-at, short-at}
 use Rattle.store.specs.declared.Shape.{Shape}
 use Rattle.store.specs.declared.Shape.the-variants.{Vertex}
@@ -29,13 +30,13 @@ returns : tie.Need-returns
 returns c =
     let r = c .before .before in
     let a = r .before .before .args in
-    first-bad placed (short-at (now (a .s)) (a .at) (sym (r .read-position .ensures) ∙ c .enum-told .given .1))
+    (refl, first-bad placed (short-at (now (a .s)) (a .at) (sym (r .read-position .ensures) ∙ ap locatedSays (c .enum-told .given .1))))
 
 returns-2 : tie.Need-returns-2
 returns-2 c =
     let r = c .before .before .before in
     let a = r .before .before .args in
-    let l = located-at (now (a .s)) (a .at) _ _ (sym (r .read-position .ensures) ∙ c .before .p .given .1) in
+    let l = located-at (now (a .s)) (a .at) _ _ (sym (r .read-position .ensures) ∙ ap locatedSays (c .before .p .given .1)) in
     last-found placed (record { read = l .0; inside = l .2 }) refl
 
 pub vertex-at-spec : {M : Type 1} → statement M
