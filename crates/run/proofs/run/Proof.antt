@@ -1,4 +1,4 @@
--- `run::run` meets its contract: each turn is a command of the script, and demand 3 holds of them all. Assumes nothing.
+-- `run::run` meets its contract: each turn is a command of the script, and demand 3 holds of the drawing after them. Assumes nothing.
 use Prim.Native.Nat.{ℕ, _-_}
 use native.Mathlib.Omega.{arith}
 use borrow.Author.Needs.{needs}
@@ -8,12 +8,15 @@ use mathlib.Core.List.{List, [], _∷_, _++_}
 use lib.Dec.{T}
 use lib.ListN.{length, drop, take, length-append, length-drop}
 use lib.Seq.{take-all}
-use Rattle.complex.specs.Program.{Line, Run, run as runOf}
-use Rattle.complex.proofs.Runs.{run-after, run-demand}
+use Rattle.complex.specs.Cells.{empty}
+use Rattle.complex.specs.Demands.{after}
+use Rattle.complex.specs.Program.{Line, Run, run as runOf, commandsOf}
+use Rattle.complex.proofs.Runs.{run-after}
 use Rattle.store.specs.declared.Drawing.{Drawing}
 use Rattle.store.specs.View.{sheetOf}
 use Rattle.sound.specs.Soundness.{soundDrawing}
 use Rattle.command.proofs.Laws.{Begins, begins, unread}
+use Rattle.core.proofs.Demand.{ends-after}
 use Rattle.run.specs.Runs.{RanAll}
 use Rattle.run.proofs.Progress.{Progress, ending, start, over, stopped, turn, lineOf, twoLine, all-left, ahead, ahead-fits}
 use Rattle.run.proofs.run.Statement.{statement}
@@ -35,7 +38,8 @@ abbrev μ-loop : tie.MeasureT-loop
 answered : (bytes : List ℕ) (d : Drawing) (n : ℕ) (ls : List Line) → T (soundDrawing d) → n ≡ length ls → runOf bytes ≡ ending ls d → RanAll bytes (record { drawing = d; commands = n })
 answered bytes d n ls s e f =
     let g : sheetOf d ≡ runOf bytes .sheet = ap (λ (r : Run). r .sheet) (sym f) in
-    record { sheet = g; sound = s; commands = e ∙ ap (λ (r : Run). length (r .lines)) (sym f); reached = g ∙ sym (run-after bytes); demand = run-demand bytes }
+    let q : sheetOf d ≡ after empty (commandsOf bytes) = g ∙ sym (run-after bytes) in
+    record { sheet = g; commands = e ∙ ap (λ (r : Run). length (r .lines)) (sym f); reached = q; ends = ends-after d s (commandsOf bytes) q }
 
 empty-requires : tie.Need-empty-requires Inv-loop μ-loop
 empty-requires c κs = search needs

@@ -26,7 +26,7 @@ returns c =
     let r = w .before .before .before in
     let l = now (r .before .before .before .args .buffer) in
     w .write .ensures
-    ∙ sym (write-sound (r .run .result .drawing) l (true-of (soundDrawing (r .run .result .drawing)) (r .run .ensures .sound)))
+    ∙ sym (write-sound (r .run .result .drawing) l (true-of (soundDrawing (r .run .result .drawing)) (r .run .ensures .ends .stays-sound)))
     ∙ ap (λ (s : Sheet). filled (fileOf s) l) (r .run .ensures .sheet)
 
 pub save-spec : {M : Type 1} → statement M
