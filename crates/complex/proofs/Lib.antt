@@ -25,6 +25,7 @@ pub mod SizesUnglue
 pub mod SizesUncut
 pub mod SizesAfter
 pub mod Star
+pub mod Steps
 pub mod Obey
 pub mod Demand
 pub mod FileReaders
