@@ -16,11 +16,12 @@ use Rattle.complex.specs.Edits.{keepIds, reshape, numbered, rebuild}
 use Rattle.complex.specs.Decode.{Command}
 use Rattle.complex.specs.Commands.{result}
 use Rattle.complex.specs.Answer.{Answer, no, removedFrom, command}
-use Rattle.complex.specs.Demands.{after, live, Refusals, Issues, NeverAgain, IdsIssued}
+use Rattle.complex.specs.Demands.{commandStep, after, live, Refusals, Issues, NeverAgain, IdsIssued}
 use Rattle.complex.proofs.Bools.{truth, true-of, either, both, pair}
 use Rattle.complex.proofs.Lookup.{orElse, changed, lookup-rebuild, rising-lt}
 use Rattle.complex.proofs.Keep.{Sound}
 use Rattle.complex.proofs.Rebuilt.{Rebuilt, rebuilt, result-rebuilt}
+use Rattle.complex.proofs.Steps.{items-good}
 use Rattle.complex.proofs.Obey.{Outcome, refusal, obeyed, outcome}
 
 -- every command's outcome: an unsound drawing is refused by 1
@@ -100,15 +101,18 @@ issues s b = elim (answered s b) [
 ]
 
 -- an id that was issued and is dead stays dead
-stays-dead : (s : Sheet) (bs : List (List ℕ)) (i : ℕ) → i < s .next → (live s i → ⊥) → live (after s bs) i → ⊥
-stays-dead s [] i h d = d
-stays-dead s (b ∷ bs) i h d =
+abbrev Spent : ℕ → Sheet → Type 0
+Spent i s = (i < s .next) × (live s i → ⊥)
+
+stays-dead : (i : ℕ) (s : Sheet) (b : List ℕ) → Spent i s → Spent i (command s b .sheet)
+stays-dead i s b h =
     let I = issues s b in
     let n = I .next-id in
-    stays-dead (command s b .sheet) bs i (omega arith) (λ l. d (I .live-before i h l))
+    let l = h .0 in
+    (omega arith, λ z. h .1 (I .live-before i l z))
 
 pub never-again : NeverAgain
-never-again bs cs i h d = stays-dead (after empty bs) cs i h d
+never-again bs cs i h d = items-good commandStep (Spent i) (stays-dead i) (after empty bs) cs (h, d) .1
 
 -- ---- the removed
 -- every cell is live where it stands

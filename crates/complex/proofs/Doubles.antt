@@ -23,11 +23,12 @@ use Rattle.complex.specs.Cut.{points, cutPlace, bendsBefore, bendsAfter,
 use Rattle.complex.specs.Uncut.{Uncut, refused, lonely, loop, joint, twoFaces, oneCycle, rings, withoutLone, bendsAlong, joined, uncutResult, uncutCase}
 use Rattle.complex.specs.Commands.{positions, result}
 use Rattle.complex.specs.Answer.{Answer, command}
-use Rattle.complex.specs.Demands.{after}
+use Rattle.complex.specs.Demands.{commandStep, after}
 use Rattle.complex.proofs.Bools.{truth, either, both, pair, all-append, all-map}
 use Rattle.complex.proofs.Lookup.{all-at}
 use Rattle.complex.proofs.CutEdge.{all-take, all-drop}
 use Rattle.complex.proofs.UncutVertex.{all-filter, all-reverse}
+use Rattle.complex.proofs.Steps.{items-good}
 use Rattle.complex.proofs.Obey.{refusal, obeyed, outcome}
 use Rattle.complex.proofs.ReadDoubles.{fits-double, decode-doubles}
 
@@ -264,9 +265,5 @@ command-doubles s b S = elim (either (sound s)) [
   | inr e ↦ rw e S
 ]
 
-from-doubles : (s : Sheet) (bs : List (List ℕ)) → T (doubles s) → T (doubles (after s bs))
-from-doubles s [] S = S
-from-doubles s (b ∷ bs) S = from-doubles (command s b .sheet) bs (command-doubles s b S)
-
 pub after-doubles : (bs : List (List ℕ)) → T (doubles (after empty bs))
-after-doubles bs = from-doubles empty bs tt
+after-doubles bs = items-good commandStep (λ (s : Sheet). T (doubles s)) command-doubles empty bs tt

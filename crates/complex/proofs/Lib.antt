@@ -24,6 +24,7 @@ pub mod UncutCycle
 pub mod UncutVertex
 pub mod Uncut
 pub mod Star
+pub mod Steps
 pub mod Obey
 pub mod Demand
 pub mod FileReaders

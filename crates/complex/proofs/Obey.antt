@@ -6,7 +6,7 @@ use mathlib.Core.Logic.{_⊎_, inl, inr}
 use mathlib.Core.Bool.{Bool, true, false, not, _&&_, _||_, cond}
 use mathlib.Core.List.{List, [], _∷_}
 use lib.ListN.{length}
-use lib.IntN.{ℤ, pos, subℕ, _+ℤ_, +ℤ-idl, +ℤ-idr, +ℤ-assoc}
+use lib.IntN.{ℤ, pos, _+ℤ_, +ℤ-idl, +ℤ-idr}
 use lib.Dec.{T, eqb, leb}
 use borrow.Author.Tests.{le-leb, lt-leb, eqb-true, eqb-false}
 use Rattle.number.specs.Readers.{Read, got, bad}
@@ -19,7 +19,7 @@ use Rattle.complex.specs.Delete.{deleted}
 use Rattle.complex.specs.Commands.{question3, question4, question5, question6, result}
 use Rattle.complex.specs.Answer.{Answer, no, done, firstNo, questions, answered, asked2, asked3, command}
 use Rattle.complex.specs.Calls.{starCall, eulerCall}
-use Rattle.complex.specs.Demands.{after, accepted, shareRead, shares, live, Took, DeleteExact, Deletes, AfterAll, Demand3}
+use Rattle.complex.specs.Demands.{commandStep, after, accepted, shareRead, shareOf, shares, live, Took, DeleteExact, Deletes, AfterAll, Demand3}
 use Rattle.complex.proofs.Bools.{truth, true-of, either}
 use Rattle.complex.proofs.Questions.{no-first, Yes, all-yes}
 use Rattle.complex.proofs.Keep.{Sound, sound-parts, parts-sound}
@@ -27,6 +27,7 @@ use Rattle.complex.proofs.Passes.{Passes, KeepsSound}
 use Rattle.complex.proofs.Euler.{Balanced, balanced-euler}
 use Rattle.complex.proofs.Delete.{deleted-took}
 use Rattle.complex.proofs.Star.{star-right}
+use Rattle.complex.proofs.Steps.{items-good, items-sum, items-each}
 
 pub data Outcome (s : Sheet) (b : List ℕ) : Type 0 where
   refusal : (n : ℕ) → (n ≡ 0 → ⊥) → command s b ≡ no n s → Outcome s b
@@ -97,19 +98,13 @@ module _ (keeps : (c : Command) → KeepsSound c) (balances : (c : Command) (s :
       took c p z = rw z (deleted-took s (sound-parts s S) i (subst (λ (x : Command). T (question4 s x)) z (p .four)))
 
   pub after-sound : (s : Sheet) (bs : List (List ℕ)) → T (sound s) → T (sound (after s bs))
-  after-sound s [] S = S
-  after-sound s (b ∷ bs) S = after-sound (command s b .sheet) bs (command-sound s b S)
+  after-sound = items-good commandStep (λ (s : Sheet). T (sound s)) command-sound
 
   pub after-euler : (s : Sheet) (bs : List (List ℕ)) → T (sound s) → euler (after s bs .cells) ≡ euler (s .cells) +ℤ shares s bs
-  after-euler s [] S = sym (+ℤ-idr (euler (s .cells)))
-  after-euler s (b ∷ bs) S =
-      after-euler (command s b .sheet) bs (command-sound s b S)
-      ∙ ap (λ (z : ℤ). z +ℤ shares (command s b .sheet) bs) (command-euler s b S)
-      ∙ +ℤ-assoc (euler (s .cells)) (cond (accepted s b) (shareRead s (decode b)) (pos 0)) (shares (command s b .sheet) bs)
+  after-euler = items-sum commandStep (λ (s : Sheet). T (sound s)) command-sound (λ (s : Sheet). euler (s .cells)) shareOf command-euler
 
   pub after-deletes : (s : Sheet) (bs : List (List ℕ)) → T (sound s) → Deletes s bs
-  after-deletes s [] S = tt
-  after-deletes s (b ∷ bs) S = (command-delete s b S, after-deletes (command s b .sheet) bs (command-sound s b S))
+  after-deletes = items-each commandStep (λ (s : Sheet). T (sound s)) command-sound DeleteExact command-delete
 
   empty-sound : T (sound empty)
   unfolding sound

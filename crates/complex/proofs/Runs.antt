@@ -1,4 +1,4 @@
--- What a script's commands leave is what demand 3 speaks of. Assumes nothing.
+-- What a run over a script ends with is the drawing after its commands, of which demand 3 speaks. Assumes nothing.
 use Prim.Native.Nat.{ℕ, zero, suc}
 use mathlib.Core.Path.{_≡_, refl, sym}
 use mathlib.Core.Bool.{Bool, true, false}
@@ -8,9 +8,8 @@ use lib.Dec.{eqb}
 use Rattle.complex.specs.Lists.{isEmpty}
 use Rattle.complex.specs.Cells.{Sheet, empty}
 use Rattle.complex.specs.Answer.{command, rest}
-use Rattle.complex.specs.Demands.{after, AfterAll}
+use Rattle.complex.specs.Demands.{after}
 use Rattle.complex.specs.Program.{ran, run, handed, commandsOf}
-use Rattle.complex.proofs.Demand.{demand3}
 
 -- the drawing after the commands that were handed bytes is the one that the run ends with
 ran-after : (n : ℕ) (s : Sheet) (bytes : List ℕ) → after s (handed n s bytes) ≡ ran n s bytes .sheet
@@ -27,7 +26,3 @@ ran-after (suc n) s bytes = go (isEmpty bytes) (eqb (command s bytes .number) 2)
 pub run-after : (bytes : List ℕ) → after empty (commandsOf bytes) ≡ run bytes .sheet
 unfolding commandsOf run
 run-after bytes = ran-after (length bytes) empty bytes
-
--- demand 3, of every script
-pub run-demand : (bytes : List ℕ) → AfterAll (commandsOf bytes)
-run-demand bytes = demand3 (commandsOf bytes)

@@ -19,39 +19,70 @@ use Rattle.complex.specs.Answer.{Answer, command}
 use Rattle.complex.specs.File.{fileOf, readFile}
 use Rattle.complex.specs.Calls.{starCall, eulerCall}
 
+-- ---- demand 3 is one claim about a list, of any length from none: each item is handed the state that the one before it gave back
+-- what a step answers: its number, and the state that it gives back
+pub record Step (State : Type 0) : Type 0 where
+  pub number : ℕ
+  pub state : State
+
+module _ {State Item : Type 0} (step : State → Item → Step State) where
+  -- the state after the list
+  abbrev pub afterItems : State → List Item → State
+  afterItems s [] = s
+  afterItems s (i ∷ is) = afterItems (step s i .state) is
+
+  -- accepted means that its number is 0
+  abbrev pub acceptedItem : State → Item → Bool
+  acceptedItem s i = eqb (step s i .number) 0
+
+  -- the shares of the accepted items, each from the item and the state that it was handed
+  abbrev pub sharesOfItems : (State → Item → ℤ) → State → List Item → ℤ
+  sharesOfItems share s [] = pos 0
+  sharesOfItems share s (i ∷ is) = cond (acceptedItem s i) (share s i) (pos 0) +ℤ sharesOfItems share (step s i .state) is
+
+  -- a claim about each item and the state that it was handed
+  abbrev pub Each : (State → Item → Type 0) → State → List Item → Type 0
+  Each Claim s [] = Unit {0}
+  Each Claim s (i ∷ is) = Claim s i × Each Claim (step s i .state) is
+
 -- ---- a list of commands, each any bytes
+abbrev pub commandStep : Sheet → List ℕ → Step Sheet
+commandStep s b = record { number = command s b .number; state = command s b .sheet }
+
 -- the drawing after them
 abbrev pub after : Sheet → List (List ℕ) → Sheet
-after s [] = s
-after s (b ∷ bs) = after (command s b .sheet) bs
+after = afterItems commandStep
 
--- accepted means that its number is 0
 abbrev pub accepted : Sheet → List ℕ → Bool
-accepted s b = eqb (command s b .number) 0
+accepted = acceptedItem commandStep
 
 abbrev pub shareRead : Sheet → Read Command → ℤ
 shareRead s (got c t) = share s c
 shareRead s bad = pos 0
 
--- the shares of the accepted commands, each from its bytes and the drawing that it was handed
+abbrev pub shareOf : Sheet → List ℕ → ℤ
+shareOf s b = shareRead s (decode b)
+
 abbrev pub shares : Sheet → List (List ℕ) → ℤ
-shares s [] = pos 0
-shares s (b ∷ bs) = cond (accepted s b) (shareRead s (decode b)) (pos 0) +ℤ shares (command s b .sheet) bs
+shares = sharesOfItems commandStep shareOf
 
 abbrev pub live : Sheet → ℕ → Type 0
 live s i = T (isLive (cellAt s i))
 
--- the ids live in s and not in t are i and those of the cells that rested on it
+-- what a delete of i takes: i and the cells that rest on it
+abbrev pub TakenWith : Sheet → ℕ → ℕ → Type 0
+TakenWith s i j = (j ≡ i) ⊎ RestsOn (cellAt s) i j
+
+-- the ids live in s and not in t are those
 abbrev pub Took : Sheet → Sheet → ℕ → Type 0
-Took s t i = (j : ℕ) → (live s j × (live t j → ⊥)) ↔ ((j ≡ i) ⊎ RestsOn (cellAt s) i j)
+Took s t i = (j : ℕ) → (live s j × (live t j → ⊥)) ↔ TakenWith s i j
 
 abbrev pub DeleteExact : Sheet → List ℕ → Type 0
 DeleteExact s b = (i : ℕ) (t : List ℕ) → decode b ≡ got (delete i) t → T (accepted s b) → Took s (command s b .sheet) i
 
 -- each accepted delete took exactly its target and the cells that rested on it
 abbrev pub Deletes : Sheet → List (List ℕ) → Type 0
-Deletes s [] = Unit {0}
-Deletes s (b ∷ bs) = DeleteExact s b × Deletes (command s b .sheet) bs
+Deletes = Each commandStep DeleteExact
 
 -- ---- star for a live id of a drawing: exactly the cells whose boundary holds it, rising, in the buffer's first places; 9 and the same count where it is too short
 pub record StarRight (s : Sheet) (i : ℕ) : Type 0 where

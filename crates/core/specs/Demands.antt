@@ -1,18 +1,17 @@
 -- Demand 3 of the entries: one claim about a list of commands, each handed the drawing that the one before it gave back. Definitions only.
 use Prim.Native.Nat.{ℕ, _≤_, _<_}
 use mathlib.Core.Path.{_≡_}
-use mathlib.Core.Bool.{cond}
 use mathlib.Core.List.{List, [], _∷_, _++_}
-use lib.Dec.{T, eqb}
+use lib.Dec.{T}
 use lib.ListN.{length, drop}
-use lib.IntN.{ℤ, pos, _+ℤ_}
+use lib.IntN.{ℤ}
 use Rattle.number.specs.Readers.{got}
 use Rattle.complex.specs.Cells.{empty}
 use Rattle.complex.specs.Sound.{doubles}
 use Rattle.complex.specs.Boundary.{star}
 use Rattle.complex.specs.Euler.{euler}
 use Rattle.complex.specs.Decode.{delete, decode}
-use Rattle.complex.specs.Demands.{after, shareRead, live, Took, StarRight}
+use Rattle.complex.specs.Demands.{Step, afterItems, sharesOfItems, Each, after, shareOf, live, Took, StarRight}
 use Rattle.store.specs.declared.Drawing.{Drawing}
 use Rattle.store.specs.View.{sheetOf}
 use Rattle.sound.specs.Soundness.{soundDrawing}
@@ -31,21 +30,21 @@ abbrev pub bytesOf : List Call → List (List ℕ)
 bytesOf [] = []
 bytesOf (c ∷ cs) = c .bytes ∷ bytesOf cs
 
+-- what a step of the list answered, and the drawing that it gave back
+abbrev pub callStep : Drawing → Call → Step Drawing
+callStep d c = record { number = c .answer .number; state = c .answer .drawing }
+
 -- each answer meets the entry's contract on the drawing that the one before it gave back
 abbrev pub Answered : Drawing → List Call → Type 0
-Answered d [] = Unit {0}
-Answered d (c ∷ cs) = Commanded d (c .bytes) (c .answer) × Answered (c .answer .drawing) cs
+Answered = Each callStep (λ (d : Drawing) (c : Call). Commanded d (c .bytes) (c .answer))
 
 -- the drawing after them
 abbrev pub drawingAfter : Drawing → List Call → Drawing
-drawingAfter d [] = d
-drawingAfter d (c ∷ cs) = drawingAfter (c .answer .drawing) cs
+drawingAfter = afterItems callStep
 
 -- the shares of the commands answered with 0, each from its bytes and the drawing that it was handed
 abbrev pub sharesOf : Drawing → List Call → ℤ
-sharesOf d [] = pos 0
-sharesOf d (c ∷ cs) =
-    cond (eqb (c .answer .number) 0) (shareRead (sheetOf d) (decode (c .bytes))) (pos 0) +ℤ sharesOf (c .answer .drawing) cs
+sharesOf = sharesOfItems callStep (λ (d : Drawing) (c : Call). shareOf (sheetOf d) (c .bytes))
 
 -- each delete answered with 0 took exactly its target and the cells that rested on it
 abbrev pub DeleteTook : Drawing → Call → Type 0
@@ -53,8 +52,7 @@ DeleteTook d c =
     (i : ℕ) (t : List ℕ) → decode (c .bytes) ≡ got (delete i) t → c .answer .number ≡ 0 → Took (sheetOf d) (sheetOf (c .answer .drawing)) i
 
 abbrev pub DeletesOf : Drawing → List Call → Type 0
-DeletesOf d [] = Unit {0}
-DeletesOf d (c ∷ cs) = DeleteTook d c × DeletesOf (c .answer .drawing) cs
+DeletesOf = Each callStep DeleteTook
 
 -- ---- star and Euler stand outside the list and get the drawing after it
 -- star answers 0, the count and the ids in the buffer's first places; a buffer too short gets 9, the same count, and is left as it was
