@@ -1,2 +1,3 @@
 pub mod Laws
+pub mod Asked
 pub mod Late
