@@ -4,4 +4,5 @@ pub mod SizesUnglue
 pub mod SizesUncut
 pub mod SizesAfter
 pub mod Laws
+pub mod Asked
 pub mod Late

@@ -29,8 +29,8 @@ use Rattle.append.proofs.Appended.{appendedEach}
 use Rattle.append.proofs.RunLists.{run-length, run-take, run-drop}
 use Rattle.dropping.proofs.Dropped.{live-id}
 use Rattle.cut.specs.Cuts.{nextBend, closedBetween, closedPlace, closedRuns, Cuts}
-use Rattle.cut.proofs.Found.{sound-in}
 use Rattle.cut.proofs.Made.{made-room, made-is}
+use Rattle.answer.proofs.Asked.{sound-in}
 
 pub closed-figure : (o : Option Figure) → isClosed o ≡ true → o ≡ some (closedEdge (bendsOf o))
 closed-figure none e = absurd (false≢true e)

@@ -1,20 +1,19 @@
 -- 0A of a closed edge: the questions from the index. Assumes nothing.
-use Prim.Native.Nat.{ℕ, _+_, _/_, _%_, _<_, _≤_}
+use Prim.Native.Nat.{ℕ, _/_, _%_, _<_, _≤_}
 use mathlib.Core.Path.{_≡_, refl, sym, ap, _∙_}
 use mathlib.Core.Bool.{Bool, true, false, _||_}
 use lib.ListN.{length, getD, take}
-use lib.Dec.{T, ltb, leb}
+use lib.Dec.{T, ltb}
 use borrow.Author.Tests.{lt-ltb, le-ltb}
 use Rattle.complex.specs.Lists.{total}
 use Rattle.store.specs.Edits.{placesOf}
 use Rattle.complex.specs.Cells.{cellAt, isOpen, isClosed, isLive, bendsOf}
-use Rattle.complex.specs.Sound.{idsEnd}
 use Rattle.complex.specs.Uses.{stepUse, usesBy}
 use Rattle.complex.specs.Decode.{cutEdge}
 use Rattle.complex.specs.Commands.{question4, question5, question6}
-use Rattle.answer.specs.Sizes.{sized, sizesOf, moreLess, changedBy, newByCut, cutChange, newCells, changeOf, sizesAfter, sizesFit}
+use Rattle.answer.specs.Sizes.{sized, moreLess, changedBy, newByCut, cutChange, newCells, changeOf}
 use Rattle.complex.specs.Answer.{no, asked3}
-use Rattle.complex.proofs.Asked.{early, early-none, Passed, no-5}
+use Rattle.complex.proofs.Asked.{early, early-none, no-5}
 use Rattle.store.specs.declared.Drawing.{Drawing}
 use Rattle.store.specs.declared.Index.{Index}
 use Rattle.store.specs.Index.{Indexes, rowOf}
@@ -24,10 +23,11 @@ use Rattle.sound.specs.Soundness.{soundDrawing}
 use Rattle.sound.proofs.Meaning.{sound-fits}
 use Rattle.answer.specs.declared.Totals.{Totals}
 use Rattle.answer.specs.Late.{sizesBy, lateNo}
-use Rattle.answer.proofs.Laws.{totalsIn, totals-are, late-refuses, late-passes}
+use Rattle.answer.proofs.Laws.{totalsIn}
+use Rattle.answer.proofs.Asked.{Asked, asked-of}
 use Rattle.cut.specs.Cuts.{Cuts}
 use Rattle.cut.proofs.Closed.{closed-figure, closed-exists}
-use Rattle.cut.proofs.Found.{sound-in, own-count, found-cuts}
+use Rattle.cut.proofs.Found.{own-count, found-cuts}
 
 or-true : (b : Bool) → b || true ≡ true
 or-true true = refl
@@ -71,22 +71,23 @@ module _ (d : Drawing) (z : Sizes d) (w : T (soundDrawing d)) (e q : ℕ) (k : i
       exists : ltb (q / 2) (length (bendsOf (cellAt (sheetOf d) e))) ≡ true
       exists = ap (ltb (q / 2)) (sym counted) ∙ lt-ltb (q / 2) m h
 
-      pub passed : Passed (sheetOf d) (cutEdge e q)
-      passed = record { bytes = bytes; four = four; five = five ∙ exists; six = six }
-
       module _ (t : Totals) (et : t ≡ totalsIn d z (sound-fits d w) ix x) (r : ℕ) (ro : r ≡ lateNo (d .next) 2 (changedBy (sizesBy t) (moreLess (sized 1 0 0 0) (sized 0 0 0 (q % 2))))) where
-        sizes-are : sizesBy t ≡ sizesOf (sheetOf d .cells)
-        sizes-are = ap sizesBy et ∙ totals-are d z (sound-fits d w) ix x
-
-        pub refuses : (r ≡ 0 → ⊥) → asked3 (sheetOf d) (cutEdge e q) ≡ no r (sheetOf d)
-        refuses =
-            late-refuses d (cutEdge e q) (sound-in d w) passed 2 t (record { cells = 1; cycles = 0; steps = 0; bends = 0 }) (record { cells = 0; cycles = 0; steps = 0; bends = q % 2 }) new-are change-is sizes-are r ro
-
-        pub passes : r ≡ 0 → (leb (sheetOf d .next + newCells (sheetOf d) (cutEdge e q)) idsEnd ≡ true) × (sizesFit (sizesAfter (sheetOf d) (cutEdge e q)) ≡ true)
-        passes =
-            late-passes d (cutEdge e q) (sound-in d w) passed 2 t (record { cells = 1; cycles = 0; steps = 0; bends = 0 }) (record { cells = 0; cycles = 0; steps = 0; bends = q % 2 }) new-are change-is sizes-are r ro
+        pub asked : Asked d (cutEdge e q) r
+        asked =
+            asked-of d z w (cutEdge e q) r
+            (record {
+              index = ix;
+              indexes = x;
+              new = 2;
+              totals = t;
+              more = record { cells = 1; cycles = 0; steps = 0; bends = 0 };
+              less = record { cells = 0; cycles = 0; steps = 0; bends = q % 2 };
+              passed = record { bytes = bytes; four = four; five = five ∙ exists; six = six };
+              newIs = new-are;
+              changeIs = change-is;
+              totalsAre = et;
+              says = ro;
+            })
 
         pub closed-cuts : r ≡ 0 → (base : ℕ) → base ≡ total (placesOf 0) (take row (ix .bends)) → Cuts d e row base m q
-        closed-cuts r0 base eb =
-            let y = passes r0 in
-            found-cuts d z w ix x e row er closed-live q passed (y .0) (y .1) base m eb em (closed-exists (cellAt (sheetOf d) e) q k ∙ exists)
+        closed-cuts r0 base eb = found-cuts d z w ix x e row er closed-live q r asked r0 base m eb em (closed-exists (cellAt (sheetOf d) e) q k ∙ exists)

@@ -7,17 +7,12 @@ use mathlib.Core.List.{List, [], _∷_, map}
 use mathlib.Core.Option.{some}
 use lib.ListN.{length, getD, take}
 use lib.Seq.{getD-take, take-take}
-use lib.Dec.{T, leb, leb→le}
+use lib.Dec.{T}
 use Rattle.complex.specs.Lists.{total}
-use Rattle.complex.specs.Cells.{Figure, vertex, openEdge, closedEdge, face, cellAt, isLive, bendsOf, origin}
-use Rattle.complex.specs.Sound.{idsEnd}
+use Rattle.complex.specs.Cells.{vertex, cellAt, isLive, bendsOf, origin}
 use Rattle.complex.specs.Cut.{cutExists}
 use Rattle.complex.specs.Decode.{cutEdge}
-use Rattle.answer.specs.Sizes.{newCells, sizesAfter, sizesFit}
-use Rattle.complex.proofs.Bools.{truth}
-use Rattle.complex.proofs.Keep.{Sound, sound-parts}
-use Rattle.complex.proofs.Asked.{Passed}
-use Rattle.answer.proofs.SizesAfter.{next-after, sizes-after}
+
 use Rattle.store.specs.declared.Cell.{Cell}
 use Rattle.store.specs.declared.Drawing.{Drawing}
 use Rattle.store.specs.declared.Index.{Index}
@@ -28,11 +23,12 @@ use Rattle.store.specs.Places.{bendsIn}
 use Rattle.store.specs.Edits.{placesOf}
 use Rattle.store.proofs.Lists.{places-sum}
 use Rattle.sound.specs.Soundness.{soundDrawing}
-use Rattle.sound.proofs.Meaning.{sound-fits, sound-sheet, looks, found-row}
+use Rattle.sound.proofs.Meaning.{sound-fits, looks, found-row}
+use Rattle.cycles.proofs.Replaced.{own-bends as figure-bends}
 use Rattle.append.specs.Appends.{figureAt}
 use Rattle.append.specs.Runs.{run}
 use Rattle.append.proofs.Copied.{row-bends, row-range}
-use Rattle.answer.proofs.Laws.{asked-six}
+use Rattle.answer.proofs.Asked.{Asked, ids-hold, sizes-hold}
 use Rattle.dropping.proofs.Dropped.{live-below, row-among}
 use Rattle.cut.specs.Cuts.{Cuts}
 
@@ -40,19 +36,6 @@ take-map : {A B : Type 0} (f : A → B) (n : ℕ) (l : List A) → take n (map f
 take-map f zero l = refl
 take-map f (suc n) [] = refl
 take-map {A} {B} f (suc n) (x ∷ l) = ap (λ (r : List B). f x ∷ r) (take-map f n l)
-
-bends-in : (x : Figure) → bendsOf (some x) ≡ bendsIn x
-bends-in (vertex p) = refl
-bends-in (openEdge a b bs) = refl
-bends-in (closedEdge bs) = refl
-bends-in (face ks) = refl
-
-pub sound-in : (d : Drawing) → T (soundDrawing d) → Sound (sheetOf d)
-sound-in d w = sound-parts (sheetOf d) (sound-sheet d w)
-
-pub next-in : (d : Drawing) → T (soundDrawing d) → d .next ≤ idsEnd
-unfolding sheetOf
-next-in d w = leb→le (d .next) idsEnd (sound-in d w .inIds)
 
 -- what a look-up in the index asks
 pub find-asks : (d : Drawing) → Sizes d → T (soundDrawing d) → (ix : Index) → Indexes d ix → (d .count ≤ 256) × ((length (ix .ids) ≡ 256) × Rising (take (d .count) (ix .ids)))
@@ -66,7 +49,7 @@ module _ (d : Drawing) (z : Sizes d) (w : T (soundDrawing d)) (ix : Index) (x : 
   own-figure = found-row d z (sound-fits d w) ix x e row er (live-below d z w ix x e row er l) (record { id = 0; figure = vertex origin })
 
   own-bends : bendsOf (cellAt (sheetOf d) e) ≡ bendsIn (figureAt (sheetOf d) row)
-  own-bends = ap bendsOf own-figure ∙ bends-in (figureAt (sheetOf d) row)
+  own-bends = ap bendsOf own-figure ∙ figure-bends (figureAt (sheetOf d) row)
 
   -- the number that an array of the index has in the row of e
   pub read-row : (vs : List ℕ) → getD vs row 0 ≡ getD (take (d .count) vs) (rowOf e (take (d .count) (ix .ids))) 0
@@ -95,7 +78,7 @@ module _ (d : Drawing) (z : Sizes d) (w : T (soundDrawing d)) (ix : Index) (x : 
       let h = own-range in
       (omega arith, omega arith)
 
-  module _ (q : ℕ) (p : Passed (sheetOf d) (cutEdge e q)) (ei : leb (sheetOf d .next + newCells (sheetOf d) (cutEdge e q)) idsEnd ≡ true) (ef : sizesFit (sizesAfter (sheetOf d) (cutEdge e q)) ≡ true)
+  module _ (q r : ℕ) (a : Asked d (cutEdge e q) r) (y : r ≡ 0)
       (base m : ℕ) (eb : base ≡ total (placesOf 0) (take row (ix .bends))) (em : m ≡ getD (ix .bends) row 0) (ex : cutExists (cellAt (sheetOf d) e) q ≡ true) where
     pub found-cuts : Cuts d e row base m q
     found-cuts =
@@ -109,6 +92,6 @@ module _ (d : Drawing) (z : Sizes d) (w : T (soundDrawing d)) (ix : Index) (x : 
           bends = ap₂ (λ (a c : ℕ). run a c (d .bends)) b n ∙ row-bends d z (sound-fits d w) row (live-below d z w ix x e row er l) ∙ sym own-bends;
           range = omega arith;
           exists = ex;
-          idsSuffice = truth (ap (λ (k : ℕ). leb k idsEnd) (next-after (sheetOf d) (cutEdge e q)) ∙ ei);
-          sizesHold = truth (sizes-after (sheetOf d) (sound-in d w) (cutEdge e q) (asked-six d (cutEdge e q) (sound-in d w) p) ∙ ef);
+          idsSuffice = ids-hold d z w (cutEdge e q) r a y;
+          sizesHold = sizes-hold d z w (cutEdge e q) r a y;
         }

@@ -9,13 +9,12 @@ use lib.Dec.{T, eqb, leb}
 use borrow.Author.Tests.{le-leb, lt-leb}
 use Rattle.complex.specs.Lists.{total}
 use Rattle.complex.specs.Cells.{Halfedge, cellAt, isOpen, isClosed, isLive, bendsOf}
-use Rattle.complex.specs.Sound.{idsEnd}
 use Rattle.complex.specs.Uses.{edgeUse, stepUse, usesBy}
 use Rattle.complex.specs.Decode.{cutEdge}
 use Rattle.complex.specs.Commands.{question4, question5, question6}
-use Rattle.answer.specs.Sizes.{sized, sizesOf, moreLess, changedBy, newByCut, cutChange, newCells, changeOf, sizesAfter, sizesFit}
+use Rattle.answer.specs.Sizes.{sized, sizesOf, moreLess, changedBy, newByCut, cutChange, newCells, changeOf}
 use Rattle.complex.specs.Answer.{no, asked3}
-use Rattle.complex.proofs.Asked.{early, early-none, Passed, no-5}
+use Rattle.complex.proofs.Asked.{early, early-none, no-5}
 use Rattle.store.specs.declared.Drawing.{Drawing}
 use Rattle.store.specs.declared.Index.{Index}
 use Rattle.store.specs.Index.{Indexes, rowOf}
@@ -29,9 +28,10 @@ use Rattle.append.proofs.Rooms.{over-cycles}
 use Rattle.copies.proofs.Dealing.{uses-held}
 use Rattle.answer.specs.declared.Totals.{Totals}
 use Rattle.answer.specs.Late.{sizesBy, lateNo}
-use Rattle.answer.proofs.Laws.{totalsIn, totals-are, totals-small, late-refuses, late-passes}
+use Rattle.answer.proofs.Laws.{totalsIn, totals-are, totals-small}
+use Rattle.answer.proofs.Asked.{next-in, Asked, asked-of}
 use Rattle.cut.specs.Cuts.{Cuts, Ends, Counted}
-use Rattle.cut.proofs.Found.{sound-in, next-in, own-count, read-row, found-cuts}
+use Rattle.cut.proofs.Found.{own-count, read-row, found-cuts}
 use Rattle.cut.proofs.Opened.{open-figure, open-exists}
 use Rattle.answer.specs.Sizes as whole
 
@@ -122,20 +122,23 @@ module _ (d : Drawing) (z : Sizes d) (w : T (soundDrawing d)) (ix : Index) (x : 
         exists : leb (q / 2 + q % 2) (length (bendsOf (cellAt (sheetOf d) e))) ≡ true
         exists = ap (leb (q / 2 + q % 2)) (sym counted) ∙ le-leb (q / 2 + q % 2) m h
 
-        pub passed : Passed (sheetOf d) (cutEdge e q)
-        passed = record { bytes = bytes; four = four; five = five ∙ exists; six = six }
-
         module _ (r : ℕ) (ro : r ≡ lateNo (d .next) 3 (changedBy (sizesBy t) (moreLess (sized 2 0 (total (stepUse e) (cyclesOf (take (t .cycles) (d .cycles)) (d .steps))) 0) (sized 0 0 0 (q % 2))))) where
-          abbrev more : Totals
-          more = record { cells = 2; cycles = 0; steps = total (stepUse e) (cyclesOf (take (t .cycles) (d .cycles)) (d .steps)); bends = 0 }
-
-          pub refuses : (r ≡ 0 → ⊥) → asked3 (sheetOf d) (cutEdge e q) ≡ no r (sheetOf d)
-          refuses = late-refuses d (cutEdge e q) (sound-in d w) passed 3 t more (record { cells = 0; cycles = 0; steps = 0; bends = q % 2 }) new-are change-is sizes-are r ro
-
-          pub passes : r ≡ 0 → (leb (sheetOf d .next + newCells (sheetOf d) (cutEdge e q)) idsEnd ≡ true) × (sizesFit (sizesAfter (sheetOf d) (cutEdge e q)) ≡ true)
-          passes = late-passes d (cutEdge e q) (sound-in d w) passed 3 t more (record { cells = 0; cycles = 0; steps = 0; bends = q % 2 }) new-are change-is sizes-are r ro
+          pub asked : Asked d (cutEdge e q) r
+          asked =
+              asked-of d z w (cutEdge e q) r
+              (record {
+                index = ix;
+                indexes = x;
+                new = 3;
+                totals = t;
+                more = record { cells = 2; cycles = 0; steps = total (stepUse e) (cyclesOf (take (t .cycles) (d .cycles)) (d .steps)); bends = 0 };
+                less = record { cells = 0; cycles = 0; steps = 0; bends = q % 2 };
+                passed = record { bytes = bytes; four = four; five = five ∙ exists; six = six };
+                newIs = new-are;
+                changeIs = change-is;
+                totalsAre = et;
+                says = ro;
+              })
 
           pub open-cuts : r ≡ 0 → (base : ℕ) → base ≡ total (placesOf 0) (take row (ix .bends)) → Cuts d e row base m q
-          open-cuts r0 base eb =
-              let y = passes r0 in
-              found-cuts d z w ix x e row er open-live q passed (y .0) (y .1) base m eb em (open-exists (cellAt (sheetOf d) e) q k ∙ exists)
+          open-cuts r0 base eb = found-cuts d z w ix x e row er open-live q r asked r0 base m eb em (open-exists (cellAt (sheetOf d) e) q k ∙ exists)

@@ -43,7 +43,7 @@ use Rattle.dropping.proofs.Dropped.{live-id}
 use Rattle.cut.specs.Cuts.{placeOf, noCell, pointPlace, pointOf, openBetween, openPoint, openPlace, partRun, Cuts, Ends, Placed}
 use Rattle.cut.proofs.Made.{made-room, made-is}
 use Rattle.cut.proofs.Closed.{bends-count, bend-at}
-use Rattle.cut.proofs.Found.{sound-in}
+use Rattle.answer.proofs.Asked.{sound-in}
 
 pub open-figure : (o : Option Figure) → isOpen o ≡ true → o ≡ some (openEdge (startOf o) (endOf o) (bendsOf o))
 open-figure none e = absurd (false≢true e)

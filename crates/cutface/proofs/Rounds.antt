@@ -41,7 +41,7 @@ use Rattle.command.specs.Lists.{Stand, numbersRead}
 use Rattle.script.specs.Walks.{Marks}
 use Rattle.outline.specs.Faces.{Within, Spanned, cyclesAt, recycled, Roomy}
 use Rattle.cutface.specs.Rounds.{stayed, left, RoundCut, roundNo}
-use Rattle.outline.proofs.Late.{next-in}
+use Rattle.answer.proofs.Asked.{next-in}
 use Rattle.outline.proofs.Lists.{at-length, along-read, against-read}
 use Rattle.outline.proofs.Moved.{without-kept, chosen-kept}
 use Rattle.outline.proofs.Edits.{room-listed, sheet-listed, first-room, second-room, both-done}

@@ -28,7 +28,7 @@ use Rattle.answer.specs.declared.Totals.{Totals}
 use Rattle.answer.specs.Late.{sizesBy, lateNo}
 use Rattle.answer.proofs.Laws.{totalsIn}
 use Rattle.command.specs.Lists.{numbersRead}
-use Rattle.outline.proofs.Late.{Asked, room}
+use Rattle.answer.proofs.Asked.{Asked, room, asked-of}
 use Rattle.split.specs.Along.{chord, nearSide, farSide, bridge, Along, Halves, Bridged}
 
 -- ---- the questions
@@ -111,7 +111,7 @@ module _ (d : Drawing) (z : Sizes d) (ix : Index) (script : List ℕ) (f c1 s1 c
   ms = numbersRead script place moved
 
   abbrev asks : Type 0
-  asks = Asked d z (a .sound) (cutFaceOpen f c1 s1 c2 s2 bs ms) r
+  asks = Asked d (cutFaceOpen f c1 s1 c2 s2 bs ms) r
 
   pass : Passed (sheetOf d) (cutFaceOpen f c1 s1 c2 s2 bs ms)
   pass = passed (sheetOf d) f c1 s1 c2 s2 bs ms q (a .named .face) (a .corners)
@@ -121,7 +121,8 @@ module _ (d : Drawing) (z : Sizes d) (ix : Index) (script : List ℕ) (f c1 s1 c
 
   pub one-asked : eqb c1 c2 ≡ true → (n : ℕ) → n ≡ aloneIn (getD (cyclesOf (cellAt (sheetOf d) f)) c1 noCycle) → r ≡ lateNo (d .next) 2 (changedBy (sizesBy t) (moreLess (sized 2 1 2 b) (sized 0 0 n 0))) → asks
   one-asked e n en er =
-      record {
+      asked-of d z (a .sound) (cutFaceOpen f c1 s1 c2 s2 bs ms) r
+      (record {
         index = ix;
         indexes = a .named .index;
         new = 2;
@@ -133,12 +134,13 @@ module _ (d : Drawing) (z : Sizes d) (ix : Index) (script : List ℕ) (f c1 s1 c
         changeIs = one-change (sheetOf d) f c1 s1 c2 s2 bs ms e b n many en;
         totalsAre = et;
         says = er;
-      }
+      })
 
   pub two-asked : eqb c1 c2 ≡ false → (n m : ℕ) → n ≡ aloneIn (getD (cyclesOf (cellAt (sheetOf d) f)) c1 noCycle) → m ≡ aloneIn (getD (cyclesOf (cellAt (sheetOf d) f)) c2 noCycle)
       → r ≡ lateNo (d .next) 1 (changedBy (sizesBy t) (moreLess (sized 1 0 2 b) (sized 0 1 (n + m) 0))) → asks
   two-asked e n m en em er =
-      record {
+      asked-of d z (a .sound) (cutFaceOpen f c1 s1 c2 s2 bs ms) r
+      (record {
         index = ix;
         indexes = a .named .index;
         new = 1;
@@ -150,7 +152,7 @@ module _ (d : Drawing) (z : Sizes d) (ix : Index) (script : List ℕ) (f c1 s1 c
         changeIs = two-change (sheetOf d) f c1 s1 c2 s2 bs ms e b n m many en em;
         totalsAre = et;
         says = er;
-      }
+      })
 
 module _ (d : Drawing) (z : Sizes d) (ix : Index) (script : List ℕ) (f bends first moved place : ℕ) where
   abbrev bs′ : List Position
@@ -159,10 +161,10 @@ module _ (d : Drawing) (z : Sizes d) (ix : Index) (script : List ℕ) (f bends f
   abbrev ms′ : List ℕ
   ms′ = numbersRead script place moved
 
-  pub halves : (c s1 s2 : ℕ) (a : Along d ix script f c s1 c s2 bends first moved place) (r : ℕ) → Asked d z (a .sound) (cutFaceOpen f c s1 c s2 bs′ ms′) r → r ≡ 0 → Halves d ix script f c s1 s2 bends first moved place
+  pub halves : (c s1 s2 : ℕ) (a : Along d ix script f c s1 c s2 bends first moved place) (r : ℕ) → Asked d (cutFaceOpen f c s1 c s2 bs′ ms′) r → r ≡ 0 → Halves d ix script f c s1 s2 bends first moved place
   halves c s1 s2 a r k y = record { asked = a; room = room d z (a .sound) (cutFaceOpen f c s1 c s2 bs′ ms′) r k y everyId _ _ (one-result (sheetOf d) f c s1 s2 bs′ ms′) }
 
-  pub bridged : (c1 s1 c2 s2 : ℕ) (a : Along d ix script f c1 s1 c2 s2 bends first moved place) (e : eqb c1 c2 ≡ false) (r : ℕ) → Asked d z (a .sound) (cutFaceOpen f c1 s1 c2 s2 bs′ ms′) r → r ≡ 0
+  pub bridged : (c1 s1 c2 s2 : ℕ) (a : Along d ix script f c1 s1 c2 s2 bends first moved place) (e : eqb c1 c2 ≡ false) (r : ℕ) → Asked d (cutFaceOpen f c1 s1 c2 s2 bs′ ms′) r → r ≡ 0
       → Bridged d ix script f c1 s1 c2 s2 bends first moved place
   bridged c1 s1 c2 s2 a e r k y =
       record { asked = a; apart = e; room = room d z (a .sound) (cutFaceOpen f c1 s1 c2 s2 bs′ ms′) r k y everyId _ _ (two-result (sheetOf d) f c1 s1 c2 s2 bs′ ms′ e) }

@@ -116,7 +116,7 @@ own-cycles (openEdge a b bs) = refl
 own-cycles (closedEdge bs) = refl
 own-cycles (face ks) = refl
 
-own-bends : (x : Figure) → bendsOf (some x) ≡ bendsIn x
+pub own-bends : (x : Figure) → bendsOf (some x) ≡ bendsIn x
 own-bends (vertex p) = refl
 own-bends (openEdge a b bs) = refl
 own-bends (closedEdge bs) = refl

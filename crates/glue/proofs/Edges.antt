@@ -1,5 +1,5 @@
 -- 08: the questions from the index, and what is made. Assumes nothing.
-use Prim.Native.Nat.{ℕ, _+_, _<_}
+use Prim.Native.Nat.{ℕ, _<_}
 use native.Mathlib.Omega.{arith}
 use mathlib.Core.Path.{_≡_, refl, sym, ap, _∙_}
 use mathlib.Core.Bool.{Bool, true, false, not, _&&_, _||_, cond}
@@ -8,13 +8,11 @@ use lib.Dec.{T, eqb, leb}
 use Rattle.complex.specs.Cells.{Figure, vertex, openEdge, closedEdge, face, cellAt, isOpen, isClosed, isEdge, isLive, startOf, endOf}
 use Rattle.complex.specs.Edits.{others, rewired, sameVertex, inPlaceOf}
 use Rattle.complex.specs.Glue.{gluedEdges}
-use Rattle.complex.specs.Sound.{idsEnd}
 use Rattle.complex.specs.Decode.{glueEdges}
 use Rattle.complex.specs.Commands.{question4, question5, question6, result}
 use Rattle.answer.specs.Sizes.{newCells, sizesAfter, sizesFit}
 use Rattle.complex.specs.Answer.{no, asked3}
 use Rattle.complex.proofs.Bools.{true-of, both-true}
-use Rattle.complex.proofs.Keep.{Sound, sound-parts}
 use Rattle.complex.proofs.Asked.{Passed, no-4, no-5, no-6, early, early-none}
 use Rattle.answer.proofs.Sizes.{glue-edges-fits}
 use Rattle.answer.proofs.SizesAfter.{sizes-after}
@@ -25,9 +23,9 @@ use Rattle.store.specs.Sizes.{Sizes}
 use Rattle.store.specs.View.{sheetOf}
 use Rattle.sound.specs.Soundness.{soundDrawing}
 use Rattle.sound.specs.Looks.{told, kindNumber}
-use Rattle.sound.proofs.Meaning.{sound-sheet, looks}
+use Rattle.sound.proofs.Meaning.{looks}
 use Rattle.sound.proofs.Parts.{is-open, is-closed}
-use Rattle.answer.proofs.Laws.{asked-six}
+use Rattle.answer.proofs.Asked.{sound-in, asked-six, asked-still}
 use Rattle.dropping.proofs.Dropped.{remade-rebuild, live-id}
 use Rattle.append.specs.Appends.{remade}
 use Rattle.glue.specs.Questions.{endsMeet, edgesNo}
@@ -52,9 +50,6 @@ by-kinds oa ob same flag m =
     λ i. by (is-open oa i) (is-closed oa i) (is-open ob i) (is-closed ob i)
 
 module _ (d : Drawing) (z : Sizes d) (w : T (soundDrawing d)) (a b flag : ℕ) where
-  sound-in : Sound (sheetOf d)
-  sound-in = sound-parts (sheetOf d) (sound-sheet d w)
-
   module _ (ix : Index) (x : Indexes d ix) (ka kb : ℕ) (meet : Bool) (r : ℕ) (ea : ka ≡ told 4 d ix (ix .kinds) a) (eb : kb ≡ told 4 d ix (ix .kinds) b)
       (em : meet ≡ endsMeet flag (told 0 d ix (ix .starts) a) (told 0 d ix (ix .ends) a) (told 0 d ix (ix .starts) b) (told 0 d ix (ix .ends) b))
       (er : r ≡ edgesNo ka kb (eqb a b) flag meet) where
@@ -106,14 +101,14 @@ module _ (d : Drawing) (z : Sizes d) (w : T (soundDrawing d)) (a b flag : ℕ) w
         let t = both-true (isEdge (cellAt (sheetOf d) a)) (isEdge (cellAt (sheetOf d) b)) (p .four) in
         (edge-live (cellAt (sheetOf d) a) (t .0), edge-live (cellAt (sheetOf d) b) (t .1))
 
-    ids-suffice : leb (sheetOf d .next + newCells (sheetOf d) (glueEdges a b flag)) idsEnd ≡ true
+    none-new : newCells (sheetOf d) (glueEdges a b flag) ≡ 0
     unfolding newCells
-    ids-suffice = let e : sheetOf d .next + 0 ≡ sheetOf d .next = omega arith in ap (λ (n : ℕ). leb n idsEnd) e ∙ true-of (leb (sheetOf d .next) idsEnd) (sound-in .inIds)
+    none-new = refl
 
     sizes-fit : Passed (sheetOf d) (glueEdges a b flag) → sizesFit (sizesAfter (sheetOf d) (glueEdges a b flag)) ≡ true
     sizes-fit p =
-        let q = asked-six d (glueEdges a b flag) sound-in p in
-        sym (sizes-after (sheetOf d) sound-in (glueEdges a b flag) q) ∙ true-of _ (glue-edges-fits (sheetOf d) sound-in a b flag q)
+        let q = asked-six (sheetOf d) (glueEdges a b flag) p in
+        sym (sizes-after (sheetOf d) (sound-in d w) (glueEdges a b flag) q) ∙ true-of _ (glue-edges-fits (sheetOf d) (sound-in d w) a b flag q)
 
     glued-is : remade (others b) (rewired sameVertex (inPlaceOf b a (eqb flag 1))) (sheetOf d) ≡ result (sheetOf d) (glueEdges a b flag)
     unfolding result gluedEdges
@@ -123,8 +118,8 @@ module _ (d : Drawing) (z : Sizes d) (w : T (soundDrawing d)) (a b flag : ℕ) w
     glues-edges e =
         let p = glue-passed e in
         let l = both-live p in
-        (record { passed = p; idsSuffice = ids-suffice; sizesHold = sizes-fit p; live = l .1; is = glued-is }, l .0)
+        (record { asked = asked-still d w (glueEdges a b flag) p none-new (sizes-fit p); live = l .1; is = glued-is }, l .0)
 
   -- a live id's steps are numbers
   pub step-small : (i : ℕ) → isLive (cellAt (sheetOf d) i) ≡ true → i < 2147483648
-  step-small i l = let h = live-id (sheetOf d) sound-in i l in omega arith
+  step-small i l = let h = live-id (sheetOf d) (sound-in d w) i l in omega arith

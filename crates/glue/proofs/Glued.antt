@@ -1,18 +1,15 @@
 -- One cell goes and the others change: the answer of the drawing that is made. Assumes nothing.
-use Prim.Native.Nat.{ℕ, _+_, _≤_}
-use mathlib.Core.Path.{_≡_, _∙_}
+use Prim.Native.Nat.{ℕ, _≤_}
+use mathlib.Core.Path.{_≡_, refl, _∙_}
 use mathlib.Core.Bool.{Bool, true, false}
 use mathlib.Core.List.{List}
-use lib.Dec.{T, leb}
+use lib.Dec.{T}
 use lib.ListN.{length, take, set, replicate}
 use Rattle.complex.specs.Cells.{Figure, cellAt, isLive}
 use Rattle.complex.specs.Edits.{reshape, others}
-use Rattle.complex.specs.Sound.{idsEnd}
 use Rattle.complex.specs.Decode.{Command}
 use Rattle.complex.specs.Commands.{result}
-use Rattle.answer.specs.Sizes.{newCells, sizesAfter, sizesFit}
-use Rattle.complex.proofs.Keep.{sound-parts}
-use Rattle.complex.proofs.Asked.{Passed}
+
 use Rattle.store.specs.declared.Drawing.{Drawing}
 use Rattle.store.specs.declared.Index.{Index}
 use Rattle.store.specs.Index.{Indexes, Rising, rowOf}
@@ -20,11 +17,11 @@ use Rattle.store.specs.Sizes.{Sizes}
 use Rattle.store.specs.View.{sheetOf, Fits}
 use Rattle.store.specs.Edits.{kept, withEntries}
 use Rattle.sound.specs.Soundness.{soundDrawing}
-use Rattle.sound.proofs.Meaning.{sound-fits, sound-sheet, looks}
+use Rattle.sound.proofs.Meaning.{sound-fits, looks}
 use Rattle.append.specs.Appends.{remade}
 use Rattle.answer.specs.declared.Answer.{Answer}
 use Rattle.answer.specs.Answers.{outcome, Counts, Answers}
-use Rattle.answer.proofs.Laws.{counts, answers-done}
+use Rattle.answer.proofs.Asked.{Asked, counts-done, answers}
 use Rattle.dropping.proofs.Dropped.{dropped}
 use Rattle.glue.specs.Questions.{Rows}
 
@@ -38,9 +35,7 @@ look-asks r = (r .few, (r .idRows, (r .valueRows, r .rising)))
 
 -- the command c passes all questions, the cell b goes, and f changes the others
 pub record Glues (d : Drawing) (c : Command) (b : ℕ) (f : ℕ → Figure → Figure) : Type 0 where
-  pub passed : Passed (sheetOf d) c
-  pub idsSuffice : leb (sheetOf d .next + newCells (sheetOf d) c) idsEnd ≡ true
-  pub sizesHold : sizesFit (sizesAfter (sheetOf d) c) ≡ true
+  pub asked : Asked d c 0
   pub live : isLive (cellAt (sheetOf d) b) ≡ true
   pub is : remade (others b) f (sheetOf d) ≡ result (sheetOf d) c
 
@@ -52,7 +47,7 @@ module _ (d : Drawing) (z : Sizes d) (w : T (soundDrawing d)) (c : Command) (b :
   made = dropped d z w ix x b row er (g .live) f mid zm gm em dead ed out eo ∙ g .is
 
   pub glued-counts : Counts (d .next) (d .count) out
-  glued-counts = counts d c (sound-parts (sheetOf d) (sound-sheet d w)) (g .passed) (g .idsSuffice) (g .sizesHold) z (sound-fits d w) out zo go made
+  glued-counts = counts-done d z w c 0 (g .asked) refl out zo go made
 
   pub glued-answers : (r : Answer) → r ≡ outcome (d .next) (d .count) out → Answers d c r
-  glued-answers = answers-done d c (sound-parts (sheetOf d) (sound-sheet d w)) (g .passed) (g .idsSuffice) (g .sizesHold) z (sound-fits d w) out zo go made
+  glued-answers = answers d z w c 0 (g .asked) refl out zo go made

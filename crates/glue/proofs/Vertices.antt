@@ -1,21 +1,19 @@
 -- 07: the questions from the index, and the answer of the drawing that is made. Assumes nothing.
-use Prim.Native.Nat.{ℕ, _+_}
+use Prim.Native.Nat.{ℕ}
 use native.Mathlib.Omega.{arith}
 use mathlib.Core.Path.{_≡_, refl, sym, ap, ap₂, _∙_}
 use mathlib.Core.Bool.{Bool, true, false, not, _&&_, cond}
 use mathlib.Core.Option.{Option, none, some}
-use lib.Dec.{T, eqb, leb}
+use lib.Dec.{T, eqb}
 use Rattle.complex.specs.Lists.{one}
 use Rattle.complex.specs.Cells.{Figure, vertex, openEdge, closedEdge, face, cellAt, isVertex, isLive}
 use Rattle.complex.specs.Edits.{others, rewired}
 use Rattle.complex.specs.Glue.{renamed, gluedVertices}
-use Rattle.complex.specs.Sound.{idsEnd}
 use Rattle.complex.specs.Decode.{glueVertices}
 use Rattle.complex.specs.Commands.{question4, question5, question6, result}
 use Rattle.answer.specs.Sizes.{newCells, sizesAfter, sizesFit}
 use Rattle.complex.specs.Answer.{no, asked3}
 use Rattle.complex.proofs.Bools.{true-of}
-use Rattle.complex.proofs.Keep.{Sound, sound-parts}
 use Rattle.complex.proofs.Asked.{Passed, no-4, no-6, early, early-none}
 use Rattle.answer.proofs.Sizes.{glue-fits}
 use Rattle.answer.proofs.SizesAfter.{sizes-after}
@@ -26,8 +24,8 @@ use Rattle.store.specs.Sizes.{Sizes}
 use Rattle.store.specs.View.{sheetOf}
 use Rattle.sound.specs.Soundness.{soundDrawing}
 use Rattle.sound.specs.Looks.{told}
-use Rattle.sound.proofs.Meaning.{sound-sheet, looks, vertex-at}
-use Rattle.answer.proofs.Laws.{asked-six}
+use Rattle.sound.proofs.Meaning.{looks, vertex-at}
+use Rattle.answer.proofs.Asked.{sound-in, asked-six, asked-still}
 use Rattle.append.specs.Appends.{remade}
 use Rattle.dropping.proofs.Dropped.{remade-rebuild}
 use Rattle.glue.proofs.Glued.{Glues}
@@ -41,9 +39,6 @@ vertex-live (some (closedEdge bs)) e = refl
 vertex-live (some (face ks)) e = refl
 
 module _ (d : Drawing) (z : Sizes d) (w : T (soundDrawing d)) where
-  pub sound-in : Sound (sheetOf d)
-  sound-in = sound-parts (sheetOf d) (sound-sheet d w)
-
   module _ (a b : ℕ) (ix : Index) (x : Indexes d ix) (r : ℕ) (er : r ≡ verticesNo (told 4 d ix (ix .kinds) a) (told 4 d ix (ix .kinds) b) (eqb a b)) where
     abbrev noBy : Bool → Bool → Bool → ℕ
     noBy p q e = cond p (cond q (cond e 6 0) 4) 4
@@ -93,12 +88,12 @@ module _ (d : Drawing) (z : Sizes d) (w : T (soundDrawing d)) where
         go true true false ep eq ee = (record { bytes = bytes; four = four true true ep eq; five = five; six = six false ee }, eq)
 
   module _ (a b : ℕ) (p : Passed (sheetOf d) (glueVertices a b)) where
-    ids-suffice : leb (sheetOf d .next + newCells (sheetOf d) (glueVertices a b)) idsEnd ≡ true
+    none-new : newCells (sheetOf d) (glueVertices a b) ≡ 0
     unfolding newCells
-    ids-suffice = let e : sheetOf d .next + 0 ≡ sheetOf d .next = omega arith in ap (λ (n : ℕ). leb n idsEnd) e ∙ true-of (leb (sheetOf d .next) idsEnd) (sound-in .inIds)
+    none-new = refl
 
     sizes-fit : sizesFit (sizesAfter (sheetOf d) (glueVertices a b)) ≡ true
-    sizes-fit = sym (sizes-after (sheetOf d) sound-in (glueVertices a b) (asked-six d (glueVertices a b) sound-in p)) ∙ true-of _ (glue-fits (sheetOf d) sound-in a b (asked-six d (glueVertices a b) sound-in p))
+    sizes-fit = sym (sizes-after (sheetOf d) (sound-in d w) (glueVertices a b) (asked-six (sheetOf d) (glueVertices a b) p)) ∙ true-of _ (glue-fits (sheetOf d) (sound-in d w) a b (asked-six (sheetOf d) (glueVertices a b) p))
 
     glued-is : remade (others b) (rewired (renamed a b) one) (sheetOf d) ≡ result (sheetOf d) (glueVertices a b)
     unfolding result gluedVertices
@@ -108,9 +103,7 @@ module _ (d : Drawing) (z : Sizes d) (w : T (soundDrawing d)) where
   glues-vertices a b ix x r er e =
       let p = glue-passed a b ix x r er e in
       record {
-        passed = p .0;
-        idsSuffice = ids-suffice a b (p .0);
-        sizesHold = sizes-fit a b (p .0);
+        asked = asked-still d w (glueVertices a b) (p .0) (none-new a b (p .0)) (sizes-fit a b (p .0));
         live = vertex-live (cellAt (sheetOf d) b) (p .1);
         is = glued-is a b (p .0);
       }

@@ -1,5 +1,4 @@
 pub mod Rows
-pub mod Late
 pub mod Lists
 pub mod Edits
 pub mod Moved

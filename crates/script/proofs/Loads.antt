@@ -5,7 +5,7 @@ use mathlib.Core.List.{List, [], _∷_, map, append-nil}
 use Prim.Native.Nat.{ℕ, _+_, _-_, _≤_, _<_}
 use native.Mathlib.Numerals.{add-one}
 use native.Mathlib.Omega.{arith}
-use lib.ListN.{length, getD, set, take, drop, length-map, length-append, length-set}
+use lib.ListN.{length, getD, set, take, drop, length-map, length-set}
 use lib.Seq.{sets, length-sets, sets-eq, take-at, getD-set-same}
 use Rattle.number.specs.Readers.{Read, got, bad, andThen, times, spread}
 use Rattle.number.specs.Numbers.{readNumber}
@@ -17,7 +17,7 @@ use Rattle.complex.specs.Cells.{Cycle, lone, path}
 use Rattle.complex.specs.Sound.{stepCount}
 use Rattle.complex.specs.Decode.{readCycle}
 use Rattle.store.specs.Sheet.{real}
-use Rattle.store.specs.Places.{word, numOf, stepsIn}
+use Rattle.store.specs.Places.{numOf, stepsIn}
 use Rattle.store.specs.Edits.{placesOf}
 use Rattle.store.specs.Pools.{Held}
 use Rattle.store.proofs.Encode.{places-size, all-places}

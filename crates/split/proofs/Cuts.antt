@@ -31,7 +31,7 @@ use Rattle.append.proofs.Appended.{appended-one}
 use Rattle.append.proofs.Rooms.{below, room-first}
 use Rattle.command.specs.Lists.{numbersRead}
 use Rattle.outline.specs.Faces.{Named, Spanned, Roomy, cyclesAt, recycled}
-use Rattle.outline.proofs.Late.{next-in}
+use Rattle.answer.proofs.Asked.{next-in}
 use Rattle.outline.proofs.Rows.{list-steps, roomy, spare-steps}
 use Rattle.outline.proofs.Edits.{room-listed, sheet-listed, room-after, first-room, second-room, both-done}
 use Rattle.split.specs.declared.Place.{Place}

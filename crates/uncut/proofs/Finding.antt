@@ -1,5 +1,5 @@
 -- The case that the code finds in a drawing's arrays, and a no to questions 4 and 6. Assumes nothing.
-use Prim.Native.Nat.{ℕ, zero, suc, _+_, _≤_, _<_}
+use Prim.Native.Nat.{ℕ, zero, suc, _≤_, _<_}
 use mathlib.Core.Path.{_≡_, refl, ap, ap₂, sym, _∙_}
 use mathlib.Core.Bool.{Bool, true, false, _||_, cond}
 use native.Mathlib.Omega.{arith}
@@ -11,6 +11,7 @@ use Rattle.complex.specs.Cells.{cellAt, isVertex, isOpen, isClosed, isEdge, isV
 use Rattle.complex.specs.Decode.{uncut}
 use Rattle.complex.specs.Uses.{loneUse, usesOf}
 use Rattle.complex.specs.Uncut.{refused, uncutCase, allowed}
+use Rattle.complex.proofs.Bools.{or-none}
 use Rattle.store.specs.declared.Drawing.{Drawing}
 use Rattle.store.specs.declared.Index.{Index}
 use Rattle.store.specs.declared.Cell.{Cell}
@@ -25,7 +26,7 @@ use Rattle.sound.proofs.Meaning.{sound-fits, looks, vertex-at, open-at, closed-
 use Rattle.answer.specs.declared.Answer.{Answer}
 use Rattle.answer.specs.Answers.{refusal, Answers}
 use Rattle.answer.proofs.Laws.{answers-no}
-use Rattle.outline.proofs.Late.{sound-in}
+use Rattle.answer.proofs.Asked.{sound-in}
 use Rattle.uncut_case.specs.declared.Uses.{Uses}
 use Rattle.uncut_case.specs.declared.AtEdge.{AtEdge}
 use Rattle.uncut_case.specs.declared.AtVertex.{AtVertex}
@@ -41,9 +42,6 @@ use Rattle.uncut.proofs.Cases.{vertex-told, open-told, closed-told}
 module _ (d : Drawing) (z : Sizes d) (w : T (soundDrawing d)) (ix : Index) (x : Indexes d ix) where
   total-is : total (placesOf 0) (take (d .count) (ix .cycles)) ≡ cycleTotal d
   total-is = ap (total (placesOf 0)) (x .cycles) ∙ places-sum (λ (c : Cell). cycleCount (c .shape)) (take (d .count) (d .cells))
-
-  pub counting : (0 + d .count ≤ length (ix .cycles)) × (total (placesOf 0) (take (d .count) (ix .cycles)) ≤ 2048)
-  counting = let f = sound-fits d w in let t = total-is in (omega (arith, f .cells, x .sizes .5), omega (arith, f .cycles))
 
   -- ---- a vertex
   module _ (v m : ℕ) (em : m ≡ total (placesOf 0) (take (d .count) (ix .cycles))) where
@@ -64,10 +62,6 @@ module _ (d : Drawing) (z : Sizes d) (w : T (soundDrawing d)) (ix : Index) (x : 
   module _ (e : ℕ) (u : Uses) (eu : u ≡ usesTwo (usesIn e (take (d .count) (ix .ids)) (take (d .count) (ix .cycles)) (cyclesOf (d .cycles) (d .steps)))) (g : isEdge (cellAt (sheetOf d) e) ≡ true) where
     uses-is : u ≡ usesTwo (usesOf (sheetOf d .cells) e)
     uses-is = eu ∙ ap usesTwo (uses-are d z (sound-fits d w) ix x e)
-
-    or-none : (b : Bool) → b || false ≡ b
-    or-none true = refl
-    or-none false = refl
 
     pub edge-found : (closed : Bool) → isClosed (cellAt (sheetOf d) e) ≡ closed → (c : AtEdge) → c ≡ cond closed (closedCase u) (openCase u) → uncutCase (sheetOf d) e ≡ edgeOf e c
     edge-found true k c q = closed-told (sheetOf d) (sound-in d w) e k c (q ∙ ap closedCase uses-is ∙ closed-case (usesOf (sheetOf d .cells) e))

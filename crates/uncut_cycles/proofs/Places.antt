@@ -1,7 +1,7 @@
 -- One cycle of a face: its steps, another in its place, and the others. Assumes nothing.
 use Prim.Native.Nat.{ℕ, suc, _+_, _<_, _≤_}
 use mathlib.Core.Path.{_≡_, refl, ap, ap₂, sym, _∙_}
-use mathlib.Core.Bool.{Bool, true, false, cond, _||_}
+use mathlib.Core.Bool.{Bool, true, false, _||_}
 use mathlib.Core.List.{List, [], _∷_, _++_}
 use native.Mathlib.Omega.{arith}
 use borrow.Author.Tests.{eqb-true, eqb-false}
@@ -12,7 +12,7 @@ use Rattle.complex.specs.Lists.{total, one, without}
 use Rattle.complex.specs.Cells.{Cycle, path}
 use Rattle.complex.specs.Sound.{stepCount}
 use Rattle.complex.specs.Cut.{noCycle}
-use Rattle.store.specs.View.{width, widthSum, cycleOf, cyclesOf}
+use Rattle.store.specs.View.{width, widthSum, cycleOf}
 use Rattle.store.specs.Edits.{kept}
 use Rattle.store.proofs.Lists.{sum-more, sum-le}
 use Rattle.cycles.specs.declared.Used.{Used}
@@ -22,7 +22,7 @@ use Rattle.script.specs.Walks.{Marks}
 use Rattle.outline.specs.Arcs.{CopyRoom, Placed}
 use Rattle.outline.proofs.Lists.{kept-none, at-length, built-as}
 use Rattle.outline.proofs.Moved.{without-kept}
-use Rattle.outline.proofs.Rows.{list-steps}
+use Rattle.outline.proofs.Splits.{kept-steps}
 use Rattle.uncut_cycles.specs.declared.Place.{Place}
 use Rattle.uncut_cycles.specs.Paths.{listAt, stepsAt, Lies, Instead, Besides}
 use Rattle.uncut_cycles.proofs.Paths.{few-left}
@@ -35,16 +35,6 @@ kept-length (b ∷ bs) [] (y ∷ ys) e = absurd (omega arith)
 kept-length (b ∷ bs) (x ∷ xs) [] e = absurd (omega arith)
 kept-length (true ∷ bs) (x ∷ xs) (y ∷ ys) e = kept-length bs xs ys (omega arith)
 kept-length (false ∷ bs) (x ∷ xs) (y ∷ ys) e = ap suc (kept-length bs xs ys (omega arith))
-
-kept-steps : (bs : List Bool) (ns st : List ℕ) → widthSum ns ≤ length st → total stepCount (kept bs (cyclesOf ns st)) ≡ widthSum (kept bs ns)
-kept-steps [] ns st h = refl
-kept-steps (b ∷ bs) [] st h = refl
-kept-steps (b ∷ bs) (n ∷ ns) st h = go b (list-steps (n ∷ []) st (omega arith)) (kept-steps bs ns (drop (width n) st) (omega (arith, length-drop (width n) st)))
-  where
-    go : (b : Bool) → total stepCount (cycleOf n st ∷ []) ≡ widthSum (n ∷ []) → total stepCount (kept bs (cyclesOf ns (drop (width n) st))) ≡ widthSum (kept bs ns)
-        → total stepCount (cond b (kept bs (cyclesOf ns (drop (width n) st))) (cycleOf n st ∷ kept bs (cyclesOf ns (drop (width n) st)))) ≡ widthSum (cond b (kept bs ns) (n ∷ kept bs ns))
-    go true e f = f
-    go false e f = omega arith
 
 -- ---- the flags of one cycle
 one-marked : (c : ℕ) → c < 512 → Marks (one c) (set (replicate 512 false) c true)

@@ -31,9 +31,9 @@ use Rattle.answer.specs.Late.{sizesBy, lateNo}
 use Rattle.answer.proofs.Laws.{totalsIn, totals-are}
 use Rattle.outline.specs.Faces.{Roomy}
 use Rattle.outline.proofs.Rows.{roomy}
-use Rattle.outline.proofs.Late.{Asked, sound-in, next-in, refuses, room, counts-done, answers}
 use Rattle.uncut_case.proofs.Passing.{uncut-passed, uncut-result}
 use Rattle.answer.proofs.SizesUncut.{uncut-new, uncut-change}
+use Rattle.answer.proofs.Asked.{Asked, sound-in, next-in, refuses, room, counts-done, answers, asked-of}
 use Rattle.uncut_case.specs.declared.Use.{Use}
 use Rattle.uncut_edge.specs.Needs.{useAt, Case}
 
@@ -90,9 +90,10 @@ module _ (d : Drawing) (z : Sizes d) (w : T (soundDrawing d)) (ix : Index) (x : 
     abbrev change : Change
     change = uncutChange (sheetOf d) e k
 
-    pub asked : (r : ℕ) → r ≡ late change → Asked d z w (uncut e) r
+    pub asked : (r : ℕ) → r ≡ late change → Asked d (uncut e) r
     asked r q =
-        record {
+        asked-of d z w (uncut e) r
+        (record {
           index = ix;
           indexes = x;
           new = 0;
@@ -104,7 +105,7 @@ module _ (d : Drawing) (z : Sizes d) (w : T (soundDrawing d)) (ix : Index) (x : 
           changeIs = uncut-change (sheetOf d) e k h;
           totalsAre = refl;
           says = q;
-        }
+        })
 
     module _ (r : ℕ) (q : r ≡ late change) (y : r ≡ 0) where
       pub case-of : (p : ℕ → Bool) (f : ℕ → Figure → Figure) → uncutResult (sheetOf d) e k ≡ rebuild p f [] (sheetOf d) → Case d ix e k

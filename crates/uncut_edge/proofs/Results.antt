@@ -28,7 +28,7 @@ use Rattle.cycles.specs.declared.Used.{Used as Taken}
 use Rattle.cycles.specs.Building.{Built, built}
 use Rattle.outline.specs.Faces.{Roomy, Rows}
 use Rattle.outline.proofs.Edits.{rows-in, named-in}
-use Rattle.outline.proofs.Late.{sound-in}
+use Rattle.answer.proofs.Asked.{sound-in}
 use Rattle.outline.proofs.Lists.{built-as}
 use Rattle.uncut_case.specs.declared.Use.{Use}
 use Rattle.uncut_cycles.specs.declared.Place.{Place}

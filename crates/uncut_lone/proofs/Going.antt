@@ -40,7 +40,7 @@ use Rattle.outline.specs.Faces.{Named, Spanned, cyclesAt, Roomy}
 use Rattle.outline.proofs.Lists.{at-length}
 use Rattle.outline.proofs.Rows.{roomy}
 use Rattle.outline.proofs.Edits.{named-in}
-use Rattle.outline.proofs.Late.{sound-in, next-in, Asked, room}
+use Rattle.answer.proofs.Asked.{sound-in, next-in, Asked, room, asked-of}
 use Rattle.dropping.proofs.Dropped.{remade-rebuild}
 use Rattle.uncut_case.proofs.Passing.{uncut-passed, uncut-result}
 use Rattle.answer.proofs.SizesUncut.{uncut-new, uncut-change}
@@ -62,9 +62,6 @@ module _ (d : Drawing) (z : Sizes d) (w : T (soundDrawing d)) (v : ℕ) (e : unc
 
   module _ (ix : Index) (x : Indexes d ix) where
     -- ---- what the search asks
-    pub counting : (0 + d .count ≤ length (ix .cycles)) × (total (placesOf 0) (take (d .count) (ix .cycles)) ≤ 2048)
-    counting = let k = summed d z (sound-fits d w) ix x in let r = k .cycleRows in let s = k .cycleSum in (omega arith, omega arith)
-
     module _ (m : ℕ) (em : m ≡ total (placesOf 0) (take (d .count) (ix .cycles))) where
       pub seeking : (length (d .cycles) ≡ 512) × ((length (d .steps) ≡ 2048) × ((m ≤ 512) × (widthSum (take m (d .cycles)) ≤ 2048)))
       seeking =
@@ -124,9 +121,10 @@ module _ (d : Drawing) (z : Sizes d) (w : T (soundDrawing d)) (v : ℕ) (e : unc
               ∙ ap₂ (λ (i : ℕ) (l : List Cycle). rebuild (neither v v) (replaced i (face l)) [] (sheetOf d)) f-is (sym (q ∙ ap (without (one (h .place)) 0) (s .list ∙ cycles-of)))
 
     -- ---- questions 7 and 8 get a yes
-    pub asked : Asked d z w (uncut v) 0
+    pub asked : Asked d (uncut v) 0
     asked =
-        record {
+        asked-of d z w (uncut v) 0
+        (record {
           index = ix;
           indexes = x;
           new = 0;
@@ -138,7 +136,7 @@ module _ (d : Drawing) (z : Sizes d) (w : T (soundDrawing d)) (v : ℕ) (e : unc
           changeIs = uncut-change (sheetOf d) v lonely e;
           totalsAre = refl;
           says = sym (ap₂ (λ (a b : Bool). cond a (cond b 0 8) 7) (le-leb (d .next + 0) idsEnd (let n = next-in d w in omega arith)) (fewer (d .count) _ _ _ (sound-fits d w .cells) (sums .cycleSum) (sums .stepSum) (sums .bendSum)));
-        }
+        })
       where
         sums : Summed (ix .bends) (ix .cycles) (d .count) (d .cycles)
         sums = summed d z (sound-fits d w) ix x

@@ -37,9 +37,9 @@ use Rattle.cut.specs.Cuts.{placeOf, noCell}
 use Rattle.cut.proofs.Found.{row-below, own-count, own-base, read-row}
 use Rattle.cut.proofs.Opened.{vertex-place}
 use Rattle.cut.proofs.OpenAnswer.{uses-are}
-use Rattle.outline.proofs.Late.{sound-in, Asked, room}
 use Rattle.uncut_case.proofs.Passing.{uncut-passed, uncut-result}
 use Rattle.answer.proofs.SizesUncut.{uncut-new, uncut-change}
+use Rattle.answer.proofs.Asked.{sound-in, Asked, room, asked-of}
 use Rattle.uncut_vertex.specs.declared.Side.{Side}
 use Rattle.uncut_vertex.specs.Needs.{Pair, Triple, Looped, Merged, leaving, Sided, jointRuns, Joint}
 use Rattle.uncut_vertex.proofs.Joining.{pair-bends, joined-back, joined-forth, joint-back, joint-forth}
@@ -47,9 +47,10 @@ use Rattle.uncut_vertex.proofs.Told.{AtLoop, AtJoint, loop-told, joint-
 
 -- ---- questions 7 and 8 of 0E in the case k
 pub asked : (d : Drawing) (z : Sizes d) (w : T (soundDrawing d)) (v : ℕ) (k : Uncut) → uncutCase (sheetOf d) v ≡ k → allowed k ≡ true → (ix : Index) (x : Indexes d ix) (t more less : Totals) → t ≡ totalsIn d z (sound-fits d w) ix x
-    → uncutChange (sheetOf d) v k ≡ moreLess (sizesBy more) (sizesBy less) → (r : ℕ) → r ≡ lateNo (d .next) (newByUncut k) (changedBy (sizesBy t) (moreLess (sizesBy more) (sizesBy less))) → Asked d z w (uncut v) r
+    → uncutChange (sheetOf d) v k ≡ moreLess (sizesBy more) (sizesBy less) → (r : ℕ) → r ≡ lateNo (d .next) (newByUncut k) (changedBy (sizesBy t) (moreLess (sizesBy more) (sizesBy less))) → Asked d (uncut v) r
 asked d z w v k h a ix x t more less et ec r er =
-    record {
+    asked-of d z w (uncut v) r
+    (record {
       index = ix;
       indexes = x;
       new = newByUncut k;
@@ -61,7 +62,7 @@ asked d z w v k h a ix x t more less et ec r er =
       changeIs = uncut-change (sheetOf d) v k h ∙ ec;
       totalsAre = et;
       says = er;
-    }
+    })
 
 -- ---- rows in an index
 module _ (d : Drawing) (z : Sizes d) (w : T (soundDrawing d)) (ix : Index) (x : Indexes d ix) where
@@ -102,13 +103,13 @@ module _ (d : Drawing) (z : Sizes d) (w : T (soundDrawing d)) (ix : Index) (x : 
 -- ---- both ends of the edge e
 module _ (d : Drawing) (z : Sizes d) (w : T (soundDrawing d)) (v e : ℕ) (h : uncutCase (sheetOf d) v ≡ loop e) where
   pub loop-asked : (ix : Index) (x : Indexes d ix) (t : Totals) → t ≡ totalsIn d z (sound-fits d w) ix x
-      → (r : ℕ) → r ≡ lateNo (d .next) 1 (changedBy (sizesBy t) (moreLess (sized 0 0 0 1) (sized 1 0 0 0))) → Asked d z w (uncut v) r
+      → (r : ℕ) → r ≡ lateNo (d .next) 1 (changedBy (sizesBy t) (moreLess (sized 0 0 0 1) (sized 1 0 0 0))) → Asked d (uncut v) r
   loop-asked ix x t et = asked d z w v (loop e) h refl ix x t (record { cells = 0; cycles = 0; steps = 0; bends = 1 }) (record { cells = 1; cycles = 0; steps = 0; bends = 0 }) et refl
 
   pub loop-live : AtLoop (sheetOf d) v e
   loop-live = loop-told (sheetOf d) (sound-in d w) v e h
 
-  pub looped-needs : (r : ℕ) → Asked d z w (uncut v) r → r ≡ 0 → (ix : Index) → Indexes d ix → (a b : ℕ) → a ≡ rowOf v (take (d .count) (ix .ids)) → b ≡ rowOf e (take (d .count) (ix .ids)) → (p : Position) → p ≡ placeOf (getD (d .cells) a noCell .shape)
+  pub looped-needs : (r : ℕ) → Asked d (uncut v) r → r ≡ 0 → (ix : Index) → Indexes d ix → (a b : ℕ) → a ≡ rowOf v (take (d .count) (ix .ids)) → b ≡ rowOf e (take (d .count) (ix .ids)) → (p : Position) → p ≡ placeOf (getD (d .cells) a noCell .shape)
       → (first m : ℕ) → first ≡ total (placesOf 0) (take b (ix .bends)) → m ≡ getD (ix .bends) b 0 → Looped d v a e b p first m
   looped-needs r k y ix x a b ea eb p ep first m ef em =
       let s = sheetOf d in
@@ -204,7 +205,7 @@ module _ (d : Drawing) (z : Sizes d) (ix : Index) (v x : ℕ) (back1 : Bool) (y 
 module _ (d : Drawing) (z : Sizes d) (w : T (soundDrawing d)) (v x : ℕ) (back1 : Bool) (y : ℕ) (back2 : Bool) (h : uncutCase (sheetOf d) v ≡ joint (leaving x back1) (leaving y back2)) where
   -- y's steps are those that the arrays have
   pub joint-asked : (ix : Index) (i : Indexes d ix) (t : Totals) → t ≡ totalsIn d z (sound-fits d w) ix i
-      → (r : ℕ) → r ≡ lateNo (d .next) 1 (changedBy (sizesBy t) (moreLess (sized 0 0 0 1) (sized 2 0 (total (stepUse y) (cyclesOf (take (t .cycles) (d .cycles)) (d .steps))) 0))) → Asked d z w (uncut v) r
+      → (r : ℕ) → r ≡ lateNo (d .next) 1 (changedBy (sizesBy t) (moreLess (sized 0 0 0 1) (sized 2 0 (total (stepUse y) (cyclesOf (take (t .cycles) (d .cycles)) (d .steps))) 0))) → Asked d (uncut v) r
   joint-asked ix i t et =
       let hx = leaving x back1 in
       let hy = leaving y back2 in
@@ -212,7 +213,7 @@ module _ (d : Drawing) (z : Sizes d) (w : T (soundDrawing d)) (v x : ℕ) (back1
       asked d z w v (joint hx hy) h refl ix i t (record { cells = 0; cycles = 0; steps = 0; bends = 1 }) (record { cells = 2; cycles = 0; steps = total (stepUse y) (cyclesOf (take (t .cycles) (d .cycles)) (d .steps)); bends = 0 }) et
       (ap (λ (n : ℕ). moreLess (sized 0 0 0 1) (sized 2 0 n 0)) (uses-are d z w ix i t et y 0 (true-of _ (second-open (sheetOf d) (sound-in d w) v hx hy m))))
 
-  pub joint-meets : (r : ℕ) → Asked d z w (uncut v) r → r ≡ 0 → (ix : Index) → Indexes d ix → Joint d ix v x back1 y back2
+  pub joint-meets : (r : ℕ) → Asked d (uncut v) r → r ≡ 0 → (ix : Index) → Indexes d ix → Joint d ix v x back1 y back2
   joint-meets r k e ix i =
       let s = sheetOf d in
       let f = room d z w (uncut v) r k e (noneOf v x y) (rewired sameVertex (inOne x y (s .next))) (joined (cellAt s) (positionOf (cellAt s v)) (leaving x back1) (leaving y back2) ∷ []) (uncut-result s v (joint (leaving x back1) (leaving y back2)) h) in

@@ -1,19 +1,17 @@
 -- A loop at a vertex becomes a closed edge, and two edges become one. Assumes nothing.
-use Prim.Native.Nat.{ℕ, _+_, _<_, _≤_}
+use Prim.Native.Nat.{ℕ, _+_, _<_}
 use native.Mathlib.Omega.{arith}
 use mathlib.Core.Path.{_≡_, refl, sym, ap, ap₂, _∙_, subst}
-use mathlib.Core.Bool.{Bool, true, false, not, _&&_, cond}
+use mathlib.Core.Bool.{Bool, true, false, not, cond}
 use mathlib.Core.List.{List, [], _∷_, _++_, reverse, reverse-reverse}
 use mathlib.Core.Option.{some}
 use lib.ListN.{length, take}
-use lib.Dec.{T, leb, leb→le}
+use lib.Dec.{T}
 use Rattle.coordinate.specs.declared.Position.{Position}
-use Rattle.complex.specs.Lists.{rising}
 use Rattle.complex.specs.Cells.{Halfedge, Figure, vertex, openEdge, closedEdge, face, Sheet, cellAt, bendsOf, startOf, endOf, headOf, positionOf, ids, origin}
 use Rattle.complex.specs.Edits.{neither, noneOf, rewired, sameVertex, inPlaceOf, rebuild}
-use Rattle.complex.specs.Sound.{sound, idsEnd, ceilings, figuresOk}
+use Rattle.complex.specs.Sound.{sound}
 use Rattle.complex.specs.Uncut.{loop, joint, inOne, bendsAlong, uncutResult}
-use Rattle.complex.proofs.Bools.{both as twice}
 use Rattle.store.specs.declared.Drawing.{Drawing}
 use Rattle.store.specs.Index.{rowOf}
 use Rattle.store.specs.Sizes.{Sizes}
@@ -21,9 +19,8 @@ use Rattle.store.specs.View.{sheetOf, Fits, bendSum}
 use Rattle.store.specs.Places.{bendsIn}
 use Rattle.store.specs.Edits.{appended}
 use Rattle.store.proofs.Stands.{stands, count-is}
-use Rattle.store.proofs.Grow.{next-is}
 use Rattle.sound.specs.Soundness.{soundDrawing}
-use Rattle.sound.proofs.Meaning.{sound-fits, sound-sheet}
+use Rattle.sound.proofs.Meaning.{sound-fits}
 use Rattle.append.specs.declared.Runs.{Runs}
 use Rattle.append.specs.Appends.{remade, RoomIn, Room, figureAt}
 use Rattle.append.specs.Runs.{turn, run, runsOf}
@@ -31,17 +28,6 @@ use Rattle.append.specs.Requirements.{RunsRoom}
 use Rattle.append.proofs.Rooms.{room-first}
 use Rattle.append.proofs.Copied.{row-bends, row-range, row-lookup}
 use Rattle.uncut_vertex.specs.Needs.{Pair, Triple, Looped, Merged}
-
--- the next id is below the end of the ids
-pub next-most : (d : Drawing) → T (soundDrawing d) → d .next ≤ idsEnd
-unfolding sound
-next-most d t =
-    let s = sheetOf d in
-    let a = twice (rising 0 (ids (s .cells)) (s .next)) (leb (s .next) idsEnd && (ceilings (s .cells) && figuresOk (s .cells))) (sound-sheet d t) in
-    let b = twice (leb (s .next) idsEnd) (ceilings (s .cells) && figuresOk (s .cells)) (a .1) in
-    let n = leb→le (s .next) idsEnd (b .0) in
-    let e = next-is d in
-    omega arith
 
 figure-bends : (x : Figure) → bendsIn x ≡ bendsOf (some x)
 figure-bends (vertex p) = refl

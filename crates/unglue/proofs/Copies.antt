@@ -1,29 +1,26 @@
 -- Copies of a vertex or an edge of a sound drawing: what is asked before, and that they are what ungluing makes. Assumes nothing.
-use Prim.Native.Nat.{ℕ, zero, suc, _+_, _-_, _*_, _<_, _≤_}
+use Prim.Native.Nat.{ℕ, zero, suc, _-_, _*_, _<_, _≤_}
 use native.Mathlib.Omega.{arith}
 use mathlib.Core.Path.{_≡_, refl, sym, ap, ap₂, _∙_, subst}
 use mathlib.Core.Bool.{true, false}
 use mathlib.Core.List.{List, [], _∷_, map}
 use mathlib.Core.Option.{Option, none, some}
 use borrow.Author.Tests.{ltb-true, le-leb, lt-leb}
-use lib.Dec.{T, leb, ltb, leb→le}
+use lib.Dec.{T, leb, ltb}
 use lib.ListN.{length, take, drop, replicate, length-map}
 use Rattle.complex.specs.Lists.{total, rising}
 use Rattle.complex.specs.Cells.{Figure, vertex, openEdge, closedEdge, face, LiveCell, Sheet, cellAt, ids, isFace, isLive, isVertexOrEdge, bendsOf, origin}
-use Rattle.complex.specs.Sound.{idsEnd, bendsMost, cyclesIn, stepsIn, bendsIn, over, ceilings}
+use Rattle.complex.specs.Sound.{idsEnd, bendsMost, bendsIn, ceilings}
 use Rattle.complex.specs.Edits.{reshape, everyId}
 use Rattle.complex.specs.Decode.{unglue}
 use Rattle.complex.specs.Uses.{usesBy, onUses}
 use Rattle.complex.specs.Unglue.{copies, parts, ungluing}
 use Rattle.complex.specs.Commands.{question4, question5, question6, result}
-use Rattle.complex.specs.Answer.{no, asked3}
-use Rattle.answer.specs.Sizes.{Sizes as Counted, sized, nothing, moreLess, changedBy, newCells, changeOf, unglueChange, sizesAfter, sizesFit}
-use Rattle.complex.proofs.Bools.{truth, true-of}
+use Rattle.answer.specs.Sizes.{Sizes as Counted, sized, sizesOf, nothing, moreLess, changedBy, newCells, changeOf, unglueChange, sizesAfter}
+use Rattle.complex.proofs.Bools.{true-of}
 use Rattle.complex.proofs.Lookup.{changed, lookup-reshape, ids-reshape, kept-all}
-use Rattle.complex.proofs.Keep.{Sound, sound-parts}
 use Rattle.complex.proofs.Unglue.{over-at, asPart}
-use Rattle.complex.proofs.Asked.{Passed, no-6, early, early-none}
-use Rattle.answer.proofs.SizesAfter.{next-after, sizes-after}
+use Rattle.complex.proofs.Asked.{no-6, early, early-none}
 use Rattle.store.specs.declared.Drawing.{Drawing}
 use Rattle.store.specs.declared.Index.{Index}
 use Rattle.store.specs.declared.Cell.{Cell}
@@ -34,7 +31,7 @@ use Rattle.store.specs.Edits.{withEntries, placesOf}
 use Rattle.store.proofs.Lists.{places-sum}
 use Rattle.store.proofs.Stands.{ids-same}
 use Rattle.sound.specs.Soundness.{soundDrawing}
-use Rattle.sound.proofs.Meaning.{sound-fits, sound-sheet, live-row, found-row, looks}
+use Rattle.sound.proofs.Meaning.{sound-fits, live-row, found-row, looks}
 use Rattle.append.specs.Appends.{appendedAll, remade, RoomIn, figureAt}
 use Rattle.append.specs.Requirements.{CopiesRoom}
 use Rattle.append.proofs.Rooms.{below, room-copies}
@@ -42,7 +39,8 @@ use Rattle.answer.specs.declared.Answer.{Answer}
 use Rattle.answer.specs.declared.Totals.{Totals}
 use Rattle.answer.specs.Answers.{refusal, outcome, Counts, Answers}
 use Rattle.answer.specs.Late.{sizesBy, lateNo, Small}
-use Rattle.answer.proofs.Laws.{asked-six, answers-no, late-refuses, late-passes, counts, answers-done, totalsIn, totals-are, totals-small}
+use Rattle.answer.proofs.Laws.{answers-no, totalsIn, totals-are, totals-small}
+use Rattle.answer.proofs.Asked.{Asked, sound-in, refuses, ids-hold, sizes-hold, counts-done, answers}
 use Rattle.copies.specs.declared.Use.{Use}
 use Rattle.copies.specs.declared.Use.the-variants.{Step, Ring, Lone}
 use Rattle.copies.specs.Copying.{usesIn, copied}
@@ -161,14 +159,6 @@ kept s i (some (openEdge a b bs)) = refl
 kept s i (some (closedEdge bs)) = refl
 kept s i (some (face ks)) = refl
 
-module _ (d : Drawing) (w : T (soundDrawing d)) where
-  pub sound-in : Sound (sheetOf d)
-  sound-in = sound-parts (sheetOf d) (sound-sheet d w)
-
-  pub next-in : d .next ≤ idsEnd
-  unfolding sheetOf
-  next-in = leb→le (d .next) idsEnd (sound-in .inIds)
-
 -- ---- what is counted in the arrays of a drawing, by its index
 module _ (d : Drawing) (z : Sizes d) (w : T (soundDrawing d)) (ix : Index) (x : Indexes d ix) where
   pub ids-rising : Rising (take (d .count) (ix .ids))
@@ -227,35 +217,23 @@ module _ (d : Drawing) (z : Sizes d) (w : T (soundDrawing d)) (i : ℕ) (k : T (
   unfolding newCells
   new-cells = ap (λ (m : ℕ). m - 1) (sym en)
 
-  abbrev have : Totals
-  have = record { cells = length (sheetOf d .cells); cycles = over cyclesIn (sheetOf d .cells); steps = over stepsIn (sheetOf d .cells); bends = over bendsIn (sheetOf d .cells) }
-
-  abbrev more : Totals
-  more = record { cells = n - 1; cycles = 0; steps = 0; bends = (n - 1) * length (bendsOf (cellAt (sheetOf d) i)) }
-
-  abbrev less : Totals
-  less = record { cells = 0; cycles = 0; steps = 0; bends = 0 }
-
   new-change : changeOf (sheetOf d) (unglue i) ≡ unglueChange (n - 1) (cellAt (sheetOf d) i)
   unfolding changeOf
   new-change = ap (λ (m : ℕ). unglueChange (m - 1) (cellAt (sheetOf d) i)) (sym en)
 
   module _ (h : 2 ≤ n) (r : ℕ) (er : r ≡ lateCopies (sheetOf d) i (n - 1)) where
-    passed : Passed (sheetOf d) (unglue i)
-    passed = record { bytes = bytes; four = four; five = five; six = six ∙ le-leb 2 n h }
-
-    late : (r ≡ 0 → ⊥) → asked3 (sheetOf d) (unglue i) ≡ no r (sheetOf d)
-    unfolding sheetOf
-    late = late-refuses d (unglue i) (sound-in d w) passed (n - 1) have more less new-cells new-change refl r er
+    asked : Asked d (unglue i) r
+    unfolding sizesAfter
+    asked =
+        record {
+          passed = record { bytes = bytes; four = four; five = five; six = six ∙ le-leb 2 n h };
+          says = er ∙ ap₂ (lateNo (sheetOf d .next)) (sym new-cells) (ap (changedBy (sizesOf (sheetOf d .cells))) (sym new-change));
+        }
 
     pub late-refused : (r ≡ 0 → ⊥) → (a : Answer) → a ≡ refusal d r → Answers d (unglue i) a
-    late-refused nz a e = answers-no d (sound-fits d w) (unglue i) r a e (late nz)
+    late-refused = refuses d z w (unglue i) r asked
 
     module _ (zero-r : r ≡ 0) where
-      asked : (leb (sheetOf d .next + newCells (sheetOf d) (unglue i)) idsEnd ≡ true) × (sizesFit (sizesAfter (sheetOf d) (unglue i)) ≡ true)
-      unfolding sheetOf
-      asked = late-passes d (unglue i) (sound-in d w) passed (n - 1) have more less new-cells new-change refl r er zero-r
-
       module _ (mid : Drawing) (zm : Sizes mid) (gm : Fits mid) (em : sheetOf mid ≡ withEntries (sheetOf d) (reshape (ungluing (sheetOf d) i (cellAt (sheetOf d) i)) (sheetOf d .cells))) where
         same : cellAt (sheetOf mid) i ≡ cellAt (sheetOf d) i
         same = ap (λ (s : Sheet). cellAt s i) em ∙ lookup-reshape change (sheetOf d .cells) i ∙ kept (sheetOf d) i here
@@ -278,8 +256,8 @@ module _ (d : Drawing) (z : Sizes d) (w : T (soundDrawing d)) (i : ℕ) (k : T (
               parts = omega arith;
               room =
                   record {
-                    ids = subst (λ (s : Sheet). T (leb (s .next) idsEnd)) (sym result-is) (truth (ap (λ (m : ℕ). leb m idsEnd) (next-after (sheetOf d) (unglue i)) ∙ asked .0));
-                    sizes = subst (λ (s : Sheet). T (ceilings (s .cells))) (sym result-is) (truth (sizes-after (sheetOf d) (sound-in d w) (unglue i) (asked-six d (unglue i) (sound-in d w) passed) ∙ asked .1));
+                    ids = subst (λ (s : Sheet). T (leb (s .next) idsEnd)) (sym result-is) (ids-hold d z w (unglue i) r asked zero-r);
+                    sizes = subst (λ (s : Sheet). T (ceilings (s .cells))) (sym result-is) (sizes-hold d z w (unglue i) r asked zero-r);
                   };
             }
 
@@ -304,7 +282,7 @@ module _ (d : Drawing) (z : Sizes d) (w : T (soundDrawing d)) (i : ℕ) (k : T (
 
         module _ (out : Drawing) (zo : Sizes out) (go : Fits out) (eo : sheetOf out ≡ appendedAll (copies n (cellAt (sheetOf mid) i)) (sheetOf mid)) where
           pub out-counts : Counts (d .next) (d .count) out
-          out-counts = counts d (unglue i) (sound-in d w) passed (asked .0) (asked .1) z (sound-fits d w) out zo go (eo ∙ result-is)
+          out-counts = counts-done d z w (unglue i) r asked zero-r out zo go (eo ∙ result-is)
 
           pub out-answers : (a : Answer) → a ≡ outcome (d .next) (d .count) out → Answers d (unglue i) a
-          out-answers = answers-done d (unglue i) (sound-in d w) passed (asked .0) (asked .1) z (sound-fits d w) out zo go (eo ∙ result-is)
+          out-answers = answers d z w (unglue i) r asked zero-r out zo go (eo ∙ result-is)

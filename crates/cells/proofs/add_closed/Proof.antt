@@ -3,7 +3,6 @@ use borrow.Author.Needs.{needs}
 use borrow.Author.Tests.{not-true, not-false}
 use native.Mathlib.Omega.{arith}
 use mathlib.Core.Path.{sym, _∙_}
-use mathlib.Core.Bool.{true, false}
 use lib.Dec.{lit≤}
 use Rattle.bends.specs.Bends.{positionsAt}
 use Rattle.bends.proofs.Laws.{positions-length}
@@ -14,7 +13,8 @@ use Rattle.store.specs.View.{sheetOf}
 use Rattle.store.proofs.Sizes.{sizes}
 use Rattle.sound.proofs.Meaning.{sound-fits}
 use Rattle.answer.proofs.Laws.{answers-no, summed, totals-small}
-use Rattle.cells.proofs.Create.{next-in, no-by-bends, closed-four, closed-five, closed-passed, cell-refuses, cell-room, cell-counts, cell-answers}
+use Rattle.answer.proofs.Asked.{next-in}
+use Rattle.cells.proofs.Create.{no-by-bends, closed-four, closed-five, closed-passed, cell-refuses, cell-room, cell-counts, cell-answers}
 use Rattle.cells.proofs.add_closed.Statement.{statement}
 use Rattle.cells.proofs.add_closed.Tie as tie
 
@@ -67,7 +67,7 @@ cell-no-requires c κs =
     let d = st .args .d in
     let z = sizes d _ (st .good .0) in
     let r = st .fits .count in
-    (next-in d z (st .pre .0) (closedEdge (positionsAt (st .args .script .now) (st .args .first) (st .args .count))), (rw (t .totals-of .ensures) (totals-small d z (sound-fits d (st .pre .0)) (x .index-of .result) (x .index-of .ensures)), (lit≤ tt, (lit≤ tt, omega (arith, c .wide .ensures, r)))))
+    (next-in d (st .pre .0), (rw (t .totals-of .ensures) (totals-small d z (sound-fits d (st .pre .0)) (x .index-of .result) (x .index-of .ensures)), (lit≤ tt, (lit≤ tt, omega (arith, c .wide .ensures, r)))))
 
 refused-requires-3 : tie.Need-refused-requires-3
 refused-requires-3 c κs = search needs

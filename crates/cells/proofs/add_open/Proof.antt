@@ -3,7 +3,6 @@ use borrow.Author.Needs.{needs}
 use borrow.Author.Tests.{not-true, not-false, eq-eqb, ne-eqb}
 use native.Mathlib.Omega.{arith}
 use mathlib.Core.Path.{sym, _∙_}
-use mathlib.Core.Bool.{true, false}
 use lib.Dec.{lit≤}
 use Rattle.bends.specs.Bends.{positionsAt}
 use Rattle.bends.proofs.Laws.{positions-length}
@@ -14,7 +13,8 @@ use Rattle.store.specs.View.{sheetOf}
 use Rattle.store.proofs.Sizes.{sizes}
 use Rattle.sound.proofs.Meaning.{sound-fits, looks}
 use Rattle.answer.proofs.Laws.{answers-no, summed, totals-small}
-use Rattle.cells.proofs.Create.{next-in, no-by-bends, kind-vertex, open-four-start, open-four-end, open-passed, cell-refuses, cell-room, cell-counts, cell-answers}
+use Rattle.answer.proofs.Asked.{next-in, kind-vertex}
+use Rattle.cells.proofs.Create.{no-by-bends, open-four-start, open-four-end, open-passed, cell-refuses, cell-room, cell-counts, cell-answers}
 use Rattle.cells.proofs.add_open.Statement.{statement}
 use Rattle.cells.proofs.add_open.Tie as tie
 
@@ -105,7 +105,7 @@ cell-no-requires c κs =
     let z = sizes d _ (st .good .0) in
     let r = st .fits .count in
     let bs = positionsAt (st .args .script .now) (st .args .first) (st .args .count) in
-    (next-in d z (st .pre .0) (openEdge (st .args .start) (st .args .end) bs), (rw (t .totals-of .ensures) (totals-small d z (sound-fits d (st .pre .0)) (x .index-of .result) (x .index-of .ensures)), (lit≤ tt, (lit≤ tt, omega (arith, c .wide .ensures, r)))))
+    (next-in d (st .pre .0), (rw (t .totals-of .ensures) (totals-small d z (sound-fits d (st .pre .0)) (x .index-of .result) (x .index-of .ensures)), (lit≤ tt, (lit≤ tt, omega (arith, c .wide .ensures, r)))))
 
 refused-requires-4 : tie.Need-refused-requires-4
 refused-requires-4 c κs = search needs

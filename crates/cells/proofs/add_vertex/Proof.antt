@@ -1,8 +1,7 @@
 -- `add_vertex` meets its contract: question 3, then 7 and 8, then the vertex at the end. Assumes nothing.
 use borrow.Author.Needs.{needs}
 use borrow.Author.Tests.{not-true, not-false}
-use mathlib.Core.Path.{sym, _∙_}
-use mathlib.Core.Bool.{false}
+use mathlib.Core.Path.{refl, sym, _∙_}
 use lib.Dec.{lit≤}
 use Rattle.complex.specs.Cells.{vertex}
 use Rattle.complex.specs.Decode.{create}
@@ -11,7 +10,8 @@ use Rattle.store.specs.View.{sheetOf}
 use Rattle.store.proofs.Sizes.{sizes}
 use Rattle.sound.proofs.Meaning.{sound-fits}
 use Rattle.answer.proofs.Laws.{answers-no, summed, totals-small}
-use Rattle.cells.proofs.Create.{next-in, vertex-passed, cell-refuses, cell-room, cell-counts, cell-answers}
+use Rattle.answer.proofs.Asked.{next-in}
+use Rattle.cells.proofs.Create.{vertex-passed, cell-refuses, cell-room, cell-counts, cell-answers}
 use Rattle.cells.proofs.add_vertex.Statement.{statement}
 use Rattle.cells.proofs.add_vertex.Tie as tie
 
@@ -44,7 +44,7 @@ cell-no-requires c κs =
     let st = x .before .before .before in
     let d = st .args .d in
     let z = sizes d _ (st .good .0) in
-    (next-in d z (st .pre) (vertex (st .args .p)), (rw (c .totals-of .ensures) (totals-small d z (sound-fits d (st .pre)) (x .index-of .result) (x .index-of .ensures)), (lit≤ tt, (lit≤ tt, lit≤ tt))))
+    (next-in d (st .pre), (rw (c .totals-of .ensures) (totals-small d z (sound-fits d (st .pre)) (x .index-of .result) (x .index-of .ensures)), (lit≤ tt, (lit≤ tt, lit≤ tt))))
 
 refused-requires-2 : tie.Need-refused-requires-2
 refused-requires-2 c κs = search needs

@@ -1,12 +1,9 @@
 -- `rest` meets its contract: what decoding leaves, or all of it. Assumes nothing.
 use borrow.Author.Needs.{needs}
-use native.Mathlib.Omega.{arith}
 use Prim.Native.Nat.{ℕ, _-_}
 use mathlib.Core.Path.{_≡_, refl, sym, ap, _∙_}
 use mathlib.Core.Bool.{Bool, true, false, cond}
 use mathlib.Core.List.{List}
-use lib.ListN.{length, take, drop, length-drop}
-use lib.Seq.{take-all}
 use Rattle.number.specs.Readers.{Read, got, bad}
 use Rattle.complex.specs.Decode.{Command, decode}
 use Rattle.complex.specs.Answer.{restRead, rest}

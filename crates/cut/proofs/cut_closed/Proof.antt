@@ -5,9 +5,10 @@ use lib.Dec.{lit≤}
 use Rattle.complex.specs.Decode.{cutEdge}
 use Rattle.store.proofs.Sizes.{sizes}
 use Rattle.sound.proofs.Meaning.{sound-fits}
-use Rattle.answer.proofs.Laws.{answers-no, answers-done, counts, summed, totals-small}
-use Rattle.cut.proofs.Found.{sound-in, find-asks, row-below, base-asks, next-in}
-use Rattle.cut.proofs.ClosedAnswer.{closed-live, no-place, passed, refuses, passes, closed-cuts}
+use Rattle.answer.proofs.Laws.{answers-no, summed, totals-small}
+use Rattle.answer.proofs.Asked.{next-in, refuses, counts-done, answers}
+use Rattle.cut.proofs.Found.{find-asks, row-below, base-asks}
+use Rattle.cut.proofs.ClosedAnswer.{closed-live, no-place, asked, closed-cuts}
 use Rattle.cut.proofs.cut_closed.Statement.{statement}
 use Rattle.cut.proofs.cut_closed.Tie as tie
 
@@ -106,7 +107,7 @@ returns-2 c =
     let w = st .pre .0 in
     let ix = st .args .t2 in
     let x = st .pre .1 .1 in
-    answers-no d (sound-fits d w) (cutEdge e q) (ln .late-no .result) _ (c .refused2 .ensures) (refuses d z w e q (st .pre .1 .0) ix x (fd .find .result) (fd .find .ensures) (wd .wide .result) (wd .wide .ensures) (l .if1 .left) (to .totals-of .result) (to .totals-of .ensures) (ln .late-no .result) (ln .late-no .ensures) (c .before .if2 .taken))
+    refuses d z w (cutEdge e q) (ln .late-no .result) (asked d z w e q (st .pre .1 .0) ix x (fd .find .result) (fd .find .ensures) (wd .wide .result) (wd .wide .ensures) (l .if1 .left) (to .totals-of .result) (to .totals-of .ensures) (ln .late-no .result) (ln .late-no .ensures)) (c .before .if2 .taken) _ (c .refused2 .ensures)
 
 slice-aggregate-bend-start : tie.Need-slice-aggregate-bend-start
 slice-aggregate-bend-start c = search needs
@@ -161,8 +162,7 @@ done-requires c κs =
     let w = st .pre .0 in
     let ix = st .args .t2 in
     let x = st .pre .1 .1 in
-    let y = passes d z w e q (st .pre .1 .0) ix x (fd .find .result) (fd .find .ensures) (wd .wide .result) (wd .wide .ensures) (l .if1 .left) (to .totals-of .result) (to .totals-of .ensures) (ln .late-no .result) (ln .late-no .ensures) (l2 .if2 .left) in
-    counts d (cutEdge e q) (sound-in d w) (passed d z w e q (st .pre .1 .0) ix x (fd .find .result) (fd .find .ensures) (wd .wide .result) (wd .wide .ensures) (l .if1 .left)) (y .0) (y .1) z (sound-fits d w) (c .make-loop .result) (sizes (c .make-loop .result) _ (c .make-loop .ok)) (c .make-loop .ensures .1) (c .make-loop .ensures .0)
+    counts-done d z w (cutEdge e q) (ln .late-no .result) (asked d z w e q (st .pre .1 .0) ix x (fd .find .result) (fd .find .ensures) (wd .wide .result) (wd .wide .ensures) (l .if1 .left) (to .totals-of .result) (to .totals-of .ensures) (ln .late-no .result) (ln .late-no .ensures)) (l2 .if2 .left) (c .make-loop .result) (sizes (c .make-loop .result) _ (c .make-loop .ok)) (c .make-loop .ensures .1) (c .make-loop .ensures .0)
 
 returns-3 : tie.Need-returns-3
 returns-3 c =
@@ -181,8 +181,7 @@ returns-3 c =
     let w = st .pre .0 in
     let ix = st .args .t2 in
     let x = st .pre .1 .1 in
-    let y = passes d z w e q (st .pre .1 .0) ix x (fd .find .result) (fd .find .ensures) (wd .wide .result) (wd .wide .ensures) (l .if1 .left) (to .totals-of .result) (to .totals-of .ensures) (ln .late-no .result) (ln .late-no .ensures) (l2 .if2 .left) in
-    answers-done d (cutEdge e q) (sound-in d w) (passed d z w e q (st .pre .1 .0) ix x (fd .find .result) (fd .find .ensures) (wd .wide .result) (wd .wide .ensures) (l .if1 .left)) (y .0) (y .1) z (sound-fits d w) (ml .make-loop .result) (sizes (ml .make-loop .result) _ (ml .make-loop .ok)) (ml .make-loop .ensures .1) (ml .make-loop .ensures .0) _ (c .done .ensures)
+    answers d z w (cutEdge e q) (ln .late-no .result) (asked d z w e q (st .pre .1 .0) ix x (fd .find .result) (fd .find .ensures) (wd .wide .result) (wd .wide .ensures) (l .if1 .left) (to .totals-of .result) (to .totals-of .ensures) (ln .late-no .result) (ln .late-no .ensures)) (l2 .if2 .left) (ml .make-loop .result) (sizes (ml .make-loop .result) _ (ml .make-loop .ok)) (ml .make-loop .ensures .1) (ml .make-loop .ensures .0) _ (c .done .ensures)
 
 pub cut-closed-spec : {M : Type 1} → statement M
 cut-closed-spec =

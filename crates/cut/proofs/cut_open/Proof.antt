@@ -6,9 +6,10 @@ use Rattle.complex.specs.Decode.{cutEdge}
 use Rattle.store.proofs.Sizes.{sizes}
 use Rattle.store.proofs.Stands.{ids-same}
 use Rattle.sound.proofs.Meaning.{sound-fits}
-use Rattle.answer.proofs.Laws.{answers-no, answers-done, counts, summed}
-use Rattle.cut.proofs.Found.{sound-in, find-asks, row-below, base-asks}
-use Rattle.cut.proofs.OpenAnswer.{open-live, counted-in, ends-found, no-place, passed, refuses, passes, open-cuts}
+use Rattle.answer.proofs.Laws.{answers-no, summed}
+use Rattle.answer.proofs.Asked.{refuses, counts-done, answers}
+use Rattle.cut.proofs.Found.{find-asks, row-below, base-asks}
+use Rattle.cut.proofs.OpenAnswer.{open-live, counted-in, ends-found, no-place, asked, open-cuts}
 use Rattle.cut.proofs.cut_open.Statement.{statement}
 use Rattle.cut.proofs.cut_open.Tie as tie
 
@@ -126,7 +127,7 @@ returns-2 c =
     let t = to .totals-of .result in
     let et = to .totals-of .ensures in
     let live = open-live d z w ix x t et e q (st .pre .1 .0) in
-    answers-no d (sound-fits d w) (cutEdge e q) (ln .open-late .result) _ (c .refused2 .ensures) (refuses d z w ix x t et e q (st .pre .1 .0) (fd .find .result) (fd .find .ensures) (wd .wide .result) (wd .wide .ensures) (l .if1 .left) (ln .open-late .result) (ln .open-late .ensures) (c .before .if2 .taken))
+    refuses d z w (cutEdge e q) (ln .open-late .result) (asked d z w ix x t et e q (st .pre .1 .0) (fd .find .result) (fd .find .ensures) (wd .wide .result) (wd .wide .ensures) (l .if1 .left) (ln .open-late .result) (ln .open-late .ensures)) (c .before .if2 .taken) _ (c .refused2 .ensures)
 
 slice-aggregate-bend-start : tie.Need-slice-aggregate-bend-start
 slice-aggregate-bend-start c = search needs
@@ -273,8 +274,7 @@ done-requires c κs =
     let t = to .totals-of .result in
     let et = to .totals-of .ensures in
     let live = open-live d z w ix x t et e q (st .pre .1 .0) in
-    let y = passes d z w ix x t et e q (st .pre .1 .0) (fd .find .result) (fd .find .ensures) (wd .wide .result) (wd .wide .ensures) (l .if1 .left) (ln .open-late .result) (ln .open-late .ensures) (l2 .if2 .left) in
-    counts d (cutEdge e q) (sound-in d w) (passed d z w ix x t et e q (st .pre .1 .0) (fd .find .result) (fd .find .ensures) (wd .wide .result) (wd .wide .ensures) (l .if1 .left)) (y .0) (y .1) z (sound-fits d w) (cp .make-parts .result) (sizes (cp .make-parts .result) _ (cp .make-parts .ok)) (cp .make-parts .ensures .1) (cp .make-parts .ensures .0)
+    counts-done d z w (cutEdge e q) (ln .open-late .result) (asked d z w ix x t et e q (st .pre .1 .0) (fd .find .result) (fd .find .ensures) (wd .wide .result) (wd .wide .ensures) (l .if1 .left) (ln .open-late .result) (ln .open-late .ensures)) (l2 .if2 .left) (cp .make-parts .result) (sizes (cp .make-parts .result) _ (cp .make-parts .ok)) (cp .make-parts .ensures .1) (cp .make-parts .ensures .0)
 
 returns-3 : tie.Need-returns-3
 returns-3 c =
@@ -296,8 +296,7 @@ returns-3 c =
     let t = to .totals-of .result in
     let et = to .totals-of .ensures in
     let live = open-live d z w ix x t et e q (st .pre .1 .0) in
-    let y = passes d z w ix x t et e q (st .pre .1 .0) (fd .find .result) (fd .find .ensures) (wd .wide .result) (wd .wide .ensures) (l .if1 .left) (ln .open-late .result) (ln .open-late .ensures) (l2 .if2 .left) in
-    answers-done d (cutEdge e q) (sound-in d w) (passed d z w ix x t et e q (st .pre .1 .0) (fd .find .result) (fd .find .ensures) (wd .wide .result) (wd .wide .ensures) (l .if1 .left)) (y .0) (y .1) z (sound-fits d w) (cp .make-parts .result) (sizes (cp .make-parts .result) _ (cp .make-parts .ok)) (cp .make-parts .ensures .1) (cp .make-parts .ensures .0) _ (c .done .ensures)
+    answers d z w (cutEdge e q) (ln .open-late .result) (asked d z w ix x t et e q (st .pre .1 .0) (fd .find .result) (fd .find .ensures) (wd .wide .result) (wd .wide .ensures) (l .if1 .left) (ln .open-late .result) (ln .open-late .ensures)) (l2 .if2 .left) (cp .make-parts .result) (sizes (cp .make-parts .result) _ (cp .make-parts .ok)) (cp .make-parts .ensures .1) (cp .make-parts .ensures .0) _ (c .done .ensures)
 
 pub cut-open-spec : {M : Type 1} → statement M
 cut-open-spec =

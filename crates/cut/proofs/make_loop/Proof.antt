@@ -15,10 +15,10 @@ use Rattle.append.proofs.Rooms.{room-first, room-next}
 use Rattle.store.proofs.Sizes.{sizes}
 use Rattle.sound.proofs.Meaning.{sound-fits}
 use Rattle.dropping.proofs.Dropped.{dropped-row}
-use Rattle.cut.proofs.Found.{next-in}
 use Rattle.cut.proofs.Closed.{next-most, closed-read, half-below, edge-small, closed-range, loop-room, loop-made}
 use Rattle.cut.proofs.make_loop.Statement.{statement}
 use Rattle.cut.proofs.make_loop.Tie as tie
+use Rattle.answer.proofs.Asked.{next-in}
 
 add-at : tie.Need-add-at
 add-at c =

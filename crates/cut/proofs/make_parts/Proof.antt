@@ -19,10 +19,10 @@ use Rattle.store.proofs.Sizes.{sizes}
 use Rattle.sound.proofs.Meaning.{sound-fits}
 use Rattle.dropping.proofs.Dropped.{dropped-row}
 use Rattle.cut.specs.Cuts.{partRun}
-use Rattle.cut.proofs.Found.{next-in}
 use Rattle.cut.proofs.Opened.{point-below, ids-rise, start-below, end-below, placed-read, place-below, edge-small, steps-room, part-range, parts-room, parts-made}
 use Rattle.cut.proofs.make_parts.Statement.{statement}
 use Rattle.cut.proofs.make_parts.Tie as tie
+use Rattle.answer.proofs.Asked.{next-in}
 
 add-j : tie.Need-add-j
 add-j c = search needs

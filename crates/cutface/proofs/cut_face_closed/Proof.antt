@@ -24,7 +24,7 @@ use Rattle.answer.specs.declared.Totals.{Totals}
 use Rattle.answer.specs.Late.{sizesBy, lateNo}
 use Rattle.answer.proofs.Laws.{answers-no, summed, totalsIn, totals-small}
 use Rattle.command.specs.Lists.{numbersRead}
-use Rattle.outline.proofs.Late.{Asked, next-in, refuses, room, spare, counts-done, answers}
+use Rattle.answer.proofs.Asked.{Asked, next-in, refuses, room, spare, counts-done, answers, asked-of}
 use Rattle.outline.proofs.Edits.{rows-in, named-in}
 use Rattle.cutface.proofs.Rounds.{round-new, round-more, round-result, round-cut, round-refuses, round-passes}
 use Rattle.cutface.proofs.cut_face_closed.Statement.{statement}
@@ -98,9 +98,10 @@ refused-requires-3 c κs = search needs
 -- what is known where `round_late` has answered
 abbrev asked : (d : Drawing) (z : Sizes d) (w : T (soundDrawing d)) (s : List ℕ) (f bends first moved place : ℕ) → Passed (sheetOf d) (cutFaceClosed f (positionsAt s first bends) (numbersRead s place moved)) → (ix : Index) (x : Indexes d ix)
     (t : Totals) → t ≡ totalsIn d z (sound-fits d w) ix x → (m : ℕ) → m ≡ bends
-    → (r : ℕ) → r ≡ lateNo (d .next) 2 (changedBy (sizesBy t) (moreLess (sized 2 2 2 m) nothing)) → Asked d z w (cutFaceClosed f (positionsAt s first bends) (numbersRead s place moved)) r
+    → (r : ℕ) → r ≡ lateNo (d .next) 2 (changedBy (sizesBy t) (moreLess (sized 2 2 2 m) nothing)) → Asked d (cutFaceClosed f (positionsAt s first bends) (numbersRead s place moved)) r
 asked d z w s f bends first moved place p ix x t et m em r er =
-    record {
+    asked-of d z w (cutFaceClosed f (positionsAt s first bends) (numbersRead s place moved)) r
+    (record {
       index = ix;
       indexes = x;
       new = 2;
@@ -112,7 +113,7 @@ asked d z w s f bends first moved place p ix x t et m em r er =
       changeIs = round-more (sheetOf d) f (positionsAt s first bends) (numbersRead s place moved) m (positions-length s first bends ∙ sym em);
       totalsAre = et;
       says = er;
-    }
+    })
 
 returns-3 : tie.Need-returns-3
 returns-3 c =
@@ -154,7 +155,8 @@ cut-round-requires c κs =
     let y = round-passes d z w (x .index-of .result) (x .index-of .ensures) s (a .f) (a .bends) (a .first) (numbersRead s (a .place) (a .moved)) (n .round-no .result) (n .round-no .ensures) b (e .if2 .left) in
     let k = asked d z w s (a .f) (a .bends) (a .first) (a .moved) (a .place) (y .1 .1) (x .index-of .result) (x .index-of .ensures) (t .totals-of .result) (t .totals-of .ensures) (v .wide .result) (v .wide .ensures) (l .round-late .result) (l .round-late .ensures) in
     let q = cutFaceClosed (a .f) (positionsAt s (a .first) (a .bends)) (numbersRead s (a .place) (a .moved)) in
-    let o = spare d z w q (l .round-late .result) k (c .if3 .left) in
+    let o = spare d z w q (l .round-late .result) k (c .if3 .left) (record { cells = 2; cycles = 2; steps = 2; bends = v .wide .result }) (record { cells = 0; cycles = 0; steps = 0; bends = 0 })
+        (round-more (sheetOf d) (a .f) (positionsAt s (a .first) (a .bends)) (numbersRead s (a .place) (a .moved)) (v .wide .result) (positions-length s (a .first) (a .bends) ∙ sym (v .wide .ensures))) in
     record {
       named = named-in d z w (x .index-of .result) (x .index-of .ensures) (a .f) (y .0);
       sound = w;

@@ -2,7 +2,7 @@
 use borrow.Author.Needs.{needs}
 use borrow.Author.Tests.{not-true, not-false}
 use Prim.Native.Nat.{ℕ}
-use mathlib.Core.Path.{_≡_, sym, _∙_}
+use mathlib.Core.Path.{_≡_, refl, sym, _∙_}
 use mathlib.Core.Bool.{true, false}
 use mathlib.Core.List.{[], _∷_}
 use lib.Dec.{T, lit≤}
@@ -24,7 +24,7 @@ use Rattle.sound.proofs.Meaning.{sound-fits}
 use Rattle.answer.specs.declared.Totals.{Totals}
 use Rattle.answer.specs.Late.{sizesBy, lateNo}
 use Rattle.answer.proofs.Laws.{answers-no, summed, totalsIn, totals-small}
-use Rattle.outline.proofs.Late.{Asked, next-in, refuses, room, counts-done, answers}
+use Rattle.answer.proofs.Asked.{Asked, next-in, refuses, room, counts-done, answers, asked-of}
 use Rattle.outline.proofs.Edits.{rows-in, face-told, named-in}
 use Rattle.cutface.proofs.Edits.{vertex-four, vertex-passed, vertex-new, vertex-more, vertex-result, vertex-cut}
 use Rattle.cutface.proofs.cut_face_vertex.Statement.{statement}
@@ -92,9 +92,10 @@ refused-requires-3 c κs = search needs
 
 -- what is known where `late_no` has answered
 asked : (d : Drawing) (z : Sizes d) (w : T (soundDrawing d)) (f : ℕ) (p : Position) → within p ≡ true → isFace (cellAt (sheetOf d) f) ≡ true → (ix : Index) (x : Indexes d ix) (t : Totals) → t ≡ totalsIn d z (sound-fits d w) ix x
-    → (r : ℕ) → r ≡ lateNo (d .next) 1 (changedBy (sizesBy t) (moreLess (sized 1 1 1 0) nothing)) → Asked d z w (cutFaceVertex f p) r
+    → (r : ℕ) → r ≡ lateNo (d .next) 1 (changedBy (sizesBy t) (moreLess (sized 1 1 1 0) nothing)) → Asked d (cutFaceVertex f p) r
 asked d z w f p b g ix x t et r er =
-    record {
+    asked-of d z w (cutFaceVertex f p) r
+    (record {
       index = ix;
       indexes = x;
       new = 1;
@@ -106,7 +107,7 @@ asked d z w f p b g ix x t et r er =
       changeIs = vertex-more (sheetOf d) f p;
       totalsAre = et;
       says = er;
-    }
+    })
 
 returns-3 : tie.Need-returns-3
 returns-3 c =

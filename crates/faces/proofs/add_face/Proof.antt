@@ -10,7 +10,8 @@ use Rattle.sound.proofs.Meaning.{sound-fits}
 use Rattle.command.specs.Lists.{cyclesRead}
 use Rattle.command.proofs.Laws.{stand-length}
 use Rattle.answer.proofs.Laws.{answers-no, summed, totals-small}
-use Rattle.cells.proofs.Create.{next-in, cell-refuses, cell-room, cell-counts, cell-answers}
+use Rattle.answer.proofs.Asked.{next-in}
+use Rattle.cells.proofs.Create.{cell-refuses, cell-room, cell-counts, cell-answers}
 use Rattle.faces.proofs.Meaning.{rowed, face-refuses, face-passed, no-by-steps}
 use Rattle.faces.proofs.add_face.Statement.{statement}
 use Rattle.faces.proofs.add_face.Tie as tie
@@ -58,7 +59,7 @@ cell-no-requires c κs =
     let st = x .before .before in
     let d = st .args .d in
     let z = sizes d _ (st .good .0) in
-    (next-in d z (st .pre .0) (face (cyclesRead (st .args .script .now) (st .args .first) (st .args .k))), (rw (t .totals-of .ensures) (totals-small d z (sound-fits d (st .pre .0)) (x .index-of .result) (x .index-of .ensures)), (omega (arith, c .wide .ensures, st .fits .k), (omega (arith, c .before .count-cycle-steps .ensures), lit≤ tt))))
+    (next-in d (st .pre .0), (rw (t .totals-of .ensures) (totals-small d z (sound-fits d (st .pre .0)) (x .index-of .result) (x .index-of .ensures)), (omega (arith, c .wide .ensures, st .fits .k), (omega (arith, c .before .count-cycle-steps .ensures), lit≤ tt))))
 
 refused-requires-2 : tie.Need-refused-requires-2
 refused-requires-2 c κs = search needs

@@ -5,9 +5,10 @@ use lib.Dec.{eqb}
 use Rattle.store.proofs.Sizes.{sizes}
 use Rattle.sound.proofs.Meaning.{sound-fits, looks}
 use Rattle.uncut_case.proofs.Meaning.{faces-are}
-use Rattle.uncut.proofs.Finding.{counting, vertex-asks, vertex-found, edge-found, closed-is, is-vertex, is-edge, is-neither}
+use Rattle.uncut.proofs.Finding.{vertex-asks, vertex-found, edge-found, closed-is, is-vertex, is-edge, is-neither}
 use Rattle.uncut.proofs.case_in.Statement.{statement}
 use Rattle.uncut.proofs.case_in.Tie as tie
+use Rattle.answer.proofs.Laws.{counting}
 
 index-of-requires : tie.Need-index-of-requires
 index-of-requires c κs = sound-fits (c .args .d) (c .pre) .cells
@@ -28,7 +29,7 @@ place-sum-requires c κs =
     let x = c .before .before .before .before .before .before .before .before .before .before .before .before in
     let s = x .before in
     let d = s .args .d in
-    counting d (sizes d _ (s .good .0)) (s .pre) (x .index-of .result) (x .index-of .ensures)
+    counting d (sizes d _ (s .good .0)) (sound-fits d (s .pre)) (x .index-of .result) (x .index-of .ensures)
 
 at-vertex-requires : tie.Need-at-vertex-requires
 at-vertex-requires c κs =

@@ -4,7 +4,7 @@ use lib.Dec.{lit≤}
 use Rattle.store.proofs.Sizes.{sizes}
 use Rattle.sound.proofs.Meaning.{sound-fits}
 use Rattle.answer.proofs.Laws.{summed, totals-small}
-use Rattle.outline.proofs.Late.{next-in}
+use Rattle.answer.proofs.Asked.{next-in}
 use Rattle.uncut_edge.proofs.Answering.{one-refuses, one-case, one-counts, one-answers}
 use Rattle.uncut_edge.proofs.one_cycle.Statement.{statement}
 use Rattle.uncut_edge.proofs.one_cycle.Tie as tie

@@ -6,7 +6,7 @@ use Rattle.complex.specs.Uncut.{lonely}
 use Rattle.store.specs.View.{sheetOf}
 use Rattle.store.proofs.Sizes.{sizes}
 use Rattle.sound.proofs.Meaning.{sound-fits}
-use Rattle.outline.proofs.Late.{counts-done, answers}
+use Rattle.answer.proofs.Asked.{counts-done, answers}
 use Rattle.uncut_case.proofs.Passing.{uncut-result}
 use Rattle.uncut_lone.proofs.Going.{asked}
 use Rattle.uncut_lone.proofs.lonely.Statement.{statement}

@@ -7,9 +7,10 @@ use Rattle.sound.proofs.Meaning.{sound-fits, looks}
 use Rattle.cycles.specs.Building.{built}
 use Rattle.outline.proofs.Rows.{in-drawing}
 use Rattle.dropping.proofs.Dropped.{live-below, row-among}
-use Rattle.uncut_lone.proofs.Going.{live, counting, seeking, here, row-below, a-face, it-stays, named, place-below, refaced, roomed}
+use Rattle.uncut_lone.proofs.Going.{live, seeking, here, row-below, a-face, it-stays, named, place-below, refaced, roomed}
 use Rattle.uncut_lone.proofs.without_lone.Statement.{statement}
 use Rattle.uncut_lone.proofs.without_lone.Tie as tie
+use Rattle.answer.proofs.Laws.{counting}
 
 slice-aggregate-place-sum : tie.Need-slice-aggregate-place-sum
 slice-aggregate-place-sum c = search needs
@@ -18,7 +19,7 @@ place-sum-requires : tie.Need-place-sum-requires
 place-sum-requires c κs =
     let st = c .before .before .before .before .before in
     let d = st .args .d in
-    counting d (sizes d _ (st .good .0)) (st .pre .0) (st .args .v) (st .pre .1 .1) (st .args .ix) (st .pre .1 .0)
+    counting d (sizes d _ (st .good .0)) (sound-fits d (st .pre .0)) (st .args .ix) (st .pre .1 .0)
 
 lone-place-requires : tie.Need-lone-place-requires
 lone-place-requires c κs =

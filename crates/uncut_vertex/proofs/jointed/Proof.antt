@@ -8,7 +8,7 @@ use Rattle.store.proofs.Sizes.{sizes}
 use Rattle.sound.proofs.Meaning.{sound-fits}
 use Rattle.answer.proofs.Laws.{summed}
 use Rattle.cut.proofs.OpenAnswer.{counted-in}
-use Rattle.outline.proofs.Late.{refuses, counts-done, answers}
+use Rattle.answer.proofs.Asked.{refuses, counts-done, answers}
 use Rattle.uncut_case.proofs.Passing.{uncut-result}
 use Rattle.uncut_vertex.specs.Needs.{leaving}
 use Rattle.uncut_vertex.proofs.Answering.{joint-asked, joint-meets}

@@ -10,7 +10,7 @@ use Rattle.store.proofs.Sizes.{sizes}
 use Rattle.sound.proofs.Meaning.{sound-fits}
 use Rattle.answer.proofs.Laws.{summed, totals-small}
 use Rattle.cut.proofs.Found.{find-asks, row-below, base-asks}
-use Rattle.outline.proofs.Late.{next-in, refuses, counts-done, answers}
+use Rattle.answer.proofs.Asked.{next-in, refuses, counts-done, answers}
 use Rattle.uncut_case.proofs.Passing.{uncut-result}
 use Rattle.uncut_vertex.proofs.Answering.{loop-live, loop-asked, looped-needs}
 use Rattle.uncut_vertex.proofs.looped.Statement.{statement}

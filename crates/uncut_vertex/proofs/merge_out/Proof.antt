@@ -14,9 +14,9 @@ use Rattle.store.proofs.Sizes.{sizes}
 use Rattle.store.proofs.Grow.{next-is}
 use Rattle.sound.proofs.Meaning.{sound-fits}
 use Rattle.uncut_vertex.proofs.Dropping.{dropped-three}
-use Rattle.uncut_vertex.proofs.Joining.{next-most}
 use Rattle.uncut_vertex.proofs.merge_out.Statement.{statement}
 use Rattle.uncut_vertex.proofs.merge_out.Tie as tie
+use Rattle.answer.proofs.Asked.{next-in}
 
 merge-edge-steps-requires : tie.Need-merge-edge-steps-requires
 merge-edge-steps-requires c κs =
@@ -24,7 +24,7 @@ merge-edge-steps-requires c κs =
     let d = a .d in
     let p = c .pre in
     let w = p .0 .pair .sound in
-    let n = next-most d w in
+    let n = next-in d w in
     (sound-fits d w, (p .1 .0, (p .1 .1 .0, (omega (arith, n), ap (λ (k : ℕ). allReal (spread cyclesAt (reshape (rewired sameVertex (inOne (a .x) (a .y) k)) (sheetOf d .cells)))) (sym (next-is d)) ∙ p .1 .1 .1))))
 
 three-dead-requires : tie.Need-three-dead-requires

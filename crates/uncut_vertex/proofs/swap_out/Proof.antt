@@ -11,16 +11,16 @@ use Rattle.store.proofs.Sizes.{sizes}
 use Rattle.store.proofs.Grow.{next-is}
 use Rattle.sound.proofs.Meaning.{sound-fits}
 use Rattle.dropping.proofs.Both.{dropped-both}
-use Rattle.uncut_vertex.proofs.Joining.{next-most}
 use mathlib.Core.Path.{sym}
 use Rattle.uncut_vertex.proofs.swap_out.Statement.{statement}
 use Rattle.uncut_vertex.proofs.swap_out.Tie as tie
+use Rattle.answer.proofs.Asked.{next-in}
 
 swap-edge-requires : tie.Need-swap-edge-requires
 swap-edge-requires c κs =
     let d = c .args .d in
     let w = c .pre .0 .sound in
-    let n = next-most d w in
+    let n = next-in d w in
     (sound-fits d w, (c .pre .1, omega (arith, n)))
 
 dead-rows-requires : tie.Need-dead-rows-requires

@@ -6,7 +6,6 @@ use mathlib.Core.Path.{ap, _∙_}
 use lib.Dec.{lit≤}
 use Rattle.store.proofs.Sizes.{sizes}
 use Rattle.sound.proofs.Meaning.{sound-fits}
-use Rattle.unglue.proofs.Copies.{next-in}
 use Rattle.complex.specs.Edits.{reshape}
 use Rattle.complex.specs.Uses.{onUses, loneUse}
 use Rattle.complex.specs.Unglue.{newLone}
@@ -16,6 +15,7 @@ use Rattle.unglue.proofs.Ends.{end-rows}
 use Rattle.unglue.proofs.Vertex.{mid-rises, parted}
 use Rattle.unglue.proofs.part_ends.Statement.{statement}
 use Rattle.unglue.proofs.part_ends.Tie as tie
+use Rattle.answer.proofs.Asked.{next-in}
 
 slice-aggregate-new-ends : tie.Need-slice-aggregate-new-ends
 slice-aggregate-new-ends c = search needs

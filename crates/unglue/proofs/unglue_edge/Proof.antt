@@ -30,10 +30,11 @@ use Rattle.answer.specs.declared.Totals.{Totals}
 use Rattle.answer.specs.Answers.{refusal, outcome, Counts, Answers}
 use Rattle.answer.specs.Late.{sizesBy, lateNo}
 use Rattle.answer.proofs.Laws.{summed, totalsIn}
+use Rattle.answer.proofs.Asked.{sound-in, next-in}
 use Rattle.copies.specs.declared.Use.{Use}
 use Rattle.copies.specs.Copying.{usesIn, copied}
 use Rattle.unglue.specs.Unglues.{hasUses, lateCopies}
-use Rattle.unglue.proofs.Copies.{EdgeUses, edge-uses, sound-in, next-in, ids-rising, count-asks, uses-counted, sizes-small, late-are, bends-few, few-refused, late-refused, mid-room, mid-copies, out-counts, out-answers}
+use Rattle.unglue.proofs.Copies.{EdgeUses, edge-uses, ids-rising, count-asks, uses-counted, sizes-small, late-are, bends-few, few-refused, late-refused, mid-room, mid-copies, out-counts, out-answers}
 use Rattle.unglue.proofs.unglue_edge.Statement.{statement}
 use Rattle.unglue.proofs.unglue_edge.Tie as tie
 

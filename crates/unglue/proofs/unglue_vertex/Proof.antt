@@ -29,10 +29,11 @@ use Rattle.answer.specs.declared.Totals.{Totals}
 use Rattle.answer.specs.Answers.{refusal, outcome, Counts, Answers}
 use Rattle.answer.specs.Late.{sizesBy, lateNo}
 use Rattle.answer.proofs.Laws.{summed, totalsIn}
+use Rattle.answer.proofs.Asked.{next-in}
 use Rattle.copies.specs.declared.Use.the-variants.{Lone}
 use Rattle.copies.specs.Copying.{usesIn}
 use Rattle.unglue.specs.Unglues.{lateCopies}
-use Rattle.unglue.proofs.Copies.{next-in, ids-rising, cycles-are, count-asks, uses-counted, sizes-small, late-are, few-refused, late-refused, mid-room, mid-copies, out-counts, out-answers}
+use Rattle.unglue.proofs.Copies.{ids-rising, cycles-are, count-asks, uses-counted, sizes-small, late-are, few-refused, late-refused, mid-room, mid-copies, out-counts, out-answers}
 use Rattle.unglue.proofs.Found.{fresh, vertex-parts, vertex-plain, vertex-bends}
 use Rattle.unglue.proofs.unglue_vertex.Statement.{statement}
 use Rattle.unglue.proofs.unglue_vertex.Tie as tie
