@@ -34,7 +34,8 @@ use Rattle.outline.proofs.Rows.{roomy}
 use Rattle.outline.proofs.Late.{Asked, sound-in, next-in, refuses, room, counts-done, answers}
 use Rattle.uncut_case.proofs.Passing.{uncut-passed, uncut-new, uncut-change, uncut-result}
 use Rattle.uncut_case.specs.declared.Use.{Use}
-use Rattle.uncut_edge.specs.Needs.{useAt, Case}
+use Rattle.uncut_case.specs.Found.{useAt}
+use Rattle.uncut_edge.specs.Needs.{Case}
 
 alone-least : (n : ℕ) → aloneLeft n ≤ 1
 alone-least n = go (eqb n 0)
