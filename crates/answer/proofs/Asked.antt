@@ -12,15 +12,15 @@ use Rattle.complex.specs.Edits.{rebuild}
 use Rattle.complex.specs.Sound.{idsEnd, ceilings, cellsMost, cyclesMost, stepsMost, bendsMost}
 use Rattle.complex.specs.Decode.{Command}
 use Rattle.complex.specs.Commands.{result}
-use Rattle.complex.specs.Sizes.{Change, sizesOf, newCells, changeOf, moreLess, changedBy, sizesAfter, sizesFit}
+use Rattle.answer.specs.Sizes.{Change, sizesOf, newCells, changeOf, moreLess, changedBy, sizesAfter, sizesFit}
 use Rattle.complex.specs.Answer.{removedFrom, firstNo, ofResult, answered, asked3}
 use Rattle.complex.proofs.Bools.{truth, true-of, both}
 use Rattle.complex.proofs.Keep.{Sound, sound-parts}
 use Rattle.complex.proofs.Asked.{early-three, Passed, passed-asked, answered-no, done-counts}
 use Rattle.complex.proofs.Rebuilt.{Rebuilt, result-rebuilt}
 use Rattle.complex.proofs.Claims.{removed-rebuilt}
-use Rattle.complex.proofs.Sizes.{Asked6}
-use Rattle.complex.proofs.SizesAfter.{next-after, sizes-after}
+use Rattle.answer.proofs.Sizes.{Asked6}
+use Rattle.answer.proofs.SizesAfter.{next-after, sizes-after}
 use Rattle.store.specs.declared.Drawing.{Drawing}
 use Rattle.store.specs.declared.Index.{Index}
 use Rattle.store.specs.Index.{Indexes}
@@ -42,7 +42,7 @@ module _ (d : Drawing) (w : T (soundDrawing d)) where
   pub sound-in : Sound (sheetOf d)
   sound-in = sound-parts (sheetOf d) (sound-sheet d w)
 
-  pub next-in : d .next ≤ 65536
+  pub next-in : d .next ≤ idsEnd
   unfolding sheetOf
   next-in = leb→le (d .next) idsEnd (sound-in .inIds)
 

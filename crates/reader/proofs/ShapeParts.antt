@@ -33,9 +33,12 @@ module _ (s : List ℕ) (first : ℕ) (x : Shape) (used : Used) where
 
   shape-loaded : (spots counts steps spots′ counts′ steps′ : List ℕ) (r : Loaded) → Loads spots counts steps spots′ counts′ steps′ r (bendCount x) (cycleCount x)
   shape-loaded spots counts steps spots′ counts′ steps′ (Next next used′) h a c = record { inside = h; spotted = a; filled = c }
-  shape-loaded spots counts steps spots′ counts′ steps′ Refused h a c = (refl, λ bs ks t u f g i j k.
-      let m : t ≡ drop (first + 16 * bendCount x) s = got-rest bs (positionsAt s first (bendCount x)) t (drop (first + 16 * bendCount x) s) (sym f ∙ positions-long s first (bendCount x) h) in
-      c .1 ks u (ap (times readCycle (cycleCount x)) (sym m) ∙ g) j k)
+  shape-loaded spots counts steps spots′ counts′ steps′ Refused h a c = (
+    refl,
+    λ bs ks t u f g i j k.
+        let m : t ≡ drop (first + 16 * bendCount x) s = got-rest bs (positionsAt s first (bendCount x)) t (drop (first + 16 * bendCount x) s) (sym f ∙ positions-long s first (bendCount x) h) in
+        c .1 ks u (ap (times readCycle (cycleCount x)) (sym m) ∙ g) j k,
+  )
 
   pub parts-loaded : (spots counts steps spots′ counts′ steps′ : List ℕ) (r : Loaded) (b k : ℕ) → b ≡ bendCount x → k ≡ cycleCount x → Loads spots counts steps spots′ counts′ steps′ r b k
   parts-loaded spots counts steps spots′ counts′ steps′ r b k e f =

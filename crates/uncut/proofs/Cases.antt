@@ -1,41 +1,25 @@
 -- From the case that the code finds to the case of the definitions. Assumes nothing.
 use Prim.Native.Nat.{ℕ}
-use mathlib.Core.Path.{_≡_, refl, ap, ap₂, sym, _∙_}
-use mathlib.Core.Bool.{Bool, true, false, not, _&&_, cond, false≢true}
-use mathlib.Core.List.{List, [], _∷_}
+use mathlib.Core.Path.{_≡_, refl, ap, sym, _∙_}
+use mathlib.Core.Bool.{Bool, true, false, cond, false≢true}
+use mathlib.Core.List.{List}
 use mathlib.Core.Option.{Option, none, some}
-use lib.Dec.{eqb}
-use Rattle.complex.specs.Cells.{Halfedge, Figure, vertex, openEdge, closedEdge, face, LiveCell, Sheet, cellAt, isVertex, isOpen, isClosed}
-use Rattle.complex.specs.Uses.{Passage, passagesAt, endsAt, loneUse, usesBy, usesOf, Use as Used}
-use Rattle.complex.specs.Uncut.{Uncut, refused, lonely, loop, joint, twoFaces, oneCycle, rings, endsOfOneEdge, doublesBack, staysOnEdge, opposite, uncutVertex, uncutOpen, uncutClosed, uncutFigure, uncutCase}
+use Rattle.complex.specs.Cells.{Figure, vertex, openEdge, closedEdge, face, LiveCell, Sheet, cellAt, isVertex, isOpen, isClosed, isVertexOrEdge}
+use Rattle.complex.specs.Uses.{passagesAt, endsAt, loneUse, usesBy, usesOf}
+use Rattle.complex.specs.Uncut.{Uncut, uncutVertex, uncutOpen, uncutClosed, uncutFigure, uncutCase, allowed}
 use Rattle.complex.proofs.Every.{Every}
+use native.Mathlib.Omega.{arith}
+use Rattle.number.specs.Said.{Said, done, no}
+use Rattle.number.proofs.Laws.{not-done, done-one}
 use Rattle.complex.proofs.UncutEdge.{every-more, Real, own-cells, uses-real}
 use Rattle.complex.proofs.Keep.{Sound}
-use Rattle.uncut_case.specs.declared.AtEdge.{AtEdge}
-use Rattle.uncut_case.specs.declared.AtVertex.{AtVertex}
-use Rattle.uncut_case.specs.Found.{useOf}
-use Rattle.uncut_case.specs.Cases.{vertexCase, edgeCase}
-use Rattle.uncut_edge.specs.Needs.{useAt}
-use Rattle.uncut.specs.Decided.{vertexOf, edgeOf}
+use Rattle.uncut_case.specs.Cases.{uncutSaid}
+use Rattle.uncut_case.proofs.Deciding.{Own}
+use Rattle.uncut.specs.Decided.{uncutAsked}
 
--- ---- a vertex
-vertex-back : (ts : List Passage) (n : ℕ) (l : List Halfedge) → uncutVertex ts n l ≡ vertexOf (vertexCase (uncutVertex ts n l))
-vertex-back ts n [] = go (eqb n 1)
-  where
-    go : (b : Bool) → cond b lonely refused ≡ vertexOf (vertexCase (cond b lonely refused))
-    go true = refl
-    go false = refl
-vertex-back ts n (x ∷ []) = refl
-vertex-back ts n (x ∷ y ∷ []) =
-    go (eqb n 0) (endsOfOneEdge x y) (doublesBack ts) (staysOnEdge ts)
-  where
-    go : (a b c d : Bool) → let k = cond (not a) refused (cond b (cond c refused (loop (x .edge))) (cond d refused (joint x y))) in k ≡ vertexOf (vertexCase k)
-    go false b c d = refl
-    go true true true d = refl
-    go true true false d = refl
-    go true false c true = refl
-    go true false c false = refl
-vertex-back ts n (x ∷ y ∷ z ∷ l) = refl
+-- ---- what is said of a vertex and of an edge is what is asked
+asked-said : (s : Sheet) (i : ℕ) → isVertexOrEdge (cellAt s i) ≡ true → (k : Uncut) → uncutCase s i ≡ k → uncutSaid k ≡ uncutAsked s i
+asked-said s i g k e = sym (ap (λ (b : Bool). cond b (uncutSaid (uncutCase s i)) (no 4)) g ∙ ap uncutSaid e)
 
 figure-vertex : (cs : List LiveCell) (v : ℕ) (o : Option Figure) → isVertex o ≡ true → uncutFigure cs v o ≡ uncutVertex (passagesAt cs v) (usesBy (loneUse v) cs) (endsAt cs v)
 figure-vertex cs v none e = absurd (false≢true e)
@@ -44,47 +28,15 @@ figure-vertex cs v (some (openEdge a b bs)) e = absurd (false≢true e)
 figure-vertex cs v (some (closedEdge bs)) e = absurd (false≢true e)
 figure-vertex cs v (some (face ks)) e = absurd (false≢true e)
 
-pub vertex-told : (s : Sheet) (v : ℕ) → isVertex (cellAt s v) ≡ true → (c : AtVertex) → c ≡ vertexCase (uncutVertex (passagesAt (s .cells) v) (usesBy (loneUse v) (s .cells)) (endsAt (s .cells) v)) → uncutCase s v ≡ vertexOf c
+pub vertex-told : (s : Sheet) (v : ℕ) → isVertex (cellAt s v) ≡ true → isVertexOrEdge (cellAt s v) ≡ true → (x : Said Uncut)
+    → x ≡ uncutSaid (uncutVertex (passagesAt (s .cells) v) (usesBy (loneUse v) (s .cells)) (endsAt (s .cells) v)) → x ≡ uncutAsked s v
 unfolding uncutCase
-vertex-told s v k c e =
-    let cs = s .cells in
-    figure-vertex cs v (cellAt s v) k ∙ vertex-back (passagesAt cs v) (usesBy (loneUse v) cs) (endsAt cs v) ∙ ap vertexOf (sym e)
+vertex-told s v k g x e = e ∙ asked-said s v g _ (figure-vertex (s .cells) v (cellAt s v) k)
 
--- ---- an edge
-abbrev Own : ℕ → Used → Type 0
-Own e u = u .halfedge .edge ≡ e
-
-use-back : (e : ℕ) (u : Used) → Own e u → u ≡ useAt e (useOf u)
-use-back e u q = ap (λ (n : ℕ). record { face = u .face; cycle = u .cycle; step = u .step; halfedge = record { edge = n; backward = u .halfedge .backward } }) q
-
-own-uses : (s : Sheet) → Sound s → (e : ℕ) → Every (Own e) (usesOf (s .cells) e)
+pub own-uses : (s : Sheet) → Sound s → (e : ℕ) → Every (Own e) (usesOf (s .cells) e)
 own-uses s S e =
     every-more (Real (cellAt s) e) (Own e) (λ u r. r .5) (usesOf (s .cells) e)
     (uses-real (cellAt s) e (s .cells) (own-cells (cellAt s) 0 (s .cells) (s .next) (S .rises) (λ i t q. q)))
-
-open-back : (e : ℕ) (l : List Used) → Every (Own e) l → uncutOpen l ≡ edgeOf e (edgeCase (uncutOpen l))
-open-back e [] h = refl
-open-back e (u ∷ []) h = refl
-open-back e (u ∷ w ∷ []) h = go (opposite u w) (eqb (u .face) (w .face)) (eqb (u .cycle) (w .cycle)) (u .halfedge .backward) (use-back e u (h .0)) (use-back e w (h .1 .0))
-  where
-    go : (a b c d : Bool) → u ≡ useAt e (useOf u) → w ≡ useAt e (useOf w)
-        → let k = cond (not a) refused (cond (not b) (twoFaces u w) (cond (not c) refused (cond d (oneCycle u w) (oneCycle w u)))) in k ≡ edgeOf e (edgeCase k)
-    go false b c d p q = refl
-    go true false c d p q = ap₂ twoFaces p q
-    go true true false d p q = refl
-    go true true true true p q = ap₂ oneCycle p q
-    go true true true false p q = ap₂ oneCycle q p
-open-back e (u ∷ w ∷ x ∷ l) h = refl
-
-closed-back : (e : ℕ) (l : List Used) → Every (Own e) l → uncutClosed l ≡ edgeOf e (edgeCase (uncutClosed l))
-closed-back e [] h = refl
-closed-back e (u ∷ []) h = refl
-closed-back e (u ∷ w ∷ []) h = go (opposite u w && not (eqb (u .face) (w .face))) (use-back e u (h .0)) (use-back e w (h .1 .0))
-  where
-    go : (b : Bool) → u ≡ useAt e (useOf u) → w ≡ useAt e (useOf w) → let k = cond b (rings u w) refused in k ≡ edgeOf e (edgeCase k)
-    go true p q = ap₂ rings p q
-    go false p q = refl
-closed-back e (u ∷ w ∷ x ∷ l) h = refl
 
 figure-open : (cs : List LiveCell) (e : ℕ) (o : Option Figure) → isOpen o ≡ true → uncutFigure cs e o ≡ uncutOpen (usesOf cs e)
 figure-open cs e none q = absurd (false≢true q)
@@ -100,11 +52,47 @@ figure-closed cs e (some (openEdge a b bs)) q = absurd (false≢true q)
 figure-closed cs e (some (closedEdge bs)) q = refl
 figure-closed cs e (some (face ks)) q = absurd (false≢true q)
 
-module _ (s : Sheet) (S : Sound s) (e : ℕ) where
-  pub open-told : isOpen (cellAt s e) ≡ true → (c : AtEdge) → c ≡ edgeCase (uncutOpen (usesOf (s .cells) e)) → uncutCase s e ≡ edgeOf e c
+module _ (s : Sheet) (e : ℕ) (g : isVertexOrEdge (cellAt s e) ≡ true) (x : Said Uncut) where
+  pub open-told : isOpen (cellAt s e) ≡ true → x ≡ uncutSaid (uncutOpen (usesOf (s .cells) e)) → x ≡ uncutAsked s e
   unfolding uncutCase
-  open-told k c q = figure-open (s .cells) e (cellAt s e) k ∙ open-back e (usesOf (s .cells) e) (own-uses s S e) ∙ ap (edgeOf e) (sym q)
+  open-told k q = q ∙ asked-said s e g _ (figure-open (s .cells) e (cellAt s e) k)
 
-  pub closed-told : isClosed (cellAt s e) ≡ true → (c : AtEdge) → c ≡ edgeCase (uncutClosed (usesOf (s .cells) e)) → uncutCase s e ≡ edgeOf e c
+  pub closed-told : isClosed (cellAt s e) ≡ true → x ≡ uncutSaid (uncutClosed (usesOf (s .cells) e)) → x ≡ uncutAsked s e
   unfolding uncutCase
-  closed-told k c q = figure-closed (s .cells) e (cellAt s e) k ∙ closed-back e (usesOf (s .cells) e) (own-uses s S e) ∙ ap (edgeOf e) (sym q)
+  closed-told k q = q ∙ asked-said s e g _ (figure-closed (s .cells) e (cellAt s e) k)
+
+pub dead-told : (s : Sheet) (i : ℕ) → isVertexOrEdge (cellAt s i) ≡ false → no 4 ≡ uncutAsked s i
+dead-told s i e = ap (λ (b : Bool). cond b (uncutSaid (uncutCase s i)) (no 4)) (sym e)
+
+-- ---- from an answer to the case
+no-same : (m n : ℕ) → _≡_ {A = Said Uncut} (no m) (no n) → m ≡ n
+no-same m n e = cc
+
+abbrev saidBy : Uncut → Bool → Bool → Said Uncut
+saidBy c a b = cond a (cond b (done c) (no 6)) (no 4)
+
+module _ (c : Uncut) where
+  by-done : (k : Uncut) (a b : Bool) → done k ≡ saidBy c a b → c ≡ k
+  by-done k true true e = sym (done-one k c e)
+  by-done k true false e = absurd (not-done 6 k (sym e))
+  by-done k false b e = absurd (not-done 4 k (sym e))
+
+  by-6 : (a b : Bool) → no 6 ≡ saidBy c a b → (a ≡ true) × (b ≡ false)
+  by-6 true true e = absurd (not-done 6 c e)
+  by-6 true false e = (refl, refl)
+  by-6 false b e = let z = no-same 6 4 e in absurd (omega arith)
+
+  by-4 : (a b : Bool) → no 4 ≡ saidBy c a b → a ≡ false
+  by-4 true true e = absurd (not-done 4 c e)
+  by-4 true false e = let z = no-same 4 6 e in absurd (omega arith)
+  by-4 false b e = refl
+
+module _ (s : Sheet) (i : ℕ) where
+  pub asked-case : {k : Uncut} → done k ≡ uncutAsked s i → uncutCase s i ≡ k
+  asked-case {k} e = by-done (uncutCase s i) k (isVertexOrEdge (cellAt s i)) (allowed (uncutCase s i)) e
+
+  pub asked-6 : no 6 ≡ uncutAsked s i → (isVertexOrEdge (cellAt s i) ≡ true) × (allowed (uncutCase s i) ≡ false)
+  asked-6 e = by-6 (uncutCase s i) (isVertexOrEdge (cellAt s i)) (allowed (uncutCase s i)) e
+
+  pub asked-4 : no 4 ≡ uncutAsked s i → isVertexOrEdge (cellAt s i) ≡ false
+  asked-4 e = by-4 (uncutCase s i) (isVertexOrEdge (cellAt s i)) (allowed (uncutCase s i)) e

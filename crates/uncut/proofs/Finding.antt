@@ -6,11 +6,11 @@ use native.Mathlib.Omega.{arith}
 use lib.Dec.{T, eqb}
 use lib.ListN.{length, take}
 use borrow.Author.Tests.{eq-eqb, ne-eqb}
+use Rattle.number.specs.Said.{no}
 use Rattle.complex.specs.Lists.{total}
 use Rattle.complex.specs.Cells.{cellAt, isVertex, isOpen, isClosed, isEdge, isVertexOrEdge}
 use Rattle.complex.specs.Decode.{uncut}
 use Rattle.complex.specs.Uses.{loneUse, usesOf}
-use Rattle.complex.specs.Uncut.{refused, uncutCase, allowed}
 use Rattle.complex.proofs.Bools.{or-none}
 use Rattle.store.specs.declared.Drawing.{Drawing}
 use Rattle.store.specs.declared.Index.{Index}
@@ -32,12 +32,12 @@ use Rattle.uncut_case.specs.declared.AtEdge.{AtEdge}
 use Rattle.uncut_case.specs.declared.AtVertex.{AtVertex}
 use Rattle.uncut_case.specs.Turns.{Rowed, turnsIn}
 use Rattle.uncut_case.specs.Found.{endsIn, endsOf, usesIn, usesTwo}
-use Rattle.uncut_case.specs.Cases.{endsCase, openCase, closedCase}
+use Rattle.uncut_case.specs.Cases.{vertexSays, edgeSays, EdgeSays, endsCase, openCase, closedCase}
 use Rattle.uncut_case.proofs.Deciding.{open-case, closed-case}
 use Rattle.uncut_case.proofs.Meaning.{rowsIn, rowed-is, vertex-total, uses-are}
 use Rattle.uncut_case.proofs.Passing.{uncut-no-4, uncut-no-6}
-use Rattle.uncut.specs.Decided.{vertexOf, edgeOf}
-use Rattle.uncut.proofs.Cases.{vertex-told, open-told, closed-told}
+use Rattle.uncut.specs.Decided.{uncutAsked}
+use Rattle.uncut.proofs.Cases.{vertex-told, own-uses, open-told, closed-told, asked-6, asked-4}
 
 module _ (d : Drawing) (z : Sizes d) (w : T (soundDrawing d)) (ix : Index) (x : Indexes d ix) where
   total-is : total (placesOf 0) (take (d .count) (ix .cycles)) ≡ cycleTotal d
@@ -52,34 +52,41 @@ module _ (d : Drawing) (z : Sizes d) (w : T (soundDrawing d)) (ix : Index) (x : 
         (rowed-is d f ix x (looks d z ix x w), (z .cycles, (z .steps, (omega (arith, f .cycles), rw e (f .steps)))))
 
     pub vertex-found : isVertex (cellAt (sheetOf d) v) ≡ true → (c : AtVertex)
-        → c ≡ endsCase (turnsIn (rowsIn d ix) true v (cyclesOf (take m (d .cycles)) (d .steps))) (turnsIn (rowsIn d ix) false v (cyclesOf (take m (d .cycles)) (d .steps)))
+        → vertexSays c ≡ endsCase (turnsIn (rowsIn d ix) true v (cyclesOf (take m (d .cycles)) (d .steps))) (turnsIn (rowsIn d ix) false v (cyclesOf (take m (d .cycles)) (d .steps)))
         (total (loneUse v) (cyclesOf (take m (d .cycles)) (d .steps)))
         (endsOf (endsIn v (take (d .count) (ix .ids)) (take (d .count) (ix .kinds)) (take (d .count) (ix .starts)) (take (d .count) (ix .ends))))
-        → uncutCase (sheetOf d) v ≡ vertexOf c
-    vertex-found k c e = vertex-told (sheetOf d) v k c (e ∙ vertex-total d z (sound-fits d w) ix x (looks d z ix x w) v m (em ∙ total-is))
+        → vertexSays c ≡ uncutAsked (sheetOf d) v
+    vertex-found k c e =
+        vertex-told (sheetOf d) v k (ap (λ (b : Bool). b || isEdge (cellAt (sheetOf d) v)) k) (vertexSays c)
+        (e ∙ vertex-total d z (sound-fits d w) ix x (looks d z ix x w) v m (em ∙ total-is))
 
   -- ---- an edge
   module _ (e : ℕ) (u : Uses) (eu : u ≡ usesTwo (usesIn e (take (d .count) (ix .ids)) (take (d .count) (ix .cycles)) (cyclesOf (d .cycles) (d .steps)))) (g : isEdge (cellAt (sheetOf d) e) ≡ true) where
     uses-is : u ≡ usesTwo (usesOf (sheetOf d .cells) e)
     uses-is = eu ∙ ap usesTwo (uses-are d z (sound-fits d w) ix x e)
 
-    pub edge-found : (closed : Bool) → isClosed (cellAt (sheetOf d) e) ≡ closed → (c : AtEdge) → c ≡ cond closed (closedCase u) (openCase u) → uncutCase (sheetOf d) e ≡ edgeOf e c
-    edge-found true k c q = closed-told (sheetOf d) (sound-in d w) e k c (q ∙ ap closedCase uses-is ∙ closed-case (usesOf (sheetOf d .cells) e))
+    or-true : (b : Bool) → b || true ≡ true
+    or-true true = refl
+    or-true false = refl
+
+    is-one : isVertexOrEdge (cellAt (sheetOf d) e) ≡ true
+    is-one = ap (λ (b : Bool). isVertex (cellAt (sheetOf d) e) || b) g ∙ or-true (isVertex (cellAt (sheetOf d) e))
+
+    pub edge-found : (closed : Bool) → isClosed (cellAt (sheetOf d) e) ≡ closed → (c : AtEdge) → EdgeSays c (cond closed (closedCase u) (openCase u)) → edgeSays e c ≡ uncutAsked (sheetOf d) e
+    edge-found true k c q =
+        closed-told (sheetOf d) e is-one (edgeSays e c) k
+        (q e ∙ ap (λ (y : Uses). closedCase y e) uses-is ∙ closed-case e (usesOf (sheetOf d .cells) e) (own-uses (sheetOf d) (sound-in d w) e))
     edge-found false k c q =
-        open-told (sheetOf d) (sound-in d w) e (sym (or-none (isOpen (cellAt (sheetOf d) e))) ∙ ap (λ (b : Bool). isOpen (cellAt (sheetOf d) e) || b) (sym k) ∙ g) c
-        (q ∙ ap openCase uses-is ∙ open-case (usesOf (sheetOf d .cells) e))
+        open-told (sheetOf d) e is-one (edgeSays e c) (sym (or-none (isOpen (cellAt (sheetOf d) e))) ∙ ap (λ (b : Bool). isOpen (cellAt (sheetOf d) e) || b) (sym k) ∙ g)
+        (q e ∙ ap (λ (y : Uses). openCase y e) uses-is ∙ open-case e (usesOf (sheetOf d .cells) e) (own-uses (sheetOf d) (sound-in d w) e))
 
 -- ---- refusals
-pub or-true : (b : Bool) → b || true ≡ true
-or-true true = refl
-or-true false = refl
-
 module _ (d : Drawing) (w : T (soundDrawing d)) (i : ℕ) where
-  pub refuses-6 : isVertexOrEdge (cellAt (sheetOf d) i) ≡ true → uncutCase (sheetOf d) i ≡ refused → (r : Answer) → r ≡ refusal d 6 → Answers d (uncut i) r
-  refuses-6 k e r q = answers-no d (sound-fits d w) (uncut i) 6 r q (uncut-no-6 (sheetOf d) i k (ap allowed e))
+  pub refuses-6 : no 6 ≡ uncutAsked (sheetOf d) i → (r : Answer) → r ≡ refusal d 6 → Answers d (uncut i) r
+  refuses-6 e r q = let a = asked-6 (sheetOf d) i e in answers-no d (sound-fits d w) (uncut i) 6 r q (uncut-no-6 (sheetOf d) i (a .0) (a .1))
 
-  pub refuses-4 : isVertexOrEdge (cellAt (sheetOf d) i) ≡ false → (r : Answer) → r ≡ refusal d 4 → Answers d (uncut i) r
-  refuses-4 e r q = answers-no d (sound-fits d w) (uncut i) 4 r q (uncut-no-4 (sheetOf d) i e)
+  pub refuses-4 : no 4 ≡ uncutAsked (sheetOf d) i → (r : Answer) → r ≡ refusal d 4 → Answers d (uncut i) r
+  refuses-4 e r q = answers-no d (sound-fits d w) (uncut i) 4 r q (uncut-no-4 (sheetOf d) i (asked-4 (sheetOf d) i e))
 
 -- ---- the kind of the cell i, by its number k
 edge-number : (k : ℕ) → (k ≡ 0 → ⊥) → k ≤ 2 → eqb k 1 || eqb k 2 ≡ true

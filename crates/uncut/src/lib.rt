@@ -1,14 +1,12 @@
 ghost use mathlib.Core.Path.{_≡_};
-ghost use mathlib.Core.Bool.{true, cond};
+ghost use mathlib.Core.Bool.{cond};
 ghost use lib.Dec.{T};
-ghost use Rattle.complex.specs.Cells.{cellAt, isVertex, isEdge};
 ghost use Rattle.complex.specs.Decode.{uncut as uncutting};
-ghost use Rattle.complex.specs.Uncut.{uncutCase};
 ghost use Rattle.store.specs.View.{sheetOf};
 ghost use Rattle.sound.specs.Soundness.{soundDrawing};
 ghost use Rattle.answer.specs.Answers.{Answers};
-ghost use Rattle.uncut_case.specs.Cases.{openCase, closedCase};
-ghost use Rattle.uncut.specs.Decided.{vertexOf, edgeOf, Decided};
+ghost use Rattle.uncut_case.specs.Cases.{vertexSays, edgeSays, EdgeSays, openCase, closedCase};
+ghost use Rattle.uncut.specs.Decided.{caseSays, uncutAsked};
 use answer::Answer;
 use store::Drawing;
 use uncut_case::AtEdge;
@@ -23,7 +21,7 @@ enum Case {
 }
 
 fn edge_case(closed: bool, x: Uses) -> AtEdge
-    ensures { λ r. ⌜ r ≡ cond closed (closedCase x) (openCase x) ⌝ }
+    ensures { λ r. ⌜ EdgeSays r (cond closed (closedCase x) (openCase x)) ⌝ }
 {
     if closed {
         return uncut_case::closed_case(x);
@@ -34,7 +32,7 @@ fn edge_case(closed: bool, x: Uses) -> AtEdge
 // The case of 0E at the cell i.
 fn case_in(d: Drawing, i: u32) -> Case
     requires { ⌜ T (soundDrawing d) ⌝ }
-    ensures { λ r. ⌜ Decided (sheetOf d) i r ⌝ }
+    ensures { λ r. ⌜ caseSays i r ≡ uncutAsked (sheetOf d) i ⌝ }
 {
     let ix = store::index_of(d);
     let n = d.count;
@@ -62,8 +60,7 @@ fn case_in(d: Drawing, i: u32) -> Case
 // 0E at a vertex.
 fn at_vertex(d: Drawing, v: u32, c: AtVertex) -> Answer
     requires { ⌜ T (soundDrawing d) ⌝ }
-    requires { ⌜ isVertex (cellAt (sheetOf d) v) ≡ true ⌝ }
-    requires { ⌜ uncutCase (sheetOf d) v ≡ vertexOf c ⌝ }
+    requires { ⌜ vertexSays c ≡ uncutAsked (sheetOf d) v ⌝ }
     ensures { λ r. ⌜ Answers d (uncutting v) r ⌝ }
 {
     match c {
@@ -82,8 +79,7 @@ fn at_vertex(d: Drawing, v: u32, c: AtVertex) -> Answer
 // 0E at an edge, closed or open.
 fn at_edge(d: Drawing, e: u32, c: AtEdge) -> Answer
     requires { ⌜ T (soundDrawing d) ⌝ }
-    requires { ⌜ isEdge (cellAt (sheetOf d) e) ≡ true ⌝ }
-    requires { ⌜ uncutCase (sheetOf d) e ≡ edgeOf e c ⌝ }
+    requires { ⌜ edgeSays e c ≡ uncutAsked (sheetOf d) e ⌝ }
     ensures { λ r. ⌜ Answers d (uncutting e) r ⌝ }
 {
     match c {

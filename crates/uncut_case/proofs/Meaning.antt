@@ -31,7 +31,7 @@ use Rattle.sound.proofs.Meaning.{open-at, ids-are, kinds-are, starts-are, ends-
 use Rattle.sound.proofs.Parts.{idRow, kindRow, startRow, endRow, cycleRow}
 use Rattle.uncut_case.specs.Turns.{Rowed, sideIn, leavesIn, turnsBack, turnsAt, turnsIn}
 use Rattle.uncut_case.specs.Found.{rowEnds, endsIn, endsOf, usesIn, Faces}
-use Rattle.uncut_case.specs.Cases.{vertexCase, endsCase}
+use Rattle.uncut_case.specs.Cases.{uncutSaid, endsCase}
 use Rattle.uncut_case.proofs.Deciding.{vertex-case}
 
 module _ {A : Type 0} where
@@ -116,7 +116,7 @@ pub vertex-is : (d : Drawing) → Sizes d → Fits d → (ix : Index) → Indexe
     → endsCase (turnsIn (rowsIn d ix) true v (cyclesOf (take (cycleTotal d) (d .cycles)) (d .steps))) (turnsIn (rowsIn d ix) false v (cyclesOf (take (cycleTotal d) (d .cycles)) (d .steps)))
     (total (loneUse v) (cyclesOf (take (cycleTotal d) (d .cycles)) (d .steps)))
     (endsOf (endsIn v (take (d .count) (ix .ids)) (take (d .count) (ix .kinds)) (take (d .count) (ix .starts)) (take (d .count) (ix .ends))))
-    ≡ vertexCase (uncutVertex (passagesAt (sheetOf d .cells) v) (usesBy (loneUse v) (sheetOf d .cells)) (endsAt (sheetOf d .cells) v))
+    ≡ uncutSaid (uncutVertex (passagesAt (sheetOf d .cells) v) (usesBy (loneUse v) (sheetOf d .cells)) (endsAt (sheetOf d .cells) v))
 vertex-is d z f ix x k v =
     let cs = sheetOf d .cells in
     ap₂ (λ (a b : Bool). endsCase a b (total (loneUse v) (cyclesOf (take (cycleTotal d) (d .cycles)) (d .steps)))
@@ -129,7 +129,7 @@ pub vertex-total : (d : Drawing) → Sizes d → Fits d → (ix : Index) → Ind
     → endsCase (turnsIn (rowsIn d ix) true v (cyclesOf (take m (d .cycles)) (d .steps))) (turnsIn (rowsIn d ix) false v (cyclesOf (take m (d .cycles)) (d .steps)))
     (total (loneUse v) (cyclesOf (take m (d .cycles)) (d .steps)))
     (endsOf (endsIn v (take (d .count) (ix .ids)) (take (d .count) (ix .kinds)) (take (d .count) (ix .starts)) (take (d .count) (ix .ends))))
-    ≡ vertexCase (uncutVertex (passagesAt (sheetOf d .cells) v) (usesBy (loneUse v) (sheetOf d .cells)) (endsAt (sheetOf d .cells) v))
+    ≡ uncutSaid (uncutVertex (passagesAt (sheetOf d .cells) v) (usesBy (loneUse v) (sheetOf d .cells)) (endsAt (sheetOf d .cells) v))
 vertex-total d z f ix x k v m e = rw e (vertex-is d z f ix x k v)
 
 -- ---- the uses of an edge

@@ -1,9 +1,11 @@
 -- Which case of 0E holds, by the numbers that the readers give. Definitions only.
 use Prim.Native.Nat.{ℕ}
 use mathlib.Core.Bool.{Bool, not, _&&_, cond, Bool·beq}
+use mathlib.Core.Path.{_≡_}
 use lib.Dec.{eqb}
-use Rattle.complex.specs.Uncut.{Uncut, refused, lonely, loop, joint, twoFaces, oneCycle, rings, endsOfOneEdge}
-use Rattle.uncut_case.specs.Found.{useOf}
+use Rattle.complex.specs.Uncut.{Uncut, lonely, loop, joint, twoFaces, oneCycle, rings, allowed, endsOfOneEdge}
+use Rattle.uncut_case.specs.Found.{useAt}
+use Rattle.number.specs.Said.{Said, done, no}
 use Rattle.uncut_case.specs.declared.Ends.{Ends}
 use Rattle.uncut_case.specs.declared.Use.{Use}
 use Rattle.uncut_case.specs.declared.Uses.{Uses}
@@ -12,51 +14,60 @@ use Rattle.uncut_case.specs.declared.AtEdge.the-variants.{Refused as Nei
 use Rattle.uncut_case.specs.declared.AtVertex.{AtVertex}
 use Rattle.uncut_case.specs.declared.AtVertex.the-variants.{Refused, Lonely, Loop, Joint}
 
--- the case of a vertex, in the code's words
-abbrev pub vertexCase : Uncut → AtVertex
-vertexCase refused = Refused
-vertexCase lonely = Lonely
-vertexCase (loop e) = Loop e
-vertexCase (joint x y) = Joint (x .edge) (x .backward) (y .edge) (y .backward)
-vertexCase (twoFaces u w) = Refused
-vertexCase (oneCycle u w) = Refused
-vertexCase (rings u w) = Refused
+-- question 6 of 0E: a case that may be undone, or 6
+abbrev pub uncutSaid : Uncut → Said Uncut
+uncutSaid c = cond (allowed c) (done c) (no 6)
+
+-- ---- the cases of `AtVertex`: 0 with a case of 0E, or 6
+abbrev pub vertexSays : AtVertex → Said Uncut
+vertexSays Refused = no 6
+vertexSays Lonely = done lonely
+vertexSays (Loop e) = done (loop e)
+vertexSays (Joint a p b q) = done (joint (record { edge = a; backward = p }) (record { edge = b; backward = q }))
+
+-- the ends x of one edge, and of two
+abbrev pub loopOf : Ends → Uncut
+loopOf x = loop (x .one)
+
+abbrev pub jointOf : Ends → Uncut
+jointOf x = joint (record { edge = x .one; backward = x .back1 }) (record { edge = x .two; backward = x .back2 })
 
 -- two ends x; some passage turns back by the whole end, by the edge
-abbrev pub pairCase : Bool → Bool → Ends → AtVertex
+abbrev pub pairCase : Bool → Bool → Ends → Said Uncut
 pairCase whole edge x =
     cond (endsOfOneEdge (record { edge = x .one; backward = x .back1 }) (record { edge = x .two; backward = x .back2 }))
-    (cond whole Refused (Loop (x .one)))
-    (cond edge Refused (Joint (x .one) (x .back1) (x .two) (x .back2)))
+    (cond whole (no 6) (done (loopOf x)))
+    (cond edge (no 6) (done (jointOf x)))
 
 -- the ends x, and so many lone cycles
-abbrev pub endsCase : Bool → Bool → ℕ → Ends → AtVertex
+abbrev pub endsCase : Bool → Bool → ℕ → Ends → Said Uncut
 endsCase whole edge lones x =
-    cond (eqb (x .count) 0) (cond (eqb lones 1) Lonely Refused)
-    (cond (not (eqb (x .count) 2)) Refused (cond (not (eqb lones 0)) Refused (pairCase whole edge x)))
+    cond (eqb (x .count) 0) (cond (eqb lones 1) (done lonely) (no 6))
+    (cond (not (eqb (x .count) 2)) (no 6) (cond (not (eqb lones 0)) (no 6) (pairCase whole edge x)))
 
--- ---- the case of an edge, in the code's words
-abbrev pub edgeCase : Uncut → AtEdge
-edgeCase refused = Neither
-edgeCase lonely = Neither
-edgeCase (loop e) = Neither
-edgeCase (joint x y) = Neither
-edgeCase (twoFaces u w) = TwoFaces (useOf u) (useOf w)
-edgeCase (oneCycle u w) = OneCycle (useOf u) (useOf w)
-edgeCase (rings u w) = Rings (useOf u) (useOf w)
+-- ---- the cases of `AtEdge` at the edge e: 0 with a case of 0E, or 6
+abbrev pub edgeSays : ℕ → AtEdge → Said Uncut
+edgeSays e Neither = no 6
+edgeSays e (TwoFaces u w) = done (twoFaces (useAt e u) (useAt e w))
+edgeSays e (OneCycle u w) = done (oneCycle (useAt e u) (useAt e w))
+edgeSays e (Rings u w) = done (rings (useAt e u) (useAt e w))
 
-abbrev pub openPair : Use → Use → AtEdge
-openPair u w =
-    cond (not (not (Bool·beq (u .back) (w .back)))) Neither
-    (cond (not (eqb (u .face) (w .face))) (TwoFaces u w)
-    (cond (not (eqb (u .cycle) (w .cycle))) Neither
-    (cond (u .back) (OneCycle u w) (OneCycle w u))))
+-- whatever the edge's id is, r says f of it
+abbrev pub EdgeSays : AtEdge → (ℕ → Said Uncut) → Type 0
+EdgeSays r f = (e : ℕ) → edgeSays e r ≡ f e
 
-abbrev pub openCase : Uses → AtEdge
-openCase x = cond (eqb (x .count) 2) (openPair (x .one) (x .two)) Neither
+abbrev pub openPair : Use → Use → ℕ → Said Uncut
+openPair u w e =
+    cond (not (not (Bool·beq (u .back) (w .back)))) (no 6)
+    (cond (not (eqb (u .face) (w .face))) (done (twoFaces (useAt e u) (useAt e w)))
+    (cond (not (eqb (u .cycle) (w .cycle))) (no 6)
+    (cond (u .back) (done (oneCycle (useAt e u) (useAt e w))) (done (oneCycle (useAt e w) (useAt e u))))))
 
-abbrev pub closedPair : Use → Use → AtEdge
-closedPair u w = cond (not (Bool·beq (u .back) (w .back)) && not (eqb (u .face) (w .face))) (Rings u w) Neither
+abbrev pub openCase : Uses → ℕ → Said Uncut
+openCase x e = cond (eqb (x .count) 2) (openPair (x .one) (x .two) e) (no 6)
 
-abbrev pub closedCase : Uses → AtEdge
-closedCase x = cond (eqb (x .count) 2) (closedPair (x .one) (x .two)) Neither
+abbrev pub closedPair : Use → Use → ℕ → Said Uncut
+closedPair u w e = cond (not (Bool·beq (u .back) (w .back)) && not (eqb (u .face) (w .face))) (done (rings (useAt e u) (useAt e w))) (no 6)
+
+abbrev pub closedCase : Uses → ℕ → Said Uncut
+closedCase x e = cond (eqb (x .count) 2) (closedPair (x .one) (x .two) e) (no 6)

@@ -51,6 +51,10 @@ endsOf (x ∷ y ∷ l) = record { count = suc (suc (length l)); one = x .edge; b
 abbrev pub useOf : Used → Use
 useOf u = record { face = u .face; cycle = u .cycle; step = u .step; back = u .halfedge .backward }
 
+-- a use of the edge e, in the definitions' words
+abbrev pub useAt : ℕ → Use → Used
+useAt e u = record { face = u .face; cycle = u .cycle; step = u .step; halfedge = record { edge = e; backward = u .back } }
+
 abbrev pub noUse : Use
 noUse = record { face = 0; cycle = 0; step = 0; back = false }
 

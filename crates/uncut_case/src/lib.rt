@@ -10,7 +10,7 @@ ghost use Rattle.complex.specs.Uses.{passage, passages, loneUse, stepUses, cycl
 ghost use Rattle.store.specs.View.{halfedgeOf, width, widthSum, cycleOf, cyclesOf};
 ghost use Rattle.sound.specs.Rows.{rowsOf};
 ghost use Rattle.uncut_case.specs.Turns.{Rowed, sideIn, leavesIn, turnsBack, turnsAt, turnsIn};
-ghost use Rattle.uncut_case.specs.Cases.{pairCase, endsCase, openPair, openCase, closedPair, closedCase};
+ghost use Rattle.uncut_case.specs.Cases.{vertexSays, pairCase, endsCase, EdgeSays, openPair, openCase, closedPair, closedCase};
 ghost use Rattle.uncut_case.specs.Found.{fed, rowEnds, endsIn, oneEnd, endsOf, noUses, addUse, oneUse, usesTwo, usesIn, Faces};
 
 // How many edge ends, and the first two: an edge and whether its halfedge leaves backward.
@@ -348,7 +348,7 @@ fn pair_case(
     requires { ⌜ length (now steps) ≡ 2048 ⌝ }
     requires { ⌜ m ≤ 512 ⌝ }
     requires { ⌜ widthSum (take m (now cycles)) ≤ 2048 ⌝ }
-    ensures { λ r. ⌜ r ≡ pairCase (turnsIn (rowsOf n (now (ids .entry)) (now (kinds .entry)) (now (starts .entry)) (now (ends .entry))) true v (cyclesOf (take m (now (cycles .entry))) (now (steps .entry)))) (turnsIn (rowsOf n (now (ids .entry)) (now (kinds .entry)) (now (starts .entry)) (now (ends .entry))) false v (cyclesOf (take m (now (cycles .entry))) (now (steps .entry)))) x ⌝ }
+    ensures { λ r. ⌜ vertexSays r ≡ pairCase (turnsIn (rowsOf n (now (ids .entry)) (now (kinds .entry)) (now (starts .entry)) (now (ends .entry))) true v (cyclesOf (take m (now (cycles .entry))) (now (steps .entry)))) (turnsIn (rowsOf n (now (ids .entry)) (now (kinds .entry)) (now (starts .entry)) (now (ends .entry))) false v (cyclesOf (take m (now (cycles .entry))) (now (steps .entry)))) x ⌝ }
 {
     let a = x.one;
     let b = x.two;
@@ -386,7 +386,7 @@ pub fn at_vertex(
     requires { ⌜ length (now steps) ≡ 2048 ⌝ }
     requires { ⌜ m ≤ 512 ⌝ }
     requires { ⌜ widthSum (take m (now cycles)) ≤ 2048 ⌝ }
-    ensures { λ r. ⌜ r ≡ endsCase (turnsIn (rowsOf n (now (ids .entry)) (now (kinds .entry)) (now (starts .entry)) (now (ends .entry))) true v (cyclesOf (take m (now (cycles .entry))) (now (steps .entry)))) (turnsIn (rowsOf n (now (ids .entry)) (now (kinds .entry)) (now (starts .entry)) (now (ends .entry))) false v (cyclesOf (take m (now (cycles .entry))) (now (steps .entry)))) (total (loneUse v) (cyclesOf (take m (now (cycles .entry))) (now (steps .entry)))) (endsOf (endsIn v (take n (now (ids .entry))) (take n (now (kinds .entry))) (take n (now (starts .entry))) (take n (now (ends .entry))))) ⌝ }
+    ensures { λ r. ⌜ vertexSays r ≡ endsCase (turnsIn (rowsOf n (now (ids .entry)) (now (kinds .entry)) (now (starts .entry)) (now (ends .entry))) true v (cyclesOf (take m (now (cycles .entry))) (now (steps .entry)))) (turnsIn (rowsOf n (now (ids .entry)) (now (kinds .entry)) (now (starts .entry)) (now (ends .entry))) false v (cyclesOf (take m (now (cycles .entry))) (now (steps .entry)))) (total (loneUse v) (cyclesOf (take m (now (cycles .entry))) (now (steps .entry)))) (endsOf (endsIn v (take n (now (ids .entry))) (take n (now (kinds .entry))) (take n (now (starts .entry))) (take n (now (ends .entry))))) ⌝ }
 {
     let x = ends_at(ids, kinds, starts, ends, n, v);
     let lones = copies::count_lone(cycles, m, steps, v);
@@ -570,7 +570,7 @@ pub fn uses_of(
 }
 
 fn open_pair(u: Use, w: Use) -> AtEdge
-    ensures { λ r. ⌜ r ≡ openPair u w ⌝ }
+    ensures { λ r. ⌜ EdgeSays r (openPair u w) ⌝ }
 {
     if opposite(u.back, w.back) {
         let f = u.face;
@@ -593,7 +593,7 @@ fn open_pair(u: Use, w: Use) -> AtEdge
 
 // The case of an open edge with these uses.
 pub fn open_case(x: Uses) -> AtEdge
-    ensures { λ r. ⌜ r ≡ openCase x ⌝ }
+    ensures { λ r. ⌜ EdgeSays r (openCase x) ⌝ }
 {
     let n = x.count;
     let u = x.one;
@@ -605,7 +605,7 @@ pub fn open_case(x: Uses) -> AtEdge
 }
 
 fn closed_pair(u: Use, w: Use) -> AtEdge
-    ensures { λ r. ⌜ r ≡ closedPair u w ⌝ }
+    ensures { λ r. ⌜ EdgeSays r (closedPair u w) ⌝ }
 {
     if opposite(u.back, w.back) {
         let f = u.face;
@@ -620,7 +620,7 @@ fn closed_pair(u: Use, w: Use) -> AtEdge
 
 // The case of a closed edge with these uses.
 pub fn closed_case(x: Uses) -> AtEdge
-    ensures { λ r. ⌜ r ≡ closedCase x ⌝ }
+    ensures { λ r. ⌜ EdgeSays r (closedCase x) ⌝ }
 {
     let n = x.count;
     let u = x.one;

@@ -35,7 +35,8 @@ use Rattle.uncut_case.proofs.Passing.{uncut-passed, uncut-result}
 use Rattle.answer.proofs.SizesUncut.{uncut-new, uncut-change}
 use Rattle.answer.proofs.Asked.{Asked, sound-in, next-in, refuses, room, counts-done, answers, asked-of}
 use Rattle.uncut_case.specs.declared.Use.{Use}
-use Rattle.uncut_edge.specs.Needs.{useAt, Case}
+use Rattle.uncut_case.specs.Found.{useAt}
+use Rattle.uncut_edge.specs.Needs.{Case}
 
 alone-least : (n : ℕ) → aloneLeft n ≤ 1
 alone-least n = go (eqb n 0)

@@ -34,7 +34,8 @@ use Rattle.uncut_case.specs.declared.Use.{Use}
 use Rattle.uncut_cycles.specs.declared.Place.{Place}
 use Rattle.uncut_cycles.specs.Paths.{Few, followingIn, mergedList, Merging, partedList, Parting, ringedList, Ringing}
 use Rattle.uncut_cycles.proofs.Lists.{steps-length}
-use Rattle.uncut_edge.specs.Needs.{useAt, headIn, joinedCycles, partedCycles, ringlessCycles, Case, Has, Found, Going}
+use Rattle.uncut_case.specs.Found.{useAt}
+use Rattle.uncut_edge.specs.Needs.{headIn, joinedCycles, partedCycles, ringlessCycles, Case, Has, Found, Going}
 use Rattle.uncut_edge.proofs.Told.{Apart, Together, told, edge-in, face-of, face-in, cycle-of, some-of, stays-alone, stays-with}
 use Rattle.uncut_edge.proofs.Finding.{found-steps, head-is}
 

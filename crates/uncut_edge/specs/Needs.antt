@@ -20,13 +20,8 @@ use Rattle.sound.specs.Soundness.{soundDrawing}
 use Rattle.cycles.specs.declared.Used.{Used as Taken}
 use Rattle.cycles.specs.Building.{Building, built}
 use Rattle.outline.specs.Faces.{Named, Roomy}
-use Rattle.uncut_case.specs.declared.Use.{Use}
 use Rattle.uncut_cycles.specs.declared.Place.{Place}
 use Rattle.uncut_cycles.specs.Paths.{Lies, listAt}
-
--- a use of the edge e, in the definitions' words
-abbrev pub useAt : ℕ → Use → Used
-useAt e u = record { face = u .face; cycle = u .cycle; step = u .step; halfedge = record { edge = e; backward = u .back } }
 
 -- where a step of e ends, by n rows of an index: at the start of e if it is backward
 abbrev pub headIn : Index → ℕ → ℕ → Bool → ℕ

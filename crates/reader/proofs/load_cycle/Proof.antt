@@ -88,9 +88,11 @@ returns-3 c =
     let p = n .before .before .before in
     let a = p .before .before .before .before .before .before .before .before .args in
     let g = p .before .before .m .given .0 in
-    let l = length-found p in
-    (refl, no-numbers (now (a .s)) (a .at) (g .1 .0) (g .0) (p .places .result) (l .2) (l .0) (a .used)
-    (subst (NumbersPut (now (a .s)) (g .1 .0) (p .places .result) (now (a .steps)) (a .used .steps) _) (c .enum-told2 .given .1) (n .put-numbers .ensures) .1))
+    let l = length-found p in (
+      refl,
+      no-numbers (now (a .s)) (a .at) (g .1 .0) (g .0) (p .places .result) (l .2) (l .0) (a .used)
+          (subst (NumbersPut (now (a .s)) (g .1 .0) (p .places .result) (now (a .steps)) (a .used .steps) _) (c .enum-told2 .given .1) (n .put-numbers .ensures) .1),
+    )
 
 add-t13 : tie.Need-add-t13
 add-t13 c = search needs

@@ -61,9 +61,11 @@ returns-2 c =
     let l = c .before .before .before .before .before .before in
     let at = l .before .before .before .before in
     let a = at .before .before .before .before .before .before .args in
-    let L = at .loop .inv .1 in
-    (refl, loading-over _ _ _ _ _ _ _ _ _ _ _ L (l .before .before .before .loop-test .taken)
-    (subst (CyclesLoaded (times readCycle 1 (drop (at .loop .p) (now (a .s)))) (now (a .s)) (at .loop .cycles) (at .loop .steps) (at .loop .u) _ _) (c .enum-told .given .1) (l .load-cycle .ensures) .1))
+    let L = at .loop .inv .1 in (
+      refl,
+      loading-over _ _ _ _ _ _ _ _ _ _ _ L (l .before .before .before .loop-test .taken)
+          (subst (CyclesLoaded (times readCycle 1 (drop (at .loop .p) (now (a .s)))) (now (a .s)) (at .loop .cycles) (at .loop .steps) (at .loop .u) _ _) (c .enum-told .given .1) (l .load-cycle .ensures) .1),
+    )
 
 add-i : tie.Need-add-i Inv-loop μ-loop
 add-i c = search needs

@@ -37,9 +37,11 @@ returns c =
     let r = c .before .before in
     let at = r .before .before in
     let a = at .before .before .before .args in
-    let P = at .loop .inv .1 in
-    (refl, reading-bad readNumber (now (a .s)) (a .at) (a .m) (at .loop .i) (at .loop .p) (P .numbers) (P .reading) (r .before .loop-test .taken)
-    (malformed-at (now (a .s)) (at .loop .p) (sym (r .read-number .ensures) ∙ ap numberSays (c .enum-told .given .1))))
+    let P = at .loop .inv .1 in (
+      refl,
+      reading-bad readNumber (now (a .s)) (a .at) (a .m) (at .loop .i) (at .loop .p) (P .numbers) (P .reading) (r .before .loop-test .taken)
+          (malformed-at (now (a .s)) (at .loop .p) (sym (r .read-number .ensures) ∙ ap numberSays (c .enum-told .given .1))),
+    )
 
 add-out : tie.Need-add-out Inv-loop μ-loop
 add-out c = search needs

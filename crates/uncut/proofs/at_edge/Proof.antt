@@ -1,11 +1,10 @@
 -- `at_edge` meets its contract: by the case of the edge. Assumes nothing.
 use borrow.Author.Needs.{needs}
-use mathlib.Core.Path.{ap, _∙_}
-use mathlib.Core.Bool.{_||_}
-use Rattle.complex.specs.Cells.{cellAt, isVertex}
+use mathlib.Core.Path.{sym, ap, _∙_}
 use Rattle.store.specs.View.{sheetOf}
-use Rattle.uncut.specs.Decided.{edgeOf}
-use Rattle.uncut.proofs.Finding.{or-true, refuses-6}
+use Rattle.uncut_case.specs.Cases.{edgeSays}
+use Rattle.uncut.proofs.Cases.{asked-case}
+use Rattle.uncut.proofs.Finding.{refuses-6}
 use Rattle.uncut.proofs.at_edge.Statement.{statement}
 use Rattle.uncut.proofs.at_edge.Tie as tie
 
@@ -21,7 +20,7 @@ enum-known-c c = search needs
 two-faces-requires : tie.Need-two-faces-requires
 two-faces-requires c κs =
     let s = c .before .before .before in
-    (s .pre .0, s .pre .1 .1 ∙ ap (edgeOf (s .args .e)) (c .before .c .given .1))
+    (s .pre .0, asked-case (sheetOf (s .args .d)) (s .args .e) (sym (ap (edgeSays (s .args .e)) (c .before .c .given .1)) ∙ s .pre .1))
 
 enum-known-c-2 : tie.Need-enum-known-c-2
 enum-known-c-2 c = search needs
@@ -29,7 +28,7 @@ enum-known-c-2 c = search needs
 one-cycle-requires : tie.Need-one-cycle-requires
 one-cycle-requires c κs =
     let s = c .before .before .before in
-    (s .pre .0, s .pre .1 .1 ∙ ap (edgeOf (s .args .e)) (c .before .c2 .given .1))
+    (s .pre .0, asked-case (sheetOf (s .args .d)) (s .args .e) (sym (ap (edgeSays (s .args .e)) (c .before .c2 .given .1)) ∙ s .pre .1))
 
 enum-known-c-3 : tie.Need-enum-known-c-3
 enum-known-c-3 c = search needs
@@ -37,14 +36,14 @@ enum-known-c-3 c = search needs
 rings-requires : tie.Need-rings-requires
 rings-requires c κs =
     let s = c .before .before .before in
-    (s .pre .0, s .pre .1 .1 ∙ ap (edgeOf (s .args .e)) (c .before .c3 .given .1))
+    (s .pre .0, asked-case (sheetOf (s .args .d)) (s .args .e) (sym (ap (edgeSays (s .args .e)) (c .before .c3 .given .1)) ∙ s .pre .1))
 
 returns : tie.Need-returns
 returns c =
     let s = c .before .before .before in
     let d = s .args .d in
     let e = s .args .e in
-    refuses-6 d (s .pre .0) e (ap (λ b. isVertex (cellAt (sheetOf d) e) || b) (s .pre .1 .0) ∙ or-true (isVertex (cellAt (sheetOf d) e))) (s .pre .1 .1 ∙ ap (edgeOf e) (c .before .enum-told .given .1)) _ (c .refused .ensures)
+    refuses-6 d (s .pre .0) e (sym (ap (edgeSays e) (c .before .enum-told .given .1)) ∙ s .pre .1) _ (c .refused .ensures)
 
 returns-2 : tie.Need-returns-2
 returns-2 c = search needs

@@ -1,10 +1,9 @@
 -- `at_vertex` meets its contract: by the case of the vertex. Assumes nothing.
 use borrow.Author.Needs.{needs}
-use mathlib.Core.Path.{ap, _∙_}
-use mathlib.Core.Bool.{_||_}
-use Rattle.complex.specs.Cells.{cellAt, isEdge}
+use mathlib.Core.Path.{sym, ap, _∙_}
 use Rattle.store.specs.View.{sheetOf}
-use Rattle.uncut.specs.Decided.{vertexOf}
+use Rattle.uncut_case.specs.Cases.{vertexSays}
+use Rattle.uncut.proofs.Cases.{asked-case}
 use Rattle.uncut.proofs.Finding.{refuses-6}
 use Rattle.uncut.proofs.at_vertex.Statement.{statement}
 use Rattle.uncut.proofs.at_vertex.Tie as tie
@@ -21,7 +20,7 @@ enum-told-2 c = search needs
 lonely-requires : tie.Need-lonely-requires
 lonely-requires c κs =
     let s = c .before .before in
-    (s .pre .0, s .pre .1 .1 ∙ ap vertexOf (c .enum-told2 .given .1))
+    (s .pre .0, asked-case (sheetOf (s .args .d)) (s .args .v) (sym (ap vertexSays (c .enum-told2 .given .1)) ∙ s .pre .1))
 
 enum-known-c : tie.Need-enum-known-c
 enum-known-c c = search needs
@@ -29,7 +28,7 @@ enum-known-c c = search needs
 looped-requires : tie.Need-looped-requires
 looped-requires c κs =
     let s = c .before .before .before in
-    (s .pre .0, s .pre .1 .1 ∙ ap vertexOf (c .before .c .given .1))
+    (s .pre .0, asked-case (sheetOf (s .args .d)) (s .args .v) (sym (ap vertexSays (c .before .c .given .1)) ∙ s .pre .1))
 
 enum-known-c-2 : tie.Need-enum-known-c-2
 enum-known-c-2 c = search needs
@@ -37,14 +36,14 @@ enum-known-c-2 c = search needs
 jointed-requires : tie.Need-jointed-requires
 jointed-requires c κs =
     let s = c .before .before .before in
-    (s .pre .0, s .pre .1 .1 ∙ ap vertexOf (c .before .c2 .given .1))
+    (s .pre .0, asked-case (sheetOf (s .args .d)) (s .args .v) (sym (ap vertexSays (c .before .c2 .given .1)) ∙ s .pre .1))
 
 returns : tie.Need-returns
 returns c =
     let s = c .before .before .before in
     let d = s .args .d in
     let v = s .args .v in
-    refuses-6 d (s .pre .0) v (ap (λ b. b || isEdge (cellAt (sheetOf d) v)) (s .pre .1 .0)) (s .pre .1 .1 ∙ ap vertexOf (c .before .enum-told .given .1)) _ (c .refused .ensures)
+    refuses-6 d (s .pre .0) v (sym (ap vertexSays (c .before .enum-told .given .1)) ∙ s .pre .1) _ (c .refused .ensures)
 
 returns-2 : tie.Need-returns-2
 returns-2 c = search needs

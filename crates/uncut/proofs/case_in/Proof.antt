@@ -2,10 +2,12 @@
 use borrow.Author.Needs.{needs}
 use mathlib.Core.Path.{sym}
 use lib.Dec.{eqb}
+use Rattle.store.specs.View.{sheetOf}
 use Rattle.store.proofs.Sizes.{sizes}
 use Rattle.sound.proofs.Meaning.{sound-fits, looks}
 use Rattle.uncut_case.proofs.Meaning.{faces-are}
 use Rattle.uncut.proofs.Finding.{vertex-asks, vertex-found, edge-found, closed-is, is-vertex, is-edge, is-neither}
+use Rattle.uncut.proofs.Cases.{dead-told}
 use Rattle.uncut.proofs.case_in.Statement.{statement}
 use Rattle.uncut.proofs.case_in.Tie as tie
 use Rattle.answer.proofs.Laws.{counting}
@@ -51,7 +53,7 @@ returns c =
     let ix = x .index-of .result in
     let L = looks d z ix (x .index-of .ensures) (s .pre) in
     let v = is-vertex d ix L i (k .value-at .result) (k .value-at .ensures) (p .before .before .before .before .if1 .taken) in
-    (v, vertex-found d z (s .pre) ix (x .index-of .ensures) i (p .place-sum .result) (p .place-sum .ensures) v (c .at-vertex .result) (c .at-vertex .ensures))
+    vertex-found d z (s .pre) ix (x .index-of .ensures) i (p .place-sum .result) (p .place-sum .ensures) v (c .at-vertex .result) (c .at-vertex .ensures)
 
 returns-2 : tie.Need-returns-2
 returns-2 c =
@@ -61,7 +63,7 @@ returns-2 c =
     let d = s .args .d in
     let ix = x .index-of .result in
     let L = looks d (sizes d _ (s .good .0)) ix (x .index-of .ensures) (s .pre) in
-    is-neither d ix L (s .args .i) (k .value-at .result) (k .value-at .ensures) (c .if2 .taken)
+    dead-told (sheetOf d) (s .args .i) (is-neither d ix L (s .args .i) (k .value-at .result) (k .value-at .ensures) (c .if2 .taken))
 
 uses-of-requires : tie.Need-uses-of-requires
 uses-of-requires c κs =
@@ -87,7 +89,7 @@ returns-3 c =
     let L = looks d z ix (x .index-of .ensures) (s .pre) in
     let n = k .value-at .result in
     let e = is-edge d ix L i n (k .value-at .ensures) (t .before .if1 .left) (t .if2 .left) in
-    (e, edge-found d z (s .pre) ix (x .index-of .ensures) i (u .uses-of .result) (u .uses-of .ensures) e (eqb n 2) (sym (closed-is d ix L i n (k .value-at .ensures))) (c .edge-case .result) (c .edge-case .ensures))
+    edge-found d z (s .pre) ix (x .index-of .ensures) i (u .uses-of .result) (u .uses-of .ensures) e (eqb n 2) (sym (closed-is d ix L i n (k .value-at .ensures))) (c .edge-case .result) (c .edge-case .ensures)
 
 pub case-in-spec : {M : Type 1} → statement M
 case-in-spec =

@@ -10,17 +10,17 @@ closed-case-requires : tie.Need-closed-case-requires
 closed-case-requires c κs = search needs
 
 returns : tie.Need-returns
-returns c =
+returns c e =
     let a = c .before .before .args in
-    c .closed-case .ensures ∙ sym (ap (λ (b : Bool). cond b (closedCase (a .x)) (openCase (a .x))) (c .before .if1 .taken))
+    c .closed-case .ensures e ∙ sym (ap (λ (b : Bool). cond b (closedCase (a .x)) (openCase (a .x)) e) (c .before .if1 .taken))
 
 open-case-requires : tie.Need-open-case-requires
 open-case-requires c κs = search needs
 
 returns-2 : tie.Need-returns-2
-returns-2 c =
+returns-2 c e =
     let a = c .before .before .args in
-    c .open-case .ensures ∙ sym (ap (λ (b : Bool). cond b (closedCase (a .x)) (openCase (a .x))) (c .before .if1 .left))
+    c .open-case .ensures e ∙ sym (ap (λ (b : Bool). cond b (closedCase (a .x)) (openCase (a .x)) e) (c .before .if1 .left))
 
 pub edge-case-spec : {M : Type 1} → statement M
 edge-case-spec =

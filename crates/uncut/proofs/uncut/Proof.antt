@@ -1,8 +1,7 @@
 -- `uncut` meets its contract: by the case that is decided. Assumes nothing.
 use borrow.Author.Needs.{needs}
-use mathlib.Core.Path.{subst}
-use Rattle.store.specs.View.{sheetOf}
-use Rattle.uncut.specs.Decided.{Decided}
+use mathlib.Core.Path.{sym, ap, _∙_}
+use Rattle.uncut.specs.Decided.{caseSays}
 use Rattle.uncut.proofs.Finding.{refuses-4}
 use Rattle.uncut.proofs.uncut.Statement.{statement}
 use Rattle.uncut.proofs.uncut.Tie as tie
@@ -23,7 +22,7 @@ at-vertex-requires : tie.Need-at-vertex-requires
 at-vertex-requires c κs =
     let t = c .before .before .before in
     let s = t .before in
-    (s .pre, subst (Decided (sheetOf (s .args .d)) (s .args .i)) (c .before .c .given .1) (t .case-in .ensures))
+    (s .pre, sym (ap (caseSays (s .args .i)) (c .before .c .given .1)) ∙ t .case-in .ensures)
 
 enum-known-c-2 : tie.Need-enum-known-c-2
 enum-known-c-2 c = search needs
@@ -32,13 +31,13 @@ at-edge-requires : tie.Need-at-edge-requires
 at-edge-requires c κs =
     let t = c .before .before .before in
     let s = t .before in
-    (s .pre, subst (Decided (sheetOf (s .args .d)) (s .args .i)) (c .before .c2 .given .1) (t .case-in .ensures))
+    (s .pre, sym (ap (caseSays (s .args .i)) (c .before .c2 .given .1)) ∙ t .case-in .ensures)
 
 returns : tie.Need-returns
 returns c =
     let t = c .before .before .before in
     let s = t .before in
-    refuses-4 (s .args .d) (s .pre) (s .args .i) (subst (Decided (sheetOf (s .args .d)) (s .args .i)) (c .before .enum-told .given .1) (t .case-in .ensures)) _ (c .refused .ensures)
+    refuses-4 (s .args .d) (s .pre) (s .args .i) (sym (ap (caseSays (s .args .i)) (c .before .enum-told .given .1)) ∙ t .case-in .ensures) _ (c .refused .ensures)
 
 returns-2 : tie.Need-returns-2
 returns-2 c = search needs

@@ -10,12 +10,12 @@ closed-pair-requires : tie.Need-closed-pair-requires
 closed-pair-requires c κs = search needs
 
 returns : tie.Need-returns
-returns c =
+returns c i =
     let x = c .before .before .before .before .args .x in
-    c .closed-pair .ensures ∙ if-two (x .count) (closedPair (x .one) (x .two)) (c .before .if1 .taken)
+    c .closed-pair .ensures i ∙ if-two (x .count) (closedPair (x .one) (x .two) i) (c .before .if1 .taken)
 
 returns-2 : tie.Need-returns-2
-returns-2 c = let x = c .before .before .before .args .x in not-two (x .count) (closedPair (x .one) (x .two)) (c .if1 .left)
+returns-2 c i = let x = c .before .before .before .args .x in not-two (x .count) (closedPair (x .one) (x .two) i) (c .if1 .left)
 
 pub closed-case-spec : {M : Type 1} → statement M
 closed-case-spec = tie.close (tie.spec closed-pair-requires returns returns-2)
