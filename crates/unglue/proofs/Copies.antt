@@ -20,6 +20,7 @@ use Rattle.answer.specs.Sizes.{Sizes as Counted, sized, sizesOf, nothing, moreL
 use Rattle.complex.proofs.Bools.{true-of}
 use Rattle.complex.proofs.Lookup.{changed, lookup-reshape, ids-reshape, kept-all}
 use Rattle.complex.proofs.Unglue.{over-at, asPart}
+use Rattle.complex.proofs.Keep.{Sound}
 use Rattle.complex.proofs.Asked.{no-6, early, early-none}
 use Rattle.store.specs.declared.Drawing.{Drawing}
 use Rattle.store.specs.declared.Index.{Index}
