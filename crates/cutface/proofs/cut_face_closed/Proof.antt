@@ -156,7 +156,7 @@ cut-round-requires c κs =
     let k = asked d z w s (a .f) (a .bends) (a .first) (a .moved) (a .place) (y .1 .1) (x .index-of .result) (x .index-of .ensures) (t .totals-of .result) (t .totals-of .ensures) (v .wide .result) (v .wide .ensures) (l .round-late .result) (l .round-late .ensures) in
     let q = cutFaceClosed (a .f) (positionsAt s (a .first) (a .bends)) (numbersRead s (a .place) (a .moved)) in
     let o = spare d z w q (l .round-late .result) k (c .if3 .left) (record { cells = 2; cycles = 2; steps = 2; bends = v .wide .result }) (record { cells = 0; cycles = 0; steps = 0; bends = 0 })
-        (round-more (sheetOf d) (a .f) (positionsAt s (a .first) (a .bends)) (numbersRead s (a .place) (a .moved)) (v .wide .result) (positions-length s (a .first) (a .bends) ∙ sym (v .wide .ensures))) in
+    (round-more (sheetOf d) (a .f) (positionsAt s (a .first) (a .bends)) (numbersRead s (a .place) (a .moved)) (v .wide .result) (positions-length s (a .first) (a .bends) ∙ sym (v .wide .ensures))) in
     record {
       named = named-in d z w (x .index-of .result) (x .index-of .ensures) (a .f) (y .0);
       sound = w;
