@@ -7,7 +7,8 @@ use lib.ListN.{length}
 use lib.Dec.{eqb, ltb}
 use Rattle.number.specs.Readers.{spread}
 use Rattle.complex.specs.Lists.{any, filter, total, consIf, one}
-use Rattle.complex.specs.Cells.{Halfedge, Cycle, lone, path, Figure, vertex, openEdge, closedEdge, face, LiveCell, Look, lookup, isOpen, cyclesOf, stepsOf, along, against, flipped, same, tailOf}
+use Rattle.complex.specs.Cells.{Halfedge, Cycle, lone, path, Figure, vertex, openEdge, closedEdge, face, LiveCell, lookup, isOpen}
+use Rattle.complex.specs.Cells.{cyclesOf, stepsOf, along, against, flipped, same, tailOf}
 use Rattle.complex.specs.Sound.{over}
 use Rattle.complex.specs.Groups
 
