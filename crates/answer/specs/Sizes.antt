@@ -8,7 +8,8 @@ use lib.Dec.{eqb, leb}
 use Rattle.complex.specs.Lists.{distance}
 use Rattle.complex.specs.Cells.{Cycle, lone, path, Figure, vertex, openEdge, closedEdge, face, LiveCell, Sheet, cellAt, bendsOf, cyclesOf}
 use Rattle.complex.specs.Sound.{cellsMost, cyclesMost, stepsMost, bendsMost, cyclesIn, stepsIn, bendsIn, over}
-use Rattle.complex.specs.Decode.{Command, create, move, delete, glueVertices, glueEdges, unglue, cutEdge, cutFaceVertex, cutFaceOpen, cutFaceClosed, uncut}
+use Rattle.complex.specs.Decode.{Command, create, move, delete, glueVertices, glueEdges, unglue}
+use Rattle.complex.specs.Decode.{cutEdge, cutFaceVertex, cutFaceOpen, cutFaceClosed, uncut}
 use Rattle.complex.specs.Uses.{stepUse, usesBy}
 use Rattle.complex.specs.Unglue.{parts}
 use Rattle.complex.specs.Cut.{noCycle}
@@ -121,7 +122,8 @@ uncutChange s i (twoFaces u w) =
     moreLess (sized 0 0 (aloneLeft left) 0) (sized 2 1 2 (bendCount (cellAt s i)))
 uncutChange s i (oneCycle u w) =
     let n = length (cycleOfUse (cellAt s) u) in
-    moreLess (sized 0 1 (aloneLeft (distance n (suc (u .step)) (w .step)) + aloneLeft (distance n (suc (w .step)) (u .step))) 0) (sized 1 0 2 (bendCount (cellAt s i)))
+    moreLess (sized 0 1 (aloneLeft (distance n (suc (u .step)) (w .step)) + aloneLeft (distance n (suc (w .step)) (u .step))) 0)
+    (sized 1 0 2 (bendCount (cellAt s i)))
 uncutChange s i (rings u w) = moreLess nothing (sized 2 2 2 (bendCount (cellAt s i)))
 
 -- by kind. What a delete takes away is left out: its result is no larger than the drawing
@@ -135,7 +137,8 @@ changeOf s (glueEdges a b flag) = moreLess nothing (sized 1 0 0 (bendCount (cell
 changeOf s (unglue i) = unglueChange (parts (s .cells) i (cellAt s i) - 1) (cellAt s i)
 changeOf s (cutEdge e q) = cutChange (usesBy (stepUse e) (s .cells)) q (cellAt s e)
 changeOf s (cutFaceVertex f p) = moreLess (sized 1 1 1 0) nothing
-changeOf s (cutFaceOpen f c1 s1 c2 s2 bs ms) = alongChange (eqb c1 c2) (getD (cyclesOf (cellAt s f)) c1 noCycle) (getD (cyclesOf (cellAt s f)) c2 noCycle) (length bs)
+changeOf s (cutFaceOpen f c1 s1 c2 s2 bs ms) =
+    alongChange (eqb c1 c2) (getD (cyclesOf (cellAt s f)) c1 noCycle) (getD (cyclesOf (cellAt s f)) c2 noCycle) (length bs)
 changeOf s (cutFaceClosed f bs ms) = moreLess (sized 2 2 2 (length bs)) nothing
 changeOf s (uncut i) = uncutChange s i (uncutCase s i)
 

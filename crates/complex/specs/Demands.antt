@@ -84,12 +84,14 @@ DeleteExact s b = (i : ℕ) (t : List ℕ) → decode b ≡ got (delete i) t →
 abbrev pub Deletes : Sheet → List (List ℕ) → Type 0
 Deletes = Each commandStep DeleteExact
 
--- ---- star for a live id of a drawing: exactly the cells whose boundary holds it, rising, in the buffer's first places; 9 and the same count where it is too short
+-- ---- star for a live id of a drawing: exactly the cells whose boundary holds it, rising, in the buffer's first places;
+-- 9 and the same count where it is too short
 pub record StarRight (s : Sheet) (i : ℕ) : Type 0 where
   pub exact : (j : ℕ) → T (holds j (star (s .cells) i)) ↔ T (boundsAt (cellAt s) i (cellAt s j))
   pub rises : T (rising 0 (star (s .cells) i) (s .next))
   pub fits : (buffer : List ℕ) → length (star (s .cells) i) ≤ length buffer
-      → starCall s i buffer ≡ record { number = 0; count = length (star (s .cells) i); buffer = star (s .cells) i ++ drop (length (star (s .cells) i)) buffer }
+      → let ids = star (s .cells) i in
+      starCall s i buffer ≡ record { number = 0; count = length ids; buffer = ids ++ drop (length ids) buffer }
   pub short : (buffer : List ℕ) → length buffer < length (star (s .cells) i)
       → starCall s i buffer ≡ record { number = 9; count = length (star (s .cells) i); buffer = buffer }
 
@@ -121,7 +123,9 @@ IdsIssued = (s : Sheet) (b : List ℕ) → Issues s b
 
 -- no id is issued twice: an id that was issued and is dead stays dead
 abbrev pub NeverAgain : Type 0
-NeverAgain = (bs cs : List (List ℕ)) (i : ℕ) → i < after empty bs .next → (live (after empty bs) i → ⊥) → live (after (after empty bs) cs) i → ⊥
+NeverAgain =
+    (bs cs : List (List ℕ)) (i : ℕ) → i < after empty bs .next → (live (after empty bs) i → ⊥)
+    → live (after (after empty bs) cs) i → ⊥
 
 -- ---- files: bytes are below 256
 abbrev pub areBytes : List ℕ → Bool
@@ -130,4 +134,5 @@ areBytes s = all (λ (b : ℕ). ltb b 256) s
 -- a sound drawing's file is read as it, and bytes that are read as a drawing are its file, all of them
 pub record OneFile : Type 0 where
   pub read-back : (s : Sheet) → T (sound s) → T (doubles s) → readFile (fileOf s) ≡ record { number = 0; sheet = s }
-  pub written-back : (bytes : List ℕ) (s : Sheet) → T (areBytes bytes) → readFile bytes ≡ record { number = 0; sheet = s } → fileOf s ≡ bytes
+  pub written-back : (bytes : List ℕ) (s : Sheet) → T (areBytes bytes)
+      → readFile bytes ≡ record { number = 0; sheet = s } → fileOf s ≡ bytes

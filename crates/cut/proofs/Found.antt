@@ -12,7 +12,6 @@ use Rattle.complex.specs.Lists.{total}
 use Rattle.complex.specs.Cells.{vertex, cellAt, isLive, bendsOf, origin}
 use Rattle.complex.specs.Cut.{cutExists}
 use Rattle.complex.specs.Decode.{cutEdge}
-
 use Rattle.store.specs.declared.Cell.{Cell}
 use Rattle.store.specs.declared.Drawing.{Drawing}
 use Rattle.store.specs.declared.Index.{Index}

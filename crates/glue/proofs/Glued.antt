@@ -9,7 +9,6 @@ use Rattle.complex.specs.Cells.{Figure, cellAt, isLive}
 use Rattle.complex.specs.Edits.{reshape, others}
 use Rattle.complex.specs.Decode.{Command}
 use Rattle.complex.specs.Commands.{result}
-
 use Rattle.store.specs.declared.Drawing.{Drawing}
 use Rattle.store.specs.declared.Index.{Index}
 use Rattle.store.specs.Index.{Indexes, Rising, rowOf}
