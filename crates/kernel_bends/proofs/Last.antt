@@ -1,0 +1,111 @@
+-- Places that go to the end of those in use. Assumes nothing.
+use Prim.Native.Nat.{ℕ, zero, suc, _+_, _-_, _≤_}
+use native.Mathlib.Omega.{arith}
+use mathlib.Core.Path.{_≡_, refl, sym, ap, ap₂, _∙_}
+use mathlib.Core.List.{List, [], _∷_, _++_}
+use lib.ListN.{length, take, drop, length-append, length-drop}
+use lib.Seq.{take-nil, take-add, drop-drop, take-take, length-take-le, take-at, drop-at, take-append-le, slice, length-slice}
+use Rattle.append.specs.Runs.{run}
+use Rattle.kernel_bends.specs.Turned.{rotated, movedLast}
+
+zero-more : (r : ℕ) → 0 + r ≡ r
+zero-more r = omega arith
+
+suc-more : (k r : ℕ) → suc k + r ≡ suc (k + r)
+suc-more k r = omega arith
+
+module _ {A : Type 0} where
+  slice-run : (f t : ℕ) (l : List A) → f ≤ t → slice f t l ≡ run f (t - f) l
+  slice-run zero t l h = let e : t ≡ t - 0 = omega arith in ap (λ (n : ℕ). take n l) e
+  slice-run (suc f) zero l h = absurd (omega arith)
+  slice-run (suc f) (suc t) [] h = sym (take-nil (suc t - suc f))
+  slice-run (suc f) (suc t) (x ∷ l) h = let e : t - f ≡ suc t - suc f = omega arith in slice-run f t l (omega arith) ∙ ap (λ (n : ℕ). take n (drop f l)) e
+
+  module _ (f m t : ℕ) (l : List A) (hm : f ≤ m) (ht : m ≤ t) (hl : t ≤ length l) where
+    abbrev r : List A
+    r = rotated f m t l
+
+    lf : length (take f l) ≡ f
+    lf = length-take-le f l (omega arith)
+
+    lb : length (slice m t l) ≡ t - m
+    lb = length-slice m t l hl
+
+    la : length (slice f m l) ≡ m - f
+    la = length-slice f m l (omega arith)
+
+    pub rotated-length : length r ≡ length l
+    rotated-length =
+        let a = length-append (take f l) (slice m t l ++ (slice f m l ++ drop t l)) in
+        let b = length-append (slice m t l) (slice f m l ++ drop t l) in
+        let c = length-append (slice f m l) (drop t l) in
+        let d = length-drop t l in
+        omega (arith, a, b, c, d, lf, lb, la)
+
+    pub rotated-front : (n : ℕ) → n ≤ f → take n r ≡ take n l
+    rotated-front n h = take-append-le n (take f l) (slice m t l ++ (slice f m l ++ drop t l)) (omega (arith, lf)) ∙ take-take n f l h
+
+    pub rotated-next : run f (t - m) r ≡ run m (t - m) l
+    rotated-next =
+        ap (take (t - m)) (drop-at (take f l) (slice m t l ++ (slice f m l ++ drop t l)) f lf)
+        ∙ take-at (slice m t l) (slice f m l ++ drop t l) (t - m) lb ∙ slice-run m t l ht
+
+    pub rotated-last : run (f + (t - m)) (m - f) r ≡ run f (m - f) l
+    rotated-last =
+        ap (take (m - f)) (sym (drop-drop (t - m) f r) ∙ ap (drop (t - m)) (drop-at (take f l) (slice m t l ++ (slice f m l ++ drop t l)) f lf) ∙ drop-at (slice m t l) (slice f m l ++ drop t l) (t - m) lb)
+        ∙ take-at (slice f m l) (drop t l) (m - f) la ∙ slice-run f m l hm
+
+  -- m places from base on go to the end of the first t; of them those from i up to j go to the very end
+  module _ (base m i j t : ℕ) (l : List A) (hi : i ≤ j) (hj : j ≤ m) (hb : base + m ≤ t) (hl : t ≤ length l) where
+    abbrev pub once : List A
+    once = rotated base (base + m) t l
+
+    abbrev pub twice : List A
+    twice = movedLast base m i j t l
+
+    lo : length once ≡ length l
+    lo = rotated-length base (base + m) t l (omega arith) hb hl
+
+    pub twice-length : length twice ≡ length l
+    twice-length = rotated-length (t - m + i) (t - m + j) t once (omega arith) (omega arith) (omega (arith, lo)) ∙ lo
+
+    before : (n : ℕ) → n ≤ t - m + i → take n twice ≡ take n once
+    before n h = rotated-front (t - m + i) (t - m + j) t once (omega arith) (omega arith) (omega (arith, lo)) n h
+
+    moved : run (t - m) m once ≡ run base m l
+    moved =
+        let a : base + (t - (base + m)) ≡ t - m = omega arith in
+        let b : base + m - base ≡ m = omega arith in
+        ap₂ (λ (u v : ℕ). run u v once) (sym a) (sym b) ∙ rotated-last base (base + m) t l (omega arith) hb hl ∙ ap (λ (v : ℕ). run base v l) b
+
+    -- those that are not among them
+    pub twice-front : take (t - m) twice ≡ take base l ++ run (base + m) (t - (base + m)) l
+    twice-front =
+        let a : t - m ≡ base + (t - (base + m)) = omega arith in
+        before (t - m) (omega arith) ∙ ap (λ (n : ℕ). take n once) a ∙ take-add base (t - (base + m)) once
+        ∙ ap₂ _++_ (rotated-front base (base + m) t l (omega arith) hb hl base (omega arith)) (rotated-next base (base + m) t l (omega arith) hb hl)
+
+    pub twice-first : run (t - m) i twice ≡ run base i l
+    twice-first =
+        part (t - m) i twice ∙ ap (drop (t - m)) (before (t - m + i) (omega arith)) ∙ sym (part (t - m) i once)
+        ∙ sym (take-take i m (drop (t - m) once) (omega arith)) ∙ ap (take i) moved ∙ take-take i m (drop base l) (omega arith)
+      where
+        part : (n k : ℕ) (x : List A) → run n k x ≡ drop n (take (n + k) x)
+        part zero k x = ap (λ (w : ℕ). take w x) (sym (zero-more k))
+        part (suc n) k [] = take-nil k ∙ sym (ap (drop (suc n)) (take-nil (suc n + k)))
+        part (suc n) k (y ∷ x) = part n k x ∙ ap (λ (w : ℕ). drop (suc n) (take w (y ∷ x))) (sym (suc-more n k))
+
+    pub twice-second : run (t - m + i) (m - j) twice ≡ run (base + j) (m - j) l
+    twice-second =
+        let a : t - (t - m + j) ≡ m - j = omega arith in
+        ap (λ (n : ℕ). run (t - m + i) n twice) (sym a) ∙ rotated-next (t - m + i) (t - m + j) t once (omega arith) (omega arith) (omega (arith, lo))
+        ∙ ap (λ (n : ℕ). run (t - m + j) n once) a ∙ after (t - m) once ∙ ap (drop j) moved ∙ sym (after base l)
+      where
+        drop-take : (k n : ℕ) (x : List A) → drop k (take n x) ≡ take (n - k) (drop k x)
+        drop-take zero n x = let e : n ≡ n - 0 = omega arith in ap (λ (w : ℕ). take w x) e
+        drop-take (suc k) zero x = let e : 0 ≡ 0 - suc k = omega arith in ap (λ (w : ℕ). take w (drop (suc k) x)) e
+        drop-take (suc k) (suc n) [] = sym (take-nil (suc n - suc k))
+        drop-take (suc k) (suc n) (y ∷ x) = let e : n - k ≡ suc n - suc k = omega arith in drop-take k n x ∙ ap (λ (w : ℕ). take w (drop k x)) e
+
+        after : (n : ℕ) (x : List A) → run (n + j) (m - j) x ≡ drop j (run n m x)
+        after n x = ap (take (m - j)) (sym (drop-drop j n x)) ∙ sym (drop-take j m (drop n x))
