@@ -85,7 +85,7 @@ fn keep_steps(flags: &[bool], cycles: &[u32], n: usize, steps: &mut [u32])
 }
 
 // The cycles of the first n cells that are not dead, and their steps, moved to the front.
-fn drop_cycles(
+pub fn drop_cycles(
     dead: &[bool; 256],
     counts: &[u32; 256],
     n: usize,

@@ -1,0 +1,152 @@
+-- One row goes: what stays of rows and of their places. Assumes nothing.
+use Prim.Native.Nat.{ℕ, zero, suc, _+_, _-_, _<_, _≤_}
+use native.Mathlib.Omega.{arith}
+use mathlib.Core.Path.{_≡_, refl, sym, ap, ap₂, _∙_, subst}
+use mathlib.Core.Bool.{Bool, true, false, cond}
+use mathlib.Core.List.{List, [], _∷_, _++_, append-assoc}
+use lib.ListN.{replicate-append-replicate, length, getD, set, take, drop, replicate, length-append, length-take, length-drop, length-replicate}
+use lib.Seq.{take-nil, drop-nil, take-add, drop-drop, take-take, length-take-le, take-at, drop-at, take-append-le, take-set-lt, slice, length-slice}
+use Rattle.complex.specs.Lists.{total}
+use Rattle.store.specs.Edits.{kept, placesOf, spreadFlags, Compacted, PlacesKept, CyclesKept}
+use Rattle.kernel_bends.specs.Turned.{movedLast}
+use Rattle.kernel_bends.proofs.Last.{twice-length, twice-front}
+
+-- the flags of one dead row of n
+abbrev pub oneDead : ℕ → ℕ → List Bool
+oneDead n row = set (replicate n false) row true
+
+take-replicate : (n m : ℕ) → n ≤ m → take n (replicate m false) ≡ replicate n false
+take-replicate zero m h = refl
+take-replicate (suc n) zero h = absurd (omega arith)
+take-replicate (suc n) (suc m) h = ap (λ (l : List Bool). false ∷ l) (take-replicate n m (omega arith))
+
+pub dead-front : (n row : ℕ) → n ≤ 256 → row < n → take n (set (replicate 256 false) row true) ≡ oneDead n row
+dead-front n row h g = take-set-lt n (replicate 256 false) row true g ∙ ap (λ (l : List Bool). set l row true) (take-replicate n 256 h)
+
+zero-more : (r : ℕ) → 0 + r ≡ r
+zero-more r = omega arith
+
+suc-more : (k r : ℕ) → suc k + r ≡ suc (k + r)
+suc-more k r = omega arith
+
+-- ---- what is kept
+module _ {A : Type 0} where
+  kept-nil : (bs : List Bool) → kept {A = A} bs [] ≡ []
+  kept-nil [] = refl
+  kept-nil (b ∷ bs) = refl
+
+  -- flags of places that all stay, or all go, come first
+  kept-false : (k r : ℕ) (fs : List Bool) (l : List A) → kept (replicate k false ++ fs) (take (k + r) l) ≡ take k l ++ kept fs (take r (drop k l))
+  kept-false zero r fs l = ap (λ (n : ℕ). kept fs (take n l)) (zero-more r)
+  kept-false (suc k) r fs [] = ap (λ (n : ℕ). kept (replicate (suc k) false ++ fs) (take n [])) (suc-more k r) ∙ sym (ap (kept fs) (take-nil r) ∙ kept-nil fs)
+  kept-false (suc k) r fs (x ∷ l) = ap (λ (n : ℕ). kept (replicate (suc k) false ++ fs) (take n (x ∷ l))) (suc-more k r) ∙ ap (λ (q : List A). x ∷ q) (kept-false k r fs l)
+
+  kept-true : (k r : ℕ) (fs : List Bool) (l : List A) → kept (replicate k true ++ fs) (take (k + r) l) ≡ kept fs (take r (drop k l))
+  kept-true zero r fs l = ap (λ (n : ℕ). kept fs (take n l)) (zero-more r)
+  kept-true (suc k) r fs [] = ap (λ (n : ℕ). kept (replicate (suc k) true ++ fs) (take n [])) (suc-more k r) ∙ sym (ap (kept fs) (take-nil r) ∙ kept-nil fs)
+  kept-true (suc k) r fs (x ∷ l) = ap (λ (n : ℕ). kept (replicate (suc k) true ++ fs) (take n (x ∷ l))) (suc-more k r) ∙ kept-true k r fs l
+
+  -- no row goes
+  kept-none : (z : ℕ) (cs : List ℕ) (l : List A) → kept (spreadFlags z (replicate (length cs) false) cs) (take (total (placesOf z) cs) l) ≡ take (total (placesOf z) cs) l
+  kept-none z [] l = refl
+  kept-none z (c ∷ cs) l =
+      kept-false (placesOf z c) (total (placesOf z) cs) (spreadFlags z (replicate (length cs) false) cs) l
+      ∙ ap (λ (q : List A). take (placesOf z c) l ++ q) (kept-none z cs (drop (placesOf z c) l))
+      ∙ sym (take-add (placesOf z c) (total (placesOf z) cs) l)
+
+  -- one row goes
+  kept-one : (cs : List ℕ) (row : ℕ) (l : List A) → row < length cs
+      → kept (spreadFlags 0 (oneDead (length cs) row) cs) (take (total (placesOf 0) cs) l)
+      ≡ take (total (placesOf 0) (take row cs)) l ++ take (total (placesOf 0) (drop (suc row) cs)) (drop (total (placesOf 0) (take row cs) + placesOf 0 (getD cs row 0)) l)
+  kept-one [] row l h = absurd (omega arith)
+  kept-one (c ∷ cs) zero l h =
+      kept-true (placesOf 0 c) (total (placesOf 0) cs) (spreadFlags 0 (replicate (length cs) false) cs) l
+      ∙ kept-none 0 cs (drop (placesOf 0 c) l)
+      ∙ ap (λ (n : ℕ). take (total (placesOf 0) cs) (drop n l)) (sym (zero-more (placesOf 0 c)))
+  kept-one (c ∷ cs) (suc row) l h =
+      let k = placesOf 0 c in
+      let t = total (placesOf 0) (take row cs) in
+      let r = total (placesOf 0) (drop (suc row) cs) in
+      let y = placesOf 0 (getD cs row 0) in
+      let e : k + (t + y) ≡ k + t + y = omega arith in
+      kept-false k (total (placesOf 0) cs) (spreadFlags 0 (oneDead (length cs) row) cs) l
+      ∙ ap (λ (q : List A). take k l ++ q) (kept-one cs row (drop k l) (omega arith) ∙ ap (λ (q : List A). take t (drop k l) ++ take r q) (drop-drop (t + y) k l ∙ ap (λ (n : ℕ). drop n l) e))
+      ∙ sym (append-assoc (take k l) (take t (drop k l)) (take r (drop (k + t + y) l)))
+      ∙ ap (λ (q : List A). q ++ take r (drop (k + t + y) l)) (sym (take-add k t l))
+
+  -- the rows themselves
+  rows-none : (xs : List A) → kept (replicate (length xs) false) xs ≡ xs
+  rows-none [] = refl
+  rows-none (x ∷ xs) = ap (λ (q : List A). x ∷ q) (rows-none xs)
+
+  pub rows-one : (xs : List A) (row : ℕ) → row < length xs → kept (oneDead (length xs) row) xs ≡ take row xs ++ drop (suc row) xs
+  rows-one [] row h = absurd (omega arith)
+  rows-one (x ∷ xs) zero h = rows-none xs
+  rows-one (x ∷ xs) (suc row) h = ap (λ (q : List A). x ∷ q) (rows-one xs row (omega arith))
+
+pub total-append : (f : ℕ → ℕ) (xs ys : List ℕ) → total f (xs ++ ys) ≡ total f xs + total f ys
+total-append f [] ys = sym (zero-more (total f ys))
+total-append f (x ∷ xs) ys = let k = total-append f xs ys in omega (arith, k)
+
+pub total-row : (cs : List ℕ) (row : ℕ) → row < length cs → total (placesOf 0) cs ≡ total (placesOf 0) (take row cs) + placesOf 0 (getD cs row 0) + total (placesOf 0) (drop (suc row) cs)
+total-row [] row h = absurd (omega arith)
+total-row (c ∷ cs) zero h = omega arith
+total-row (c ∷ cs) (suc row) h = let k = total-row cs row (omega arith) in omega (arith, k)
+
+pub places-zero : (c : ℕ) → placesOf 0 c ≡ c
+places-zero zero = refl
+places-zero (suc c) = refl
+
+-- ---- a row without places goes: nothing of them does
+joined : (k r : ℕ) → replicate k false ++ replicate r false ≡ replicate (k + r) false
+joined k r = replicate-append-replicate k r false
+
+spread-none : (z : ℕ) (cs : List ℕ) → spreadFlags z (replicate (length cs) false) cs ≡ replicate (total (placesOf z) cs) false
+spread-none z [] = refl
+spread-none z (c ∷ cs) = ap (λ (q : List Bool). replicate (placesOf z c) false ++ q) (spread-none z cs) ∙ joined (placesOf z c) (total (placesOf z) cs)
+
+spread-zero : (cs : List ℕ) (row : ℕ) → row < length cs → getD cs row 0 ≡ 0 → spreadFlags 0 (oneDead (length cs) row) cs ≡ replicate (total (placesOf 0) cs) false
+spread-zero [] row h e = absurd (omega arith)
+spread-zero (c ∷ cs) zero h e =
+    ap (λ (k : ℕ). replicate (placesOf 0 k) true ++ spreadFlags 0 (replicate (length cs) false) cs) e
+    ∙ spread-none 0 cs
+    ∙ ap (λ (k : ℕ). replicate k false) (sym (zero-more (total (placesOf 0) cs)))
+    ∙ ap (λ (k : ℕ). replicate (placesOf 0 k + total (placesOf 0) cs) false) (sym e)
+spread-zero (c ∷ cs) (suc row) h e = ap (λ (q : List Bool). replicate (placesOf 0 c) false ++ q) (spread-zero cs row (omega arith) e) ∙ joined (placesOf 0 c) (total (placesOf 0) cs)
+
+whole : {A : Type 0} (bs : List Bool) (k : ℕ) (xs l : List A) → bs ≡ replicate k false → length xs ≡ k → take k l ≡ xs → Compacted bs xs l
+whole {A} bs k xs l eb lx et =
+    let same : kept bs xs ≡ xs = ap (λ (q : List Bool). kept q xs) eb ∙ ap (λ (n : ℕ). kept (replicate n false) xs) (sym lx) ∙ rows-none xs in
+    record { front = ap (λ (q : List A). take (length q) l) same ∙ ap (λ (n : ℕ). take n l) lx ∙ et ∙ sym same }
+
+-- the cycles stay as they are, where the row that goes has none
+pub cycles-stay : (cs : List ℕ) (row : ℕ) (ks st : List ℕ) → row < length cs → getD cs row 0 ≡ 0 → total (placesOf 0) cs ≤ length ks → total (placesOf 1) (take (total (placesOf 0) cs) ks) ≤ length st
+    → CyclesKept (oneDead (length cs) row) cs ks st ks st
+cycles-stay cs row ks st h e hk hs =
+    let t = total (placesOf 0) cs in
+    let u = total (placesOf 1) (take t ks) in
+    let lt : length (take t ks) ≡ t = length-take-le t ks hk in
+    let eb = spread-zero cs row h e in
+    record {
+      cycles = record { packed = whole (spreadFlags 0 (oneDead (length cs) row) cs) t (take t ks) ks eb lt refl };
+      steps = record {
+        packed =
+            whole (spreadFlags 1 (spreadFlags 0 (oneDead (length cs) row) cs) (take t ks)) u (take u st) st
+            (ap (λ (q : List Bool). spreadFlags 1 q (take t ks)) (eb ∙ ap (λ (n : ℕ). replicate n false) (sym lt)) ∙ spread-none 1 (take t ks))
+            (length-take-le u st hs) refl;
+      };
+    }
+
+-- ---- the bends of the row go to the end: the others are what stays
+module _ {A : Type 0} (base m i j t : ℕ) (l : List A) (hi : i ≤ j) (hj : j ≤ m) (hb : base + m ≤ t) (hl : t ≤ length l) where
+  pub twice-kept : (cs : List ℕ) (row : ℕ) → row < length cs → base ≡ total (placesOf 0) (take row cs) → m ≡ getD cs row 0 → t ≡ total (placesOf 0) cs → PlacesKept 0 (oneDead (length cs) row) cs l (movedLast base m i j t l)
+  twice-kept cs row h eb em et =
+      let twice = movedLast base m i j t l in
+      let s = total-row cs row h in
+      let y = places-zero (getD cs row 0) in
+      let g : total (placesOf 0) (drop (suc row) cs) ≡ t - (base + m) = omega (arith, s, y, eb, em, et) in
+      let v : total (placesOf 0) (take row cs) + placesOf 0 (getD cs row 0) ≡ base + m = omega (arith, y, eb, em) in
+      let k : kept (spreadFlags 0 (oneDead (length cs) row) cs) (take (total (placesOf 0) cs) l) ≡ take (t - m) twice =
+      kept-one cs row l h ∙ (λ w. take (sym eb w) l ++ take (g w) (drop (v w) l)) ∙ sym (twice-front base m i j t l hi hj hb hl) in
+      let n : length (take (t - m) twice) ≡ t - m = length-take-le (t - m) twice (omega (arith, twice-length base m i j t l hi hj hb hl, hb, hl)) in
+      record { packed = record { front = ap (λ (q : List A). take (length q) twice) k ∙ ap (λ (w : ℕ). take w twice) n ∙ sym k } }

@@ -1,0 +1,94 @@
+-- An edge's row goes, and its bends to the end. Assumes nothing.
+use Prim.Native.Nat.{ℕ, suc, _+_, _-_, _<_, _≤_}
+use native.Mathlib.Omega.{arith}
+use mathlib.Core.Path.{_≡_, refl, sym, ap, ap₂, _∙_, subst}
+use mathlib.Core.Bool.{Bool, true, false}
+use mathlib.Core.List.{List, [], _∷_, _++_}
+use lib.Ieee.{Float}
+use lib.ListN.{length, getD, set, take, drop, replicate, length-set, length-replicate}
+use lib.Seq.{getD-take, take-take, length-take-le}
+use Rattle.complex.specs.Lists.{total}
+use Rattle.store.specs.View.{sheetOf, Fits}
+use Rattle.store.specs.Edits.{kept, placesOf, PlacesKept, CyclesKept}
+use Rattle.answer.specs.Late.{Summed}
+use Rattle.answer.proofs.Laws.{summed}
+use Rattle.lent.specs.Arrays.{Arrays, heldBy, rowsBy, normal, Lengths}
+use Rattle.lent.proofs.Held.{held-sizes, held-indexes}
+use Rattle.kernel_bends.specs.Turned.{movedLast}
+use Rattle.kernel_keep.specs.Keeps.{RowsKept, BendsKept, Keeps, EdgeRow, RowGone}
+use Rattle.kernel_keep.proofs.Rows.{keeps, count-by}
+use Rattle.kernel_keep.proofs.Dead.{oneDead, dead-front, rows-one, total-append, total-row, places-zero, cycles-stay, twice-kept}
+
+module _ (a : Arrays) (l : Lengths a) (f : Fits (heldBy a)) (n : normal a ≡ true) (row base m t : ℕ) (r : EdgeRow a row base m t) where
+  sums : Summed (a .bends) (a .counts) (a .count) (a .cycles)
+  sums = summed (heldBy a) (held-sizes a l) f (rowsBy a) (held-indexes a l n)
+
+  abbrev cs : List ℕ
+  cs = take (a .count) (a .bends)
+
+  cs-length : length cs ≡ a .count
+  cs-length = length-take-le (a .count) (a .bends) (sums .bendRows)
+
+  row-in : row < length cs
+  row-in = omega (arith, cs-length, r .below)
+
+  base-is : base ≡ total (placesOf 0) (take row cs)
+  base-is = r .from ∙ ap (total (placesOf 0)) (sym (take-take row (a .count) (a .bends) (omega (arith, r .below))))
+
+  own-is : m ≡ getD cs row 0
+  own-is = r .own ∙ sym (getD-take (a .count) (a .bends) row 0 (r .below))
+
+  pub row-range : (base + m ≤ t) × (t ≤ 2048)
+  row-range =
+      let k = total-row cs row row-in in
+      let y = places-zero (getD cs row 0) in
+      (omega (arith, k, y, base-is, own-is, r .all), omega (arith, r .all, sums .bendSum))
+
+  pub row-below : row < 256
+  row-below = omega (arith, r .below, f .cells)
+
+  module _ (i j : ℕ) (hi : i ≤ j) (hj : j ≤ m) (b : Arrays) (lb : Lengths b) (dead : List Bool) (ed : dead ≡ set (replicate 256 false) row true) (en : b .next ≡ a .next) (k : RowsKept dead (a .count) a b (b .count))
+      (bx : b .bx ≡ movedLast base m i j t (a .bx)) (by : b .by ≡ movedLast base m i j t (a .by)) (ec : b .cycles ≡ a .cycles) (es : b .steps ≡ a .steps) where
+    lf : length (set (replicate 256 false) row true) ≡ 256
+    lf = length-set (replicate 256 false) row true ∙ length-replicate 256 false
+
+    front : take (a .count) (set (replicate 256 false) row true) ≡ oneDead (a .count) row
+    front = dead-front (a .count) row (f .cells) (r .below)
+
+    kept-rows : RowsKept (set (replicate 256 false) row true) (a .count) a b (b .count)
+    kept-rows = subst (λ (q : List Bool). RowsKept q (a .count) a b (b .count)) ed k
+
+    places : (l₀ l₁ : List Float) → length l₀ ≡ 2048 → l₁ ≡ movedLast base m i j t l₀ → PlacesKept 0 (take (a .count) (set (replicate 256 false) row true)) cs l₀ l₁
+    places l₀ l₁ e q =
+        let g = row-range in
+        let x = twice-kept base m i j t l₀ hi hj (g .0) (omega (arith, e, g .1)) cs row row-in base-is own-is (r .all) in
+        subst (λ (w : List Float). PlacesKept 0 (take (a .count) (set (replicate 256 false) row true)) cs l₀ w) (sym q)
+        (subst (λ (w : List Bool). PlacesKept 0 w cs l₀ (movedLast base m i j t l₀)) (ap (λ (u : ℕ). oneDead u row) cs-length ∙ sym front) x)
+
+    cycles : CyclesKept (take (a .count) (set (replicate 256 false) row true)) (take (a .count) (a .counts)) (a .cycles) (a .steps) (b .cycles) (b .steps)
+    cycles =
+        let ds = take (a .count) (a .counts) in
+        let ld : length (take (a .count) (a .counts)) ≡ a .count = length-take-le (a .count) (a .counts) (sums .cycleRows) in
+        let x = cycles-stay ds row (a .cycles) (a .steps) (omega (arith, ld, r .below)) (getD-take (a .count) (a .counts) row 0 (r .below) ∙ r .none) (omega (arith, sums .cycleSum, l .cycles)) (omega (arith, sums .stepSum, l .steps)) in
+        let p = ap (λ (u : ℕ). oneDead u row) ld ∙ sym front in
+        subst (λ (w : List Bool). CyclesKept w ds (a .cycles) (a .steps) (b .cycles) (b .steps)) p
+        (subst (λ (w : List ℕ). CyclesKept (oneDead (length ds) row) ds (a .cycles) (a .steps) w (b .steps)) (sym ec)
+        (subst (λ (w : List ℕ). CyclesKept (oneDead (length ds) row) ds (a .cycles) (a .steps) (a .cycles) w) (sym es) x))
+
+    left : take (b .count) (b .bends) ≡ take row cs ++ drop (suc row) cs
+    left =
+        ap (λ (u : ℕ). take u (b .bends)) (count-by (set (replicate 256 false) row true) a b l lb lf (f .cells) (b .count) kept-rows (a .bends) (l .bends))
+        ∙ kept-rows .bends .front
+        ∙ ap (λ (w : List Bool). kept w cs) (front ∙ ap (λ (u : ℕ). oneDead u row) (sym cs-length)) ∙ rows-one cs row row-in
+
+    pub row-gone : RowGone a row base m t i j b
+    row-gone =
+        record {
+          keeps = keeps (set (replicate 256 false) row true) a b l lb lf f n en kept-rows (record { xs = places (a .bx) (b .bx) (l .bx) bx; ys = places (a .by) (b .by) (l .by) by }) cycles;
+          long = lb;
+          bx = bx;
+          by = by;
+          less =
+              ap (total (placesOf 0)) left ∙ total-append (placesOf 0) (take row cs) (drop (suc row) cs)
+              ∙ omega (arith, total-row cs row row-in, places-zero (getD cs row 0), base-is, own-is, r .all);
+        }

@@ -1,0 +1,207 @@
+ghost use mathlib.Core.Path.{_≡_};
+ghost use mathlib.Core.Bool.{true};
+ghost use Prim.Native.Nat.{_+_, _≤_};
+ghost use lib.ListN.{take, length};
+ghost use Rattle.complex.specs.Lists.{total};
+ghost use Rattle.complex.specs.Sound.{cellsMost, bendsMost};
+ghost use Rattle.store.specs.View.{Fits};
+ghost use Rattle.store.specs.Edits.{Compacted, kept, placesOf};
+ghost use Rattle.lent.specs.Arrays.{heldBy, normal, Lengths, lent, entry, exit};
+ghost use Rattle.kernel_keep.specs.Keeps.{BendsKept, Keeps, EdgeRow, RowGone};
+
+// The coordinates that are not flagged, moved to the front, and how many they are.
+fn pack_coordinates(l: &mut [f64], flags: &[bool], n: usize) -> usize
+    requires { ⌜ n ≤ length (now l) ⌝ }
+    requires { ⌜ n ≤ length (now flags) ⌝ }
+    ensures { λ r. ⌜ r ≡ length (kept (take n (now (flags .entry))) (take n (now (l .entry)))) ⌝ }
+    ensures { λ r. ⌜ Compacted (take n (now (flags .entry))) (take n (now (l .entry))) (now (l .exit)) ⌝ }
+{
+    let mut i: usize = 0;
+    let mut k: usize = 0;
+    while i < n {
+        if !flags[i] {
+            l[k] = l[i];
+            k = k + 1;
+        }
+        i = i + 1;
+    }
+    k
+}
+
+// The bends of the first n rows that are not dead, moved to the front.
+fn drop_bends(
+    dead: &[bool; 256],
+    counts: &[u32; 256],
+    n: usize,
+    bx: &mut [f64; 2048],
+    by: &mut [f64; 2048],
+)
+    requires { ⌜ n ≤ cellsMost ⌝ }
+    requires { ⌜ total (placesOf 0) (take n (now counts)) ≤ bendsMost ⌝ }
+    ensures { λ _. ⌜ BendsKept (take n (now (dead .entry))) (take n (now (counts .entry))) (now (bx .entry)) (now (by .entry)) (now (bx .exit)) (now (by .exit)) ⌝ }
+{
+    let mut on = [false; 2048];
+    let t = store::spread_flags(dead, counts, n, 0, &mut on);
+    pack_coordinates(bx, &on, t);
+    pack_coordinates(by, &on, t);
+}
+
+// The first n rows that are not dead, moved to the front, and how many they are.
+fn pack_rows(
+    n: usize,
+    ids: &mut [u32; 256],
+    kinds: &mut [u32; 256],
+    starts: &mut [u32; 256],
+    ends: &mut [u32; 256],
+    bends: &mut [u32; 256],
+    counts: &mut [u32; 256],
+    px: &mut [f64; 256],
+    py: &mut [f64; 256],
+    dead: &[bool],
+) -> usize
+    requires { ⌜ n ≤ cellsMost ⌝ }
+    requires { ⌜ n ≤ length (now dead) ⌝ }
+    requires { ⌜ (length (now ids) ≡ cellsMost) × (length (now kinds) ≡ cellsMost) × (length (now starts) ≡ cellsMost) × (length (now ends) ≡ cellsMost) × (length (now bends) ≡ cellsMost) × (length (now counts) ≡ cellsMost) × (length (now px) ≡ cellsMost) × (length (now py) ≡ cellsMost) ⌝ }
+    ensures { λ r. ⌜ r ≡ length (kept (take n (now (dead .entry))) (take n (now (py .entry)))) ⌝ }
+    ensures { λ _. ⌜ Compacted (take n (now (dead .entry))) (take n (now (ids .entry))) (now (ids .exit)) ⌝ }
+    ensures { λ _. ⌜ Compacted (take n (now (dead .entry))) (take n (now (kinds .entry))) (now (kinds .exit)) ⌝ }
+    ensures { λ _. ⌜ Compacted (take n (now (dead .entry))) (take n (now (starts .entry))) (now (starts .exit)) ⌝ }
+    ensures { λ _. ⌜ Compacted (take n (now (dead .entry))) (take n (now (ends .entry))) (now (ends .exit)) ⌝ }
+    ensures { λ _. ⌜ Compacted (take n (now (dead .entry))) (take n (now (bends .entry))) (now (bends .exit)) ⌝ }
+    ensures { λ _. ⌜ Compacted (take n (now (dead .entry))) (take n (now (counts .entry))) (now (counts .exit)) ⌝ }
+    ensures { λ _. ⌜ Compacted (take n (now (dead .entry))) (take n (now (px .entry))) (now (px .exit)) ⌝ }
+    ensures { λ _. ⌜ Compacted (take n (now (dead .entry))) (take n (now (py .entry))) (now (py .exit)) ⌝ }
+{
+    let mut i: usize = 0;
+    let mut k: usize = 0;
+    while i < n {
+        if !dead[i] {
+            ids[k] = ids[i];
+            kinds[k] = kinds[i];
+            starts[k] = starts[i];
+            ends[k] = ends[i];
+            bends[k] = bends[i];
+            counts[k] = counts[i];
+            px[k] = px[i];
+            py[k] = py[i];
+            k = k + 1;
+        }
+        i = i + 1;
+    }
+    k
+}
+
+// The rows that are not dead, and their bends, cycles and steps, moved to the front, and how many they are.
+pub fn keep_rows(
+    next: u32,
+    count: usize,
+    ids: &mut [u32; 256],
+    kinds: &mut [u32; 256],
+    starts: &mut [u32; 256],
+    ends: &mut [u32; 256],
+    bends: &mut [u32; 256],
+    counts: &mut [u32; 256],
+    px: &mut [f64; 256],
+    py: &mut [f64; 256],
+    cycles: &mut [u32; 512],
+    steps: &mut [u32; 2048],
+    bx: &mut [f64; 2048],
+    by: &mut [f64; 2048],
+    dead: &[bool; 256],
+) -> usize
+    requires { ⌜ Fits (heldBy (lent next count ids kinds starts ends bends counts px py cycles steps bx by)) ⌝ }
+    requires { ⌜ Lengths (lent next count ids kinds starts ends bends counts px py cycles steps bx by) ⌝ }
+    requires { ⌜ normal (lent next count ids kinds starts ends bends counts px py cycles steps bx by) ≡ true ⌝ }
+    requires { ⌜ length (now dead) ≡ cellsMost ⌝ }
+    ensures { λ r. ⌜ Keeps (now (dead .entry)) (entry next count ids kinds starts ends bends counts px py cycles steps bx by) (exit next r ids kinds starts ends bends counts px py cycles steps bx by) ⌝ }
+{
+    keep::drop_cycles(dead, counts, count, cycles, steps);
+    drop_bends(dead, bends, count, bx, by);
+    let k = pack_rows(count, ids, kinds, starts, ends, bends, counts, px, py, dead);
+    lent::known(
+        next,
+        k,
+        ids,
+        kinds,
+        starts,
+        ends,
+        bends,
+        counts,
+        px,
+        py,
+        cycles,
+        steps,
+        bx,
+        by,
+    );
+    k
+}
+
+// The row of an edge goes, and its m bends from base on go to the end of the t in use, those from i up to j last; how many rows
+// there are then.
+pub fn drop_row(
+    next: u32,
+    count: usize,
+    ids: &mut [u32; 256],
+    kinds: &mut [u32; 256],
+    starts: &mut [u32; 256],
+    ends: &mut [u32; 256],
+    bends: &mut [u32; 256],
+    counts: &mut [u32; 256],
+    px: &mut [f64; 256],
+    py: &mut [f64; 256],
+    cycles: &[u32; 512],
+    steps: &[u32; 2048],
+    bx: &mut [f64; 2048],
+    by: &mut [f64; 2048],
+    row: usize,
+    base: usize,
+    m: usize,
+    t: usize,
+    i: usize,
+    j: usize,
+) -> usize
+    requires { ⌜ Fits (heldBy (lent next count ids kinds starts ends bends counts px py cycles steps bx by)) ⌝ }
+    requires { ⌜ Lengths (lent next count ids kinds starts ends bends counts px py cycles steps bx by) ⌝ }
+    requires { ⌜ normal (lent next count ids kinds starts ends bends counts px py cycles steps bx by) ≡ true ⌝ }
+    requires { ⌜ EdgeRow (lent next count ids kinds starts ends bends counts px py cycles steps bx by) row base m t ⌝ }
+    requires { ⌜ i ≤ j ⌝ }
+    requires { ⌜ j ≤ m ⌝ }
+    ensures { λ r. ⌜ RowGone (entry next count ids kinds starts ends bends counts px py cycles steps bx by) row base m t i j (exit next r ids kinds starts ends bends counts px py cycles steps bx by) ⌝ }
+{
+    let u = t - m;
+    kernel_bends::rotate(bx, base, base + m, t);
+    kernel_bends::rotate(by, base, base + m, t);
+    kernel_bends::rotate(bx, u + i, u + j, t);
+    kernel_bends::rotate(by, u + i, u + j, t);
+    let dead = dropping::dead_row(row);
+    let k = pack_rows(
+        count,
+        ids,
+        kinds,
+        starts,
+        ends,
+        bends,
+        counts,
+        px,
+        py,
+        &dead,
+    );
+    lent::known(
+        next,
+        k,
+        ids,
+        kinds,
+        starts,
+        ends,
+        bends,
+        counts,
+        px,
+        py,
+        cycles,
+        steps,
+        bx,
+        by,
+    );
+    k
+}
