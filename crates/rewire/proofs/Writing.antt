@@ -22,10 +22,10 @@ use Rattle.store.proofs.Lists.{map-append, sum-more, sum-le}
 use Rattle.store.proofs.Grow.{no-more}
 
 pub wrote-none : (l : List ℕ) (at : ℕ) → Wrote l at [] l
-wrote-none l at = record { size = refl; front = no-more l at }
+wrote-none l at = record { size = refl; front = no-more l at; back = refl }
 
 pub wrote-one : (l : List ℕ) (at v : ℕ) → at < length l → Wrote l at (v ∷ []) (set l at v)
-wrote-one l at v h = record { size = length-set l at v; front = ap (λ (n : ℕ). take n (set l at v)) (add-one at) ∙ take-suc-set l at v h }
+wrote-one l at v h = record { size = length-set l at v; front = ap (λ (n : ℕ). take n (set l at v)) (add-one at) ∙ take-suc-set l at v h; back = drop-set-lt (at + 1) l at v (omega arith) }
 
 pub wrote-then : (l m n xs ys : List ℕ) (at : ℕ) → Wrote l at xs m → Wrote m (at + length xs) ys n → Wrote l at (xs ++ ys) n
 wrote-then l m n xs ys at p q =
@@ -33,6 +33,9 @@ wrote-then l m n xs ys at p q =
     record {
       size = q .size ∙ p .size;
       front = ap (λ (k : ℕ). take k n) e ∙ q .front ∙ ap (λ (r : List ℕ). r ++ ys) (p .front) ∙ append-assoc (take at l) xs ys;
+      back =
+          ap (λ (k : ℕ). drop k n) e ∙ q .back ∙ sym (drop-drop (length ys) (at + length xs) m) ∙ ap (drop (length ys)) (p .back) ∙ drop-drop (length ys) (at + length xs) l
+          ∙ ap (λ (k : ℕ). drop k l) (sym e);
     }
 
 pub wrote-two : (l : List ℕ) (at a b : ℕ) → at + 1 < length l → Wrote l at (a ∷ b ∷ []) (set (set l at a) (at + 1) b)

@@ -39,10 +39,11 @@ abbrev pub allNumbers : Swap → List ℕ → List ℕ → List ℕ
 allNumbers t [] st = []
 allNumbers t (c ∷ cs) st = swapNumber t c (take (width c) st) ∷ allNumbers t cs (drop (width c) st)
 
--- out has ys at a place, and before it what out₀ has
+-- out has ys at a place, and before and after it what out₀ has
 pub record Wrote (out₀ : List ℕ) (at : ℕ) (ys out : List ℕ) : Type 0 where
   pub size : length out ≡ length out₀
   pub front : take (at + length ys) out ≡ take at out₀ ++ ys
+  pub back : drop (at + length ys) out ≡ drop (at + length ys) out₀
 
 -- the numbers and the steps after the swap
 pub record Swapped (t : Swap) (ns st ns′ st′ : List ℕ) : Type 0 where

@@ -133,7 +133,7 @@ pub fn rename_vertex(d: Drawing, a: u32, b: u32) -> Drawing
 }
 
 // What the two steps of one edge become: n steps each, at most 2.
-struct Swap {
+pub struct Swap {
     pub fore: u32,
     pub back: u32,
     pub n: usize,
@@ -158,7 +158,7 @@ fn put_two(out: &mut [u32], at: usize, n: usize, a: u32, b: u32)
     out[at + 1] = b;
 }
 
-fn put_step(out: &mut [u32], at: usize, s: u32, t: Swap) -> usize
+pub fn put_step(out: &mut [u32], at: usize, s: u32, t: Swap) -> usize
     requires { ⌜ t .n ≤ 2 ⌝ }
     requires { ⌜ at + length (swapWord t s) ≤ length (now out) ⌝ }
     ensures { λ r. ⌜ r ≡ length (swapWord t s) ⌝ }
@@ -209,7 +209,7 @@ fn put_cycle(c: u32, src: &[u32], from: usize, out: &mut [u32], at: usize, t: Sw
     put_run(src, from, store::wide(c), out, at, t)
 }
 
-fn number_of(c: u32, w: usize) -> u32
+pub fn number_of(c: u32, w: usize) -> u32
     requires { ⌜ w ≤ 2048 ⌝ }
     ensures { λ r. ⌜ r ≡ cond (eqb c 0) 0 w ⌝ }
 {
@@ -272,7 +272,7 @@ fn bit_of(b: bool) -> u32
     0
 }
 
-fn one_for(e: u32, a: u32, flip: bool) -> Swap
+pub fn one_for(e: u32, a: u32, flip: bool) -> Swap
     requires { ⌜ e < 2147483648 ⌝ }
     requires { ⌜ a < 2147483648 ⌝ }
     ensures { λ r. ⌜ r ≡ oneFor e a flip ⌝ }
@@ -288,7 +288,7 @@ fn one_for(e: u32, a: u32, flip: bool) -> Swap
     }
 }
 
-fn two_for(e: u32, a: u32, b: u32) -> Swap
+pub fn two_for(e: u32, a: u32, b: u32) -> Swap
     requires { ⌜ e < 2147483648 ⌝ }
     requires { ⌜ a < 2147483648 ⌝ }
     requires { ⌜ b < 2147483648 ⌝ }
@@ -305,7 +305,7 @@ fn two_for(e: u32, a: u32, b: u32) -> Swap
     }
 }
 
-fn none_for(e: u32) -> Swap
+pub fn none_for(e: u32) -> Swap
     requires { ⌜ e < 2147483648 ⌝ }
     ensures { λ r. ⌜ r ≡ noneFor e ⌝ }
 {
