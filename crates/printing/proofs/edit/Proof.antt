@@ -17,7 +17,9 @@ returns : tie.Need-returns
 returns c =
     let k = c .before in
     let st = k .before .before .before in
-    (filled-short (outputText (editOutput (now (st .args .script)))) (now (st .args .out)) (k .text-length .result) (k .text-length .ensures .0) (c .if1 .taken), k .text-length .ensures .1)
+    let m = k .text-length .ensures .1 in
+    let h = c .if1 .taken in
+    (filled-short (outputText (editOutput (now (st .args .script)))) (now (st .args .out)) (k .text-length .result) (k .text-length .ensures .0) h, omega arith)
 
 put-text-requires : tie.Need-put-text-requires
 put-text-requires c κs = search needs

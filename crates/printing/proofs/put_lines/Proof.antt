@@ -87,7 +87,8 @@ put-line-requires-2 c κs =
     let v = i .before .loop .inv in
     let st = i .before .before .before .before .before in
     let b = begins (k .decode .ensures .0) (k .decode .ensures .1) (w .c .given .1) in
-    line-room v (lineOf (o .obey .result)) (within-progress (turn (v .progress) (i .loop-test .taken) (all-left (i .before .loop .at) (now (st .args .script))) b (o .obey .result) (o .obey .ensures))) (st .pre)
+    let h = line-room v (lineOf (o .obey .result)) (within-progress (turn (v .progress) (i .loop-test .taken) (all-left (i .before .loop .at) (now (st .args .script))) b (o .obey .result) (o .obey .ensures))) (st .pre) in
+    omega arith
 
 add-at : tie.Need-add-at Inv-loop μ-loop
 add-at c =
