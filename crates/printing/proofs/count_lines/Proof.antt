@@ -7,7 +7,8 @@ use mathlib.Core.Path.{_≡_, refl}
 use mathlib.Core.List.{List, [], _∷_, _++_}
 use lib.ListN.{length}
 use Rattle.command.proofs.Laws.{begins, unread}
-use Rattle.run.proofs.Progress.{start, over, stopped, turn, lineOf, twoLine, all-left, ahead-fits}
+use Rattle.store.proofs.Lists.{all-left}
+use Rattle.run.proofs.Progress.{start, over, stopped, turn, lineOf, twoLine, ahead-fits}
 use Rattle.printing.proofs.Lines.{Counted, count-more, lines-counted}
 use Rattle.printing.proofs.count_lines.Statement.{statement}
 use Rattle.printing.proofs.count_lines.Tie as tie
