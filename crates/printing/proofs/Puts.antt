@@ -11,6 +11,9 @@ use Rattle.number.specs.Readers.{spread}
 use Rattle.complex.specs.Program.{Line, printed, decimal, signed, eulerWord, cellsWord, lineText, outputText}
 use Rattle.printing.specs.Texts.{Put, endText}
 use Rattle.printing.proofs.Decimal.{sets-append, decimal-few}
+use Rattle.printing.proofs.Signs.{signed-few}
+use mir.Syntax.{w32}
+use mir.Val.{SFits}
 
 pub put-none : (l : List ℕ) (at : ℕ) → Put l at [] 0 l at
 put-none l at = record { stands = refl; ends = omega arith; short = omega arith }
@@ -42,12 +45,6 @@ put-byte l at b = record { stands = refl; ends = refl; short = omega arith }
 pub put-number : (l : List ℕ) (at n : ℕ) (x : List ℕ) (r : ℕ) → n < 4294967296 → r ≡ at + length (decimal n) → x ≡ sets l at (decimal n) → Put l at (decimal n) 10 x r
 put-number l at n x r h e f = record { stands = f; ends = e; short = decimal-few n h }
 
-pub number-room : (n at k : ℕ) → n < 4294967296 → at + 10 ≤ k → at + length (decimal n) ≤ k
-number-room n at k h g = room (length (decimal n)) (decimal-few n h)
-  where
-    room : (m : ℕ) → m ≤ 10 → at + m ≤ k
-    room m l = omega arith
-
 -- a text of fewer bytes than allowed
 pub put-within : {l : List ℕ} {at : ℕ} {u : List ℕ} {m n : ℕ} {x : List ℕ} {r : ℕ} → m ≤ n → Put l at u m x r → Put l at u n x r
 put-within h p = record { stands = p .stands; ends = p .ends; short = (let s = p .short in omega arith) }
@@ -56,6 +53,30 @@ put-within h p = record { stands = p .stands; ends = p .ends; short = (let s = p
 pub line-text : (number first new removed : ℕ)
     → (decimal number ++ 32 ∷ []) ++ ((decimal first ++ 32 ∷ []) ++ ((decimal new ++ 32 ∷ []) ++ (decimal removed ++ 10 ∷ []))) ≡ lineText (record { number = number; first = first; new = new; removed = removed })
 line-text number first new removed = simp append-assoc
+
+-- how many bytes a field has with its mark, a line, and the end line
+pub field-length : (n mark : ℕ) → length (decimal n ++ mark ∷ []) ≡ length (decimal n) + 1
+field-length n mark = length-append (decimal n) (mark ∷ [])
+
+pub line-length : (number first new removed : ℕ)
+    → length (lineText (record { number = number; first = first; new = new; removed = removed })) ≡ (length (decimal number) + 1) + ((length (decimal first) + 1) + ((length (decimal new) + 1) + (length (decimal removed) + 1)))
+line-length number first new removed = simp length-append (omega arith)
+
+pub line-few : (number first new removed : ℕ) → number < 4294967296 → first < 4294967296 → new < 4294967296 → removed < 4294967296
+    → length (lineText (record { number = number; first = first; new = new; removed = removed })) ≤ 44
+line-few number first new removed h i j k =
+    let e = line-length number first new removed in
+    let a = decimal-few number h in
+    let b = decimal-few first i in
+    let c = decimal-few new j in
+    let d = decimal-few removed k in
+    omega arith
+
+pub end-length : (z : ℤ) (n : ℕ) → length (endText z n) ≡ 6 + (length (signed z) + (7 + (length (decimal n) + 1)))
+end-length z n = simp length-append (omega arith)
+
+pub end-few : (z : ℤ) (n : ℕ) → SFits w32 z → n < 4294967296 → length (endText z n) ≤ 35
+end-few z n f h = let e = end-length z n in let a = signed-few z f in let b = decimal-few n h in omega arith
 
 -- the parts of the end line
 pub end-text : (y z : ℤ) (n : ℕ) → y ≡ z → (eulerWord ++ 32 ∷ []) ++ (signed y ++ ((32 ∷ cellsWord ++ 32 ∷ []) ++ (decimal n ++ 10 ∷ []))) ≡ endText z n

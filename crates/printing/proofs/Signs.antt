@@ -6,10 +6,12 @@ use mathlib.Core.Path.{_≡_, refl, sym, ap, _∙_, subst}
 use mathlib.Core.Bool.{Bool, true, false}
 use mathlib.Core.List.{List, _∷_}
 use lib.Dec.{T, ltb}
+use lib.ListN.{length}
 use lib.IntN.{ℤ, pos, negsuc, natAbs, _-ℤ_}
 use lib.Signed.{mag, ltZ, nonNeg}
 use Rattle.complex.specs.Program.{decimal, signed}
 use Rattle.complex.proofs.Bools.{false-not}
+use Rattle.printing.proofs.Decimal.{decimal-few}
 use mir.Syntax.{w32, w64}
 use mir.Val.{Fits, SFits, ofZ, toZ}
 use mir.ValLaws.{toZ-ofZ}
@@ -34,6 +36,10 @@ abs-most : (v : ℤ) → natAbs v ≤ mag v + 1
 abs-most (pos n) = omega arith
 abs-most (negsuc n) = omega arith
 
+signed-most : (v : ℤ) → length (signed v) ≤ length (decimal (natAbs v)) + 1
+signed-most (pos n) = omega arith
+signed-most (negsuc n) = omega arith
+
 -- v as the code reads it
 module _ (v : ℤ) (f : SFits w32 v) where
   pub back : toZ w32 (ofZ w32 v) ≡ v
@@ -41,6 +47,10 @@ module _ (v : ℤ) (f : SFits w32 v) where
 
   pub abs-fits : Fits w32 (natAbs v)
   abs-fits = let h = f .sfits in let m = abs-most v in record { fits = omega arith }
+
+  -- ten digits at most, and the hyphen
+  pub signed-few : length (signed v) ≤ 11
+  signed-few = let h = decimal-few (natAbs v) (abs-fits .fits) in let g = signed-most v in omega arith
 
   pub wide-fits : SFits w64 (toZ w32 (ofZ w32 v))
   wide-fits = subst (SFits w64) (sym back) (let h = f .sfits in record { sfits = omega arith })

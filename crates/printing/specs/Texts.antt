@@ -4,10 +4,13 @@ use mathlib.Core.Path.{_≡_}
 use mathlib.Core.List.{List, _++_}
 use lib.Dec.{T}
 use lib.IntN.{ℤ}
-use lib.ListN.{length, take, drop}
+use lib.ListN.{length}
 use lib.Seq.{sets}
 use Rattle.number.specs.Readers.{spread}
-use Rattle.complex.specs.Program.{run, editOutput, decimal, signed, space, newline, lineText, eulerWord, cellsWord, outputText}
+use Rattle.complex.specs.Cells.{Sheet}
+use Rattle.complex.specs.Euler.{euler}
+use Rattle.complex.specs.Calls.{Filled, filled}
+use Rattle.complex.specs.Program.{Run, run, editOutput, decimal, signed, space, newline, lineText, eulerWord, cellsWord, outputText}
 use Rattle.store.specs.View.{sheetOf}
 use Rattle.sound.specs.Soundness.{soundDrawing}
 use Rattle.printing.specs.declared.Printed.{Printed}
@@ -22,9 +25,24 @@ pub record Put (entry : List ℕ) (at : ℕ) (text : List ℕ) (most : ℕ) (exi
 abbrev pub endText : ℤ → ℕ → List ℕ
 endText z n = eulerWord ++ space ++ signed z ++ space ++ cellsWord ++ space ++ decimal n ++ newline
 
--- the lines of a script's commands, and the drawing after them
+-- the end line of a drawing
+abbrev pub lastText : Sheet → List ℕ
+lastText s = endText (euler (s .cells)) (length (s .cells))
+
+-- the lines of a run's commands
+abbrev pub linesText : Run → List ℕ
+linesText r = spread lineText (r .lines)
+
+-- the lines of a script's commands stand in the buffer; the drawing after them
 pub record LinesPrinted (bytes entry exit : List ℕ) (r : Printed) : Type 0 where
-  pub lines : Put entry 0 (spread lineText (run bytes .lines)) (44 * length bytes) exit (r .end)
+  pub lines : Put entry 0 (linesText (run bytes)) (44 * length bytes) exit (r .end)
+  pub sheet : sheetOf (r .drawing) ≡ run bytes .sheet
+  pub sound : T (soundDrawing (r .drawing))
+
+-- how many bytes those lines have; the drawing after them
+pub record LinesCounted (bytes : List ℕ) (r : Printed) : Type 0 where
+  pub count : r .end ≡ length (linesText (run bytes))
+  pub short : r .end ≤ 44 * length bytes
   pub sheet : sheetOf (r .drawing) ≡ run bytes .sheet
   pub sound : T (soundDrawing (r .drawing))
 
@@ -32,9 +50,6 @@ pub record LinesPrinted (bytes entry exit : List ℕ) (r : Printed) : Type 0 whe
 abbrev pub textMost : ℕ
 textMost = 2883648
 
--- the buffer begins with what `edit` prints for the bytes, r bytes in all; a caller that lends the first r places needs the last two parts
-pub record Edited (bytes entry exit : List ℕ) (r : ℕ) : Type 0 where
-  pub count : r ≡ length (outputText (editOutput bytes))
-  pub text : exit ≡ outputText (editOutput bytes) ++ drop r entry
-  pub fits : r ≤ length exit
-  pub front : r ≡ length (take r exit)
+-- what `edit` prints for the bytes, in the first places of a buffer that has room
+abbrev pub editOf : List ℕ → List ℕ → Filled
+editOf bytes buffer = filled (outputText (editOutput bytes)) buffer

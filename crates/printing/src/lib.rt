@@ -9,9 +9,12 @@ ghost use Rattle.complex.specs.Euler as euler;
 ghost use Rattle.complex.specs.Program.{decimal, signed, lineText};
 ghost use Rattle.store.specs.View.{sheetOf};
 ghost use Rattle.sound.specs.Soundness.{soundDrawing};
-ghost use Rattle.printing.specs.Texts.{Put, endText, textMost, LinesPrinted, Edited};
+ghost use Rattle.writer.specs.Writes.{answered};
+ghost use Rattle.complex.specs.Program.{run, editOutput, outputText};
+ghost use Rattle.printing.specs.Texts.{Put, endText, textMost, linesText, lastText, LinesPrinted, LinesCounted, editOf};
 use command::Decoded;
 use store::Drawing;
+use writer::Written;
 
 const SCRIPT_MOST: usize = 65536;
 
@@ -58,7 +61,7 @@ fn magnitude(v: i32) -> u32
 
 // A number, then a mark; the place after them.
 fn put_field(n: u32, mark: u8, out: &mut [u8], at: usize) -> usize
-    requires { ⌜ at + 11 ≤ length (now out) ⌝ }
+    requires { ⌜ at + length (decimal n) + 1 ≤ length (now out) ⌝ }
     ensures { λ r. ⌜ Put (now (out .entry)) at (decimal n ++ mark ∷ []) 11 (now (out .exit)) r ⌝ }
 {
     let end = put_decimal(n, out, at);
@@ -68,7 +71,7 @@ fn put_field(n: u32, mark: u8, out: &mut [u8], at: usize) -> usize
 
 // A line per command: number, first, new, removed; the place after it.
 fn put_line(number: u32, first: u32, new: u32, removed: u32, out: &mut [u8], at: usize) -> usize
-    requires { ⌜ at + 44 ≤ length (now out) ⌝ }
+    requires { ⌜ at + length (lineText (record { number = number; first = first; new = new; removed = removed })) ≤ length (now out) ⌝ }
     ensures { λ r. ⌜ Put (now (out .entry)) at (lineText (record { number = number; first = first; new = new; removed = removed })) 44 (now (out .exit)) r ⌝ }
 {
     let a = put_field(number, b' ', out, at);
@@ -92,7 +95,7 @@ fn put_bytes(text: &[u8], out: &mut [u8], at: usize) -> usize
 
 // A hyphen before a negative number; the place after it.
 fn put_signed(v: i32, out: &mut [u8], at: usize) -> usize
-    requires { ⌜ at + 11 ≤ length (now out) ⌝ }
+    requires { ⌜ at + length (signed v) ≤ length (now out) ⌝ }
     ensures { λ r. ⌜ Put (now (out .entry)) at (signed v) 11 (now (out .exit)) r ⌝ }
 {
     let n = magnitude(v);
@@ -105,7 +108,7 @@ fn put_signed(v: i32, out: &mut [u8], at: usize) -> usize
 
 // The end line: the Euler number and the live cells; the place after it.
 fn put_end(v: i32, cells: u32, out: &mut [u8], at: usize) -> usize
-    requires { ⌜ at + 35 ≤ length (now out) ⌝ }
+    requires { ⌜ at + length (endText v cells) ≤ length (now out) ⌝ }
     ensures { λ r. ⌜ Put (now (out .entry)) at (endText v cells) 35 (now (out .exit)) r ⌝ }
 {
     let a = put_bytes(b"euler ", out, at);
@@ -117,8 +120,8 @@ fn put_end(v: i32, cells: u32, out: &mut [u8], at: usize) -> usize
 // The end line of a drawing; the place after it.
 fn put_last(d: Drawing, out: &mut [u8], at: usize) -> usize
     requires { ⌜ T (soundDrawing d) ⌝ }
-    requires { ⌜ at + 35 ≤ length (now out) ⌝ }
-    ensures { λ r. ⌜ Put (now (out .entry)) at (endText (euler.euler (sheetOf d .cells)) (length (sheetOf d .cells))) 35 (now (out .exit)) r ⌝ }
+    requires { ⌜ at + length (lastText (sheetOf d)) ≤ length (now out) ⌝ }
+    ensures { λ r. ⌜ Put (now (out .entry)) at (lastText (sheetOf d)) 35 (now (out .exit)) r ⌝ }
 {
     let e = core::euler(d);
     let n = d.count;
@@ -133,7 +136,7 @@ struct Printed {
 
 // A line per command of a script, from the empty drawing, until no byte is left or a line with 2 is put.
 fn put_lines(script: &[u8], out: &mut [u8]) -> Printed
-    requires { ⌜ 44 * length (now script) ≤ length (now out) ⌝ }
+    requires { ⌜ length (linesText (run (now script))) ≤ length (now out) ⌝ }
     ensures { λ r. ⌜ LinesPrinted (now (script .entry)) (now (out .entry)) (now (out .exit)) r ⌝ }
 {
     let mut d = core::empty();
@@ -156,10 +159,68 @@ fn put_lines(script: &[u8], out: &mut [u8]) -> Printed
     Printed { drawing: d, end }
 }
 
-// What `edit` prints for a script, in the buffer's first places; how many bytes it is.
-pub fn edit(script: &[u8], out: &mut [u8]) -> usize
-    requires { ⌜ textMost ≤ length (now out) ⌝ }
-    ensures { λ r. ⌜ Edited (now (script .entry)) (now (out .entry)) (now (out .exit)) r ⌝ }
+// How many bytes the line of a command has.
+fn line_length(number: u32, first: u32, new: u32, removed: u32) -> usize
+    ensures { λ r. ⌜ r ≡ length (lineText (record { number = number; first = first; new = new; removed = removed })) ⌝ }
+    ensures { λ r. ⌜ r ≤ 44 ⌝ }
+{
+    let mut space = [0; 44];
+    put_line(number, first, new, removed, &mut space, 0)
+}
+
+// How many bytes the end line of a drawing has.
+fn last_length(d: Drawing) -> usize
+    requires { ⌜ T (soundDrawing d) ⌝ }
+    ensures { λ r. ⌜ r ≡ length (lastText (sheetOf d)) ⌝ }
+    ensures { λ r. ⌜ r ≤ 35 ⌝ }
+{
+    let e = core::euler(d);
+    let n = d.count;
+    let mut space = [0; 35];
+    put_end(e.value, n as u32, &mut space, 0)
+}
+
+// The drawing after a script's commands, and how many bytes their lines have.
+fn count_lines(script: &[u8]) -> Printed
+    requires { ⌜ length (now script) ≤ 65536 ⌝ }
+    ensures { λ r. ⌜ LinesCounted (now (script .entry)) r ⌝ }
+{
+    let mut d = core::empty();
+    let mut at: usize = 0;
+    let mut end: usize = 0;
+    while at < script.len() {
+        let left = &script[at..];
+        let Decoded::Whole(c, next) = command::decode(left) else {
+            return Printed {
+                drawing: d,
+                end: end + line_length(2, 0, 0, 0),
+            };
+        };
+        let a = obey::obey(d, left, c);
+        end = end + line_length(a.number, a.first, a.new, a.removed);
+        d = a.drawing;
+        at = at + next;
+    }
+    Printed { drawing: d, end }
+}
+
+// How many bytes `edit` prints for a script.
+fn text_length(script: &[u8]) -> usize
+    ensures { λ r. ⌜ r ≡ length (outputText (editOutput (now (script .entry)))) ⌝ }
+    ensures { λ r. ⌜ r ≤ textMost ⌝ }
+{
+    if SCRIPT_MOST < script.len() {
+        return 9;
+    }
+    let p = count_lines(script);
+    let d = p.drawing;
+    p.end + last_length(d)
+}
+
+// What `edit` prints for a script, at the buffer's front; the place after it.
+fn put_text(script: &[u8], out: &mut [u8]) -> usize
+    requires { ⌜ length (outputText (editOutput (now script))) ≤ length (now out) ⌝ }
+    ensures { λ r. ⌜ Put (now (out .entry)) 0 (outputText (editOutput (now (script .entry)))) textMost (now (out .exit)) r ⌝ }
 {
     if SCRIPT_MOST < script.len() {
         return put_bytes(b"too long\n", out, 0);
@@ -167,4 +228,24 @@ pub fn edit(script: &[u8], out: &mut [u8]) -> usize
     let p = put_lines(script, out);
     let d = p.drawing;
     put_last(d, out, p.end)
+}
+
+// What `edit` prints for a script, in the buffer's first places: 0 or 9, and the count of its bytes. The script is run once to
+// count them and, if they fit, once more to put them.
+pub fn edit(script: &[u8], out: &mut [u8]) -> Written
+    ensures { λ r. ⌜ answered r (now (out .exit)) ≡ editOf (now (script .entry)) (now (out .entry)) ⌝ }
+    ensures { λ r. ⌜ r .count ≤ textMost ⌝ }
+{
+    let length = text_length(script);
+    if out.len() < length {
+        return Written {
+            number: 9,
+            count: length,
+        };
+    }
+    let end = put_text(script, out);
+    Written {
+        number: 0,
+        count: end,
+    }
 }

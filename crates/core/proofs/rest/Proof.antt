@@ -1,5 +1,6 @@
 -- `rest` meets its contract: what decoding leaves, or all of it. Assumes nothing.
 use borrow.Author.Needs.{needs}
+use native.Mathlib.Omega.{arith}
 use Prim.Native.Nat.{ℕ, _-_}
 use mathlib.Core.Path.{_≡_, refl, sym, ap, _∙_}
 use mathlib.Core.Bool.{Bool, true, false, cond}
@@ -34,13 +35,22 @@ enum-known-next : tie.Need-enum-known-next
 enum-known-next c = search needs
 
 sub-result : tie.Need-sub-result
-sub-result c = let d = c .before .before .before in begins (d .decode .ensures .0) (d .decode .ensures .1) (c .before .next .given .1) .fits
+sub-result c =
+    let d = c .before .before .before in
+    let f = begins (d .decode .ensures .0) (d .decode .ensures .1) (c .before .next .given .1) .fits in
+    omega arith
 
 part-result-start : tie.Need-part-result-start
-part-result-start c = let d = c .before .before .before in begins (d .decode .ensures .0) (d .decode .ensures .1) (c .before .next .given .1) .fits
+part-result-start c =
+    let d = c .before .before .before in
+    let f = begins (d .decode .ensures .0) (d .decode .ensures .1) (c .before .next .given .1) .fits in
+    omega arith
 
 part-result-end : tie.Need-part-result-end
-part-result-end c = search needs
+part-result-end c =
+    let d = c .before .before .before in
+    let f = begins (d .decode .ensures .0) (d .decode .ensures .1) (c .before .next .given .1) .fits in
+    omega arith
 
 returns : tie.Need-returns
 returns c =

@@ -2,54 +2,44 @@
 use native.Mathlib.Omega.{arith}
 use borrow.Author.Needs.{needs}
 use denote.Ref.{now}
-use Rattle.store.specs.View.{sheetOf}
-use Rattle.printing.proofs.Edits.{edited-long, edited-run}
+use mathlib.Core.Path.{_≡_, ap, sym, _∙_}
+use lib.ListN.{length}
+use Rattle.complex.specs.Program.{editOutput, outputText}
+use Rattle.writer.proofs.Filing.{filled-short}
+use Rattle.printing.proofs.Edits.{edit-fits}
 use Rattle.printing.proofs.edit.Statement.{statement}
 use Rattle.printing.proofs.edit.Tie as tie
 
-slice-aggregate-put-bytes : tie.Need-slice-aggregate-put-bytes
-slice-aggregate-put-bytes c = search needs
+text-length-requires : tie.Need-text-length-requires
+text-length-requires c κs = search needs
 
-put-bytes-requires : tie.Need-put-bytes-requires
-put-bytes-requires c κs = search needs
+returns : tie.Need-returns
+returns c =
+    let k = c .before in
+    let st = k .before .before .before in
+    let m = k .text-length .ensures .1 in
+    let h = c .if1 .taken in
+    (filled-short (outputText (editOutput (now (st .args .script)))) (now (st .args .out)) (k .text-length .result) (k .text-length .ensures .0) h, omega arith)
+
+put-text-requires : tie.Need-put-text-requires
+put-text-requires c κs = search needs
 
 same-length : tie.Need-same-length
 same-length c = search needs
 
-returns : tie.Need-returns
-returns c =
-    let p = c .before .before in
-    let t = p .before .before .before in
-    let st = t .before .before .before in
-    edited-long (now (st .args .script)) (now (st .args .out)) _ _ (t .if1 .taken) (let h = st .pre in omega arith) (p .put-bytes .ensures)
-
-put-lines-requires : tie.Need-put-lines-requires
-put-lines-requires c κs = search needs
-
-put-last-requires : tie.Need-put-last-requires
-put-last-requires c κs = search needs
-
-same-length-2 : tie.Need-same-length-2
-same-length-2 c = search needs
-
 returns-2 : tie.Need-returns-2
 returns-2 c =
     let q = c .before .before in
-    let p = q .before .before .before .before .before in
-    let t = p .before .before in
-    let st = t .before .before .before in
-    let e = p .put-lines .ensures in
-    edited-run (now (st .args .script)) (now (st .args .out)) _ _ _ _ (sheetOf (p .put-lines .result .drawing)) (t .if1 .left) (let h = st .pre in let l = t .if1 .left in omega arith) (e .sheet) (e .lines) (q .put-last .ensures)
+    let t = q .before .before in
+    let k = t .before in
+    let st = k .before .before .before in
+    let p = q .put-text .ensures in
+    let n = k .text-length .ensures .0 in
+    let m = k .text-length .ensures .1 in
+    let e = p .ends in
+    let h = t .if1 .left in
+    (edit-fits (outputText (editOutput (now (st .args .script)))) (now (st .args .out)) (omega arith) _ _ _ p, omega arith)
 
 pub edit-spec : {M : Type 1} → statement M
 edit-spec =
-    tie.close
-    (tie.spec
-    slice-aggregate-put-bytes
-    put-bytes-requires
-    same-length
-    returns
-    put-lines-requires
-    put-last-requires
-    same-length-2
-    returns-2)
+    tie.close (tie.spec text-length-requires returns put-text-requires same-length returns-2)

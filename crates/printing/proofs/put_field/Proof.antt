@@ -6,7 +6,7 @@ use borrow.Author.Needs.{needs}
 use lib.ListN.{length}
 use Rattle.complex.specs.Program.{decimal}
 use Rattle.printing.specs.Texts.{Put}
-use Rattle.printing.proofs.Puts.{number-room, put-number, put-byte, put-then, put-length, put-most}
+use Rattle.printing.proofs.Puts.{put-number, put-byte, put-then, put-length}
 use Rattle.printing.proofs.put_field.Statement.{statement}
 use Rattle.printing.proofs.put_field.Tie as tie
 
@@ -16,13 +16,13 @@ number c =
     put-number (s .args .out .now) (s .args .at) (s .args .n) (c .put-decimal .last .1 .0) (c .put-decimal .result) (s .fits .n .fits) (c .put-decimal .ensures .0) (c .put-decimal .ensures .1)
 
 put-decimal-requires : tie.Need-put-decimal-requires
-put-decimal-requires c κs = let s = c .before .before in number-room (s .args .n) (s .args .at) (length (s .args .out .now)) (s .fits .n .fits) (let h = s .pre in omega arith)
+put-decimal-requires c κs = let h = c .before .before .pre in omega arith
 
 slice-write-out : tie.Need-slice-write-out
 slice-write-out c =
     let p = c .before .before in
     let e = put-length (number p) in
-    let h = put-most (number p) in
+    let h = number p .ends in
     let g = p .before .before .before .pre in
     omega arith
 
@@ -30,7 +30,7 @@ add-result : tie.Need-add-result
 add-result c =
     let p = c .before .before in
     let s = p .before .before .before in
-    let h = put-most (number p) in
+    let h = number p .ends in
     let g = s .pre in
     omega (arith, s .good .1 .1 .0 .0)
 

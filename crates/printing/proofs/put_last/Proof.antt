@@ -1,15 +1,13 @@
 -- `printing::put_last` meets its contract. Assumes nothing.
 use native.Mathlib.Omega.{arith}
-use mathlib.Core.Path.{_≡_, ap, ap₂, _∙_}
-use mir.Syntax.{w32}
-use mir.ValLaws.{toZ-ofZ}
+use mathlib.Core.Path.{_≡_, ap}
+use lib.ListN.{length}
 use borrow.Author.Needs.{needs}
 use Rattle.sound.proofs.Meaning.{sound-fits}
 use Rattle.store.proofs.Sizes.{sizes}
 use Rattle.complex.specs.Calls.{EulerAnswer}
-use Rattle.printing.specs.Texts.{endText}
 use Rattle.printing.proofs.Puts.{put-as}
-use Rattle.printing.proofs.Last.{euler-value, cells-count}
+use Rattle.printing.proofs.Last.{last-text}
 use Rattle.printing.proofs.put_last.Statement.{statement}
 use Rattle.printing.proofs.put_last.Tie as tie
 
@@ -20,7 +18,12 @@ cast-put-end : tie.Need-cast-put-end
 cast-put-end c = let s = c .before .before in let h = sound-fits (s .args .d) (s .pre .0) .cells in omega arith
 
 put-end-requires : tie.Need-put-end-requires
-put-end-requires c κs = search needs
+put-end-requires c κs =
+    let e = c .before .before in
+    let s = e .before .before in
+    let h = s .pre .1 in
+    let t = ap length (last-text (s .args .d) (s .pre .0) (e .euler .result .value) (search needs) (ap (λ (x : EulerAnswer). x .value) (e .euler .ensures)) (sizes (s .args .d) _ (s .good .0))) in
+    omega arith
 
 same-length : tie.Need-same-length
 same-length c = search needs
@@ -30,7 +33,7 @@ returns c =
     let p = c .before .before in
     let e = p .before .before .before in
     let s = e .before .before in
-    put-as (p .put-end .ensures) (ap₂ endText (toZ-ofZ w32 (e .euler .result .value) (search needs) ∙ ap (λ (x : EulerAnswer). x .value) (e .euler .ensures) ∙ euler-value (s .args .d) (s .pre .0)) (cells-count (s .args .d) (s .pre .0) (sizes (s .args .d) _ (s .good .0))))
+    put-as (p .put-end .ensures) (last-text (s .args .d) (s .pre .0) (e .euler .result .value) (search needs) (ap (λ (x : EulerAnswer). x .value) (e .euler .ensures)) (sizes (s .args .d) _ (s .good .0)))
 
 pub put-last-spec : {M : Type 1} → statement M
 put-last-spec =

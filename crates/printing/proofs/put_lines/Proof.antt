@@ -9,7 +9,7 @@ use lib.ListN.{length}
 use Rattle.command.proofs.Laws.{begins, unread}
 use Rattle.run.proofs.Progress.{start, over, stopped, turn, lineOf, twoLine, ahead-fits}
 use Rattle.printing.proofs.Puts.{put-none, put-within, put-length}
-use Rattle.printing.proofs.Lines.{Lined, line-room, line-more, lines-printed}
+use Rattle.printing.proofs.Lines.{Lined, line-room, line-more, lines-printed, within-end, within-progress}
 use Rattle.printing.proofs.put_lines.Statement.{statement}
 use Rattle.printing.proofs.put_lines.Tie as tie
 use Rattle.store.proofs.Lists.{all-left}
@@ -48,8 +48,13 @@ enum-told c = search needs
 
 put-line-requires : tie.Need-put-line-requires Inv-loop μ-loop
 put-line-requires c κs =
-    let i = c .before .before .before .before .before in
-    line-room (i .before .loop .inv) (i .loop-test .taken) (i .before .before .before .before .before .pre)
+    let k = c .before .before .before in
+    let i = k .before .before in
+    let v = i .before .loop .inv in
+    let st = i .before .before .before .before .before in
+    line-room v twoLine
+    (within-end (now (st .args .script)) (v .before ++ (twoLine ∷ [])) (i .before .loop .d) (stopped (v .progress) (i .loop-test .taken) (all-left (i .before .loop .at) (now (st .args .script))) (unread _ (k .decode .ensures .0) (c .before .enum-told .given .1))))
+    (st .pre)
 
 same-length : tie.Need-same-length Inv-loop μ-loop
 same-length c =
@@ -76,8 +81,15 @@ obey-requires c κs =
 
 put-line-requires-2 : tie.Need-put-line-requires-2 Inv-loop μ-loop
 put-line-requires-2 c κs =
-    let i = c .before .before .before .before .before .before .before in
-    line-room (i .before .loop .inv) (i .loop-test .taken) (i .before .before .before .before .before .pre)
+    let o = c .before in
+    let w = o .before .before in
+    let k = w .before .before in
+    let i = k .before .before in
+    let v = i .before .loop .inv in
+    let st = i .before .before .before .before .before in
+    let b = begins (k .decode .ensures .0) (k .decode .ensures .1) (w .c .given .1) in
+    let h = line-room v (lineOf (o .obey .result)) (within-progress (turn (v .progress) (i .loop-test .taken) (all-left (i .before .loop .at) (now (st .args .script))) b (o .obey .result) (o .obey .ensures))) (st .pre) in
+    omega arith
 
 add-at : tie.Need-add-at Inv-loop μ-loop
 add-at c =

@@ -1,11 +1,11 @@
 -- `printing::put_signed` meets its contract: a hyphen if negative, then the digits. Assumes nothing.
 use Prim.Native.Nat.{ℕ, _+_, _≤_}
 use native.Mathlib.Omega.{arith}
-use mathlib.Core.Path.{_≡_, _∙_}
+use mathlib.Core.Path.{_≡_, ap, _∙_}
 use borrow.Author.Needs.{needs}
 use lib.ListN.{length, set, length-set}
 use Rattle.printing.proofs.Signs.{signed-negative, signed-plain}
-use Rattle.printing.proofs.Puts.{number-room, put-number, put-byte, put-then, put-as, put-within}
+use Rattle.printing.proofs.Puts.{put-number, put-byte, put-then, put-as, put-within}
 use Rattle.printing.proofs.put_signed.Statement.{statement}
 use Rattle.printing.proofs.put_signed.Tie as tie
 
@@ -13,7 +13,12 @@ magnitude-requires : tie.Need-magnitude-requires
 magnitude-requires c κs = search needs
 
 slice-write-out : tie.Need-slice-write-out
-slice-write-out c = search needs
+slice-write-out c =
+    let m = c .before in
+    let s = m .before .before in
+    let e = ap length (signed-negative (s .args .v) (s .fits .v) (c .if1 .taken) (m .magnitude .result) (m .magnitude .ensures)) in
+    let h = s .pre in
+    omega arith
 
 add-put-decimal : tie.Need-add-put-decimal
 add-put-decimal c = search needs
@@ -22,7 +27,10 @@ put-decimal-requires : tie.Need-put-decimal-requires
 put-decimal-requires c κs =
     let m = c .before .before in
     let s = m .before .before in
-    number-room (m .magnitude .result) (s .args .at + 1) (length (set (s .args .out .now) (s .args .at) 45)) (m .magnitude .ok) (let h = s .pre in let e = length-set (s .args .out .now) (s .args .at) 45 in omega arith)
+    let e = ap length (signed-negative (s .args .v) (s .fits .v) (c .before .if1 .taken) (m .magnitude .result) (m .magnitude .ensures)) in
+    let h = s .pre in
+    let l = length-set (s .args .out .now) (s .args .at) 45 in
+    omega arith
 
 same-length : tie.Need-same-length
 same-length c =
@@ -44,7 +52,9 @@ put-decimal-requires-2 : tie.Need-put-decimal-requires-2
 put-decimal-requires-2 c κs =
     let m = c .before .before in
     let s = m .before .before in
-    number-room (m .magnitude .result) (s .args .at) (length (s .args .out .now)) (m .magnitude .ok) (let h = s .pre in omega arith)
+    let e = ap length (signed-plain (s .args .v) (s .fits .v) (c .before .if1 .left) (m .magnitude .result) (m .magnitude .ensures)) in
+    let h = s .pre in
+    omega arith
 
 same-length-2 : tie.Need-same-length-2
 same-length-2 c = search needs

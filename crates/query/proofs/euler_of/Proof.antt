@@ -88,7 +88,7 @@ difference-requires c κs =
     let g = gains-most (take i (a .kinds .now)) in
     let m = losses-most (take i (a .kinds .now)) (take i (a .counts .now)) in
     let s = sum-le (λ (k : ℕ). k) (a .counts .now) i (a .n) (omega arith) in
-    (omega (arith, l, g, at .loop .inv), omega (arith, l, m, s, at .loop .inv, at .before .pre))
+    (omega (arith, l, g, m, s, at .loop .inv, at .before .pre), omega (arith, l, g, m, s, at .loop .inv, at .before .pre))
 
 returns : tie.Need-returns Inv-loop μ-loop
 returns c =

@@ -2,11 +2,11 @@
 use mathlib.Core.Path.{sym}
 use lib.Seq.{length-take-le}
 use borrow.Author.Needs.{needs}
-use Rattle.save.proofs.give.Statement.{statement}
-use Rattle.save.proofs.give.Tie as tie
+use Rattle.console.proofs.give.Statement.{statement}
+use Rattle.console.proofs.give.Tie as tie
 
 slice-aggregate-write-all : tie.Need-slice-aggregate-write-all
-slice-aggregate-write-all c = sym (length-take-le _ _ (c .before .if1 .taken))
+slice-aggregate-write-all c = sym (length-take-le _ _ (c .before .if1 .left))
 
 write-all-requires : tie.Need-write-all-requires
 write-all-requires c κs = search needs
@@ -18,4 +18,4 @@ returns-2 : tie.Need-returns-2
 returns-2 c = search needs
 
 pub give-spec : {M : Type 1} → statement M
-give-spec = tie.close (tie.spec slice-aggregate-write-all write-all-requires returns returns-2)
+give-spec = tie.close (tie.spec returns slice-aggregate-write-all write-all-requires returns-2)
