@@ -168,10 +168,10 @@ module _ (d : Drawing) (z : Sizes d) (e row base m q : ℕ) (c : Cuts d e row ba
   partCells p r1 r2 = vertex p ∷ openEdge s (d .next) (runsOf (d .bends) r1) ∷ openEdge (d .next) f (runsOf (d .bends) r2) ∷ []
 
   module _ (p : Position) (ep : Placed d e q p) where
-    abbrev first : Runs
+    abbrev pub first : Runs
     first = partRun p base (q / 2)
 
-    abbrev second : Runs
+    abbrev pub second : Runs
     second = partRun p (base + (q / 2 + q % 2)) (m - (q / 2 + q % 2))
 
     cells-are : vertex (cutPlace (cellAt (sheetOf d)) (some (openEdge (startOf (cellAt (sheetOf d) e)) (endOf (cellAt (sheetOf d) e)) (bendsOf (cellAt (sheetOf d) e)))) q)
@@ -186,7 +186,7 @@ module _ (d : Drawing) (z : Sizes d) (e row base m q : ℕ) (c : Cuts d e row ba
         let v = sym (n .end) in
         λ i. vertex (a i) ∷ openEdge (u i) (d .next) (b i) ∷ openEdge (d .next) (v i) (g i) ∷ []
 
-    parts-are : result (sheetOf d) (cutEdge e q) ≡ rebuild (others e) partStep (partCells p first second) (sheetOf d)
+    pub parts-are : result (sheetOf d) (cutEdge e q) ≡ rebuild (others e) partStep (partCells p first second) (sheetOf d)
     unfolding result edgeCut sheetOf
     parts-are =
         let k : suc (suc (d .next)) ≡ d .next + 2 = omega arith in
@@ -202,7 +202,7 @@ module _ (d : Drawing) (z : Sizes d) (e row base m q : ℕ) (c : Cuts d e row ba
     parts-made u eu = made-is (sheetOf d) (others e) partStep (partCells p first second) (result (sheetOf d) (cutEdge e q)) parts-are u eu
 
     -- the steps keep the ceiling before e goes, too, for e has none
-    abbrev stepsAfter : Figure → ℕ
+    abbrev pub stepsAfter : Figure → ℕ
     stepsAfter x = stepsIn (partStep 0 x)
 
     any-id : (i : ℕ) (x : Figure) → stepsIn (partStep i x) ≡ stepsAfter x
@@ -211,7 +211,7 @@ module _ (d : Drawing) (z : Sizes d) (e row base m q : ℕ) (c : Cuts d e row ba
     any-id i (closedEdge bs) = refl
     any-id i (face ks) = refl
 
-    steps-by : (cs : List LiveCell) → over stepsIn (reshape partStep cs) ≡ over stepsAfter cs
+    pub steps-by : (cs : List LiveCell) → over stepsIn (reshape partStep cs) ≡ over stepsAfter cs
     steps-by [] = refl
     steps-by (x ∷ cs) = ap₂ _+_ (any-id (x .id) (x .figure)) (steps-by cs)
 

@@ -143,7 +143,7 @@ pub fn position_of(s: Shape) -> Position
 }
 
 // The place of the bend that is the k-th point of an open edge, whose m bends stand from base on; 0 for an end.
-fn point_place(base: usize, m: usize, k: usize) -> usize
+pub fn point_place(base: usize, m: usize, k: usize) -> usize
     requires { ⌜ base + m ≤ 2048 ⌝ }
     ensures { λ r. ⌜ r ≡ pointPlace base m k ⌝ }
 {
@@ -170,7 +170,14 @@ fn open_point(a: Position, b: Position, p: Position, m: usize, k: usize) -> Posi
 }
 
 // Where place q of an open edge from a to b lies: o and p are the bends before and after the place, where these are.
-fn open_place(a: Position, b: Position, o: Position, p: Position, m: usize, q: usize) -> Position
+pub fn open_place(
+    a: Position,
+    b: Position,
+    o: Position,
+    p: Position,
+    m: usize,
+    q: usize,
+) -> Position
     ensures { λ r. ⌜ r ≡ openBetween a b o p m q ⌝ }
 {
     let i = q / 2;

@@ -1,0 +1,140 @@
+-- `cut_plan` meets its contract. Assumes nothing.
+use native.Mathlib.Omega.{arith}
+use Prim.Native.Nat.{ℕ, _%_}
+use mathlib.Core.Path.{_≡_, refl, ap, _∙_}
+use lib.Dec.{T, lit≤}
+use lib.ListN.{take}
+use denote.Ref.{now}
+use Rattle.complex.specs.Sizes.{sized, moreLess, changedBy}
+use Rattle.store.specs.Index.{Indexes}
+use Rattle.store.specs.Sizes.{Sizes}
+use Rattle.sound.specs.Soundness.{soundDrawing}
+use Rattle.answer.specs.declared.Totals.{Totals}
+use Rattle.answer.specs.Late.{sizesBy, lateNo}
+use Rattle.cut.proofs.Found.{find-asks, row-below, base-asks}
+use Rattle.cut.proofs.OpenAnswer.{uses-most, open-live, counted-in, no-place, refuses}
+use Rattle.lent.specs.Arrays.{Arrays, lent, heldBy, rowsBy}
+use Rattle.lent.proofs.Held.{held-sizes, held-indexes}
+use Rattle.lent.proofs.Replies.{rows-of, drawing-of}
+use Rattle.kind_cut_edge.proofs.Plans.{planned-no, cuts, ends, rows-below, placed-in, planned}
+use borrow.Author.Needs.{needs}
+use Rattle.kind_cut_edge.proofs.cut_plan.Statement.{statement}
+use Rattle.kind_cut_edge.proofs.cut_plan.Tie as tie
+
+abbrev arrays : (c : tie.Start) → Arrays
+arrays c =
+    let a = c .args in
+    lent (a .next) (a .count) (a .ids) (a .kinds) (a .starts) (a .ends) (a .bends) (a .counts) (a .px) (a .py) (a .cycles) (a .steps) (a .bx) (a .by)
+
+abbrev size : (c : tie.Start) → Sizes (heldBy (arrays c))
+size c = held-sizes (arrays c) (c .pre .0 .long)
+
+abbrev sound : (c : tie.Start) → T (soundDrawing (heldBy (arrays c)))
+sound c = drawing-of (arrays c) (c .pre .0 .sound)
+
+abbrev index : (c : tie.Start) → Indexes (heldBy (arrays c)) (rowsBy (arrays c))
+index c = held-indexes (arrays c) (c .pre .0 .long) (rows-of (arrays c) (c .pre .0 .sound))
+
+late : (next : ℕ) (t : Totals) (n b u r : ℕ) → r ≡ lateNo next 3 (changedBy (sizesBy t) (moreLess (sized 2 0 n 0) (sized 0 0 0 b))) → n ≡ u → r ≡ lateNo next 3 (changedBy (sizesBy t) (moreLess (sized 2 0 u 0) (sized 0 0 0 b)))
+late next t n b u r e g = e ∙ ap (λ (k : ℕ). lateNo next 3 (changedBy (sizesBy t) (moreLess (sized 2 0 k 0) (sized 0 0 0 b)))) g
+
+find-requires : tie.Need-find-requires
+find-requires c κs =
+    let s = c in find-asks (heldBy (arrays s)) (size s) (sound s) (rowsBy (arrays s)) (index s)
+
+mul-wide : tie.Need-mul-wide
+mul-wide c =
+    let s = (c .before) in let fd = c in omega (arith, row-below (heldBy (arrays s)) (size s) (sound s) (rowsBy (arrays s)) (index s) (s .args .e) (fd .find .result) (fd .find .ensures) (open-live (heldBy (arrays s)) (size s) (sound s) (rowsBy (arrays s)) (index s) (s .args .t) (s .pre .0 .sums) (s .args .e) (s .args .q) (s .pre .1)))
+
+element-copy-out-wide : tie.Need-element-copy-out-wide
+element-copy-out-wide c =
+    let s = (c .before) in let fd = c in row-below (heldBy (arrays s)) (size s) (sound s) (rowsBy (arrays s)) (index s) (s .args .e) (fd .find .result) (fd .find .ensures) (open-live (heldBy (arrays s)) (size s) (sound s) (rowsBy (arrays s)) (index s) (s .args .t) (s .pre .0 .sums) (s .args .e) (s .args .q) (s .pre .1))
+
+wide-requires : tie.Need-wide-requires
+wide-requires c κs = search needs
+
+add-if1 : tie.Need-add-if1
+add-if1 c = search needs
+
+refused-requires : tie.Need-refused-requires
+refused-requires c κs = search needs
+
+returns : tie.Need-returns
+returns c =
+    let s = (c .before .before .before .before .before) in let fd = (c .before .before .before .before) in let wd = (c .before .before) in planned-no (arrays s) (s .args .e) (s .args .q) 5 _ (c .refused .ensures) (λ z. omega (arith, z)) (no-place (heldBy (arrays s)) (size s) (sound s) (rowsBy (arrays s)) (index s) (s .args .t) (s .pre .0 .sums) (s .args .e) (s .args .q) (s .pre .1) (fd .find .result) (fd .find .ensures) (wd .wide .result) (wd .wide .ensures) ((c .before) .if1 .taken))
+
+count-steps-requires : tie.Need-count-steps-requires
+count-steps-requires c κs =
+    let s = (c .before .before .before .before .before .before) in let fd = (c .before .before .before .before .before) in let wd = (c .before .before .before) in let k = counted-in (heldBy (arrays s)) (size s) (sound s) (rowsBy (arrays s)) (index s) (s .args .t) (s .pre .0 .sums) in (omega (arith, k .cyclesIn, k .cycleRoom), omega (arith, k .stepsIn, k .stepRoom))
+
+late-no-requires : tie.Need-late-no-requires
+late-no-requires c κs =
+    let s = (c .before .before .before .before .before .before .before) in let fd = (c .before .before .before .before .before .before) in let wd = (c .before .before .before .before) in let p = counted-in (heldBy (arrays s)) (size s) (sound s) (rowsBy (arrays s)) (index s) (s .args .t) (s .pre .0 .sums) in
+    let u = uses-most (s .args .e) (take (s .args .t .cycles) (now (s .args .cycles))) (now (s .args .steps)) in
+    let k = c .count-steps .ensures in
+    (p .nextIn, (lit≤ tt, (p .small, record { cells = lit≤ tt; cycles = lit≤ tt; steps = omega (arith, u, k, p .stepsIn); bends = lit≤ tt }, record { cells = lit≤ tt; cycles = lit≤ tt; steps = lit≤ tt; bends = omega arith })))
+
+refused-requires-2 : tie.Need-refused-requires-2
+refused-requires-2 c κs = search needs
+
+returns-2 : tie.Need-returns-2
+returns-2 c =
+    let s = (c .before .before .before .before .before .before .before .before .before .before) in let fd = (c .before .before .before .before .before .before .before .before .before) in let wd = (c .before .before .before .before .before .before .before) in planned-no (arrays s) (s .args .e) (s .args .q) ((c .before .before) .late-no .result) _ (c .refused2 .ensures) ((c .before) .if2 .taken) (refuses (heldBy (arrays s)) (size s) (sound s) (rowsBy (arrays s)) (index s) (s .args .t) (s .pre .0 .sums) (s .args .e) (s .args .q) (s .pre .1) (fd .find .result) (fd .find .ensures) (wd .wide .result) (wd .wide .ensures) ((c .before .before .before .before .before .before) .if1 .left) ((c .before .before) .late-no .result) (late (s .args .next) (s .args .t) _ (s .args .q % 2) _ ((c .before .before) .late-no .result) ((c .before .before) .late-no .ensures) ((c .before .before .before) .count-steps .ensures)) ((c .before) .if2 .taken))
+
+bend-start-requires : tie.Need-bend-start-requires
+bend-start-requires c κs =
+    let s = (c .before .before .before .before .before .before .before .before .before .before) in let fd = (c .before .before .before .before .before .before .before .before .before) in base-asks (heldBy (arrays s)) (size s) (sound s) (rowsBy (arrays s)) (index s) (s .args .e) (fd .find .result) (fd .find .ensures) (open-live (heldBy (arrays s)) (size s) (sound s) (rowsBy (arrays s)) (index s) (s .args .t) (s .pre .0 .sums) (s .args .e) (s .args .q) (s .pre .1))
+
+mul-s : tie.Need-mul-s
+mul-s c =
+    let s = (c .before .before .before .before .before .before .before .before .before .before .before) in let fd = (c .before .before .before .before .before .before .before .before .before .before) in omega (arith, row-below (heldBy (arrays s)) (size s) (sound s) (rowsBy (arrays s)) (index s) (s .args .e) (fd .find .result) (fd .find .ensures) (open-live (heldBy (arrays s)) (size s) (sound s) (rowsBy (arrays s)) (index s) (s .args .t) (s .pre .0 .sums) (s .args .e) (s .args .q) (s .pre .1)))
+
+element-copy-out-s : tie.Need-element-copy-out-s
+element-copy-out-s c =
+    let s = (c .before .before .before .before .before .before .before .before .before .before .before) in let fd = (c .before .before .before .before .before .before .before .before .before .before) in row-below (heldBy (arrays s)) (size s) (sound s) (rowsBy (arrays s)) (index s) (s .args .e) (fd .find .result) (fd .find .ensures) (open-live (heldBy (arrays s)) (size s) (sound s) (rowsBy (arrays s)) (index s) (s .args .t) (s .pre .0 .sums) (s .args .e) (s .args .q) (s .pre .1))
+
+mul-f : tie.Need-mul-f
+mul-f c =
+    let s = (c .before .before .before .before .before .before .before .before .before .before .before .before) in let fd = (c .before .before .before .before .before .before .before .before .before .before .before) in omega (arith, row-below (heldBy (arrays s)) (size s) (sound s) (rowsBy (arrays s)) (index s) (s .args .e) (fd .find .result) (fd .find .ensures) (open-live (heldBy (arrays s)) (size s) (sound s) (rowsBy (arrays s)) (index s) (s .args .t) (s .pre .0 .sums) (s .args .e) (s .args .q) (s .pre .1)))
+
+element-copy-out-f : tie.Need-element-copy-out-f
+element-copy-out-f c =
+    let s = (c .before .before .before .before .before .before .before .before .before .before .before .before) in let fd = (c .before .before .before .before .before .before .before .before .before .before .before) in row-below (heldBy (arrays s)) (size s) (sound s) (rowsBy (arrays s)) (index s) (s .args .e) (fd .find .result) (fd .find .ensures) (open-live (heldBy (arrays s)) (size s) (sound s) (rowsBy (arrays s)) (index s) (s .args .t) (s .pre .0 .sums) (s .args .e) (s .args .q) (s .pre .1))
+
+cut-place-requires : tie.Need-cut-place-requires
+cut-place-requires c κs =
+    let s = (c .before .before .before .before .before .before .before .before .before .before .before .before .before) in let fd = (c .before .before .before .before .before .before .before .before .before .before .before .before) in let wd = (c .before .before .before .before .before .before .before .before .before .before) in let cu = cuts (arrays s) (s .pre .0 .long) (s .pre .0 .sound) (s .args .e) (s .pre .1) (s .args .q) (s .args .t) (s .pre .0 .sums) (fd .find .result) (fd .find .ensures) (wd .wide .result) (wd .wide .ensures) ((c .before .before .before .before .before .before .before .before .before) .if1 .left) ((c .before .before .before .before .before) .late-no .result) (late (s .args .next) (s .args .t) _ (s .args .q % 2) _ ((c .before .before .before .before .before) .late-no .result) ((c .before .before .before .before .before) .late-no .ensures) ((c .before .before .before .before .before .before) .count-steps .ensures)) ((c .before .before .before .before) .if2 .left) ((c .before .before) .bend-start .result) ((c .before .before) .bend-start .ensures) _ _ refl refl in
+    let en = ends (arrays s) (s .pre .0 .long) (s .pre .0 .sound) (s .args .e) (s .pre .1) (s .args .q) (s .args .t) (s .pre .0 .sums) (fd .find .result) (fd .find .ensures) (wd .wide .result) (wd .wide .ensures) ((c .before .before .before .before .before .before .before .before .before) .if1 .left) ((c .before .before .before .before .before) .late-no .result) (late (s .args .next) (s .args .t) _ (s .args .q % 2) _ ((c .before .before .before .before .before) .late-no .result) ((c .before .before .before .before .before) .late-no .ensures) ((c .before .before .before .before .before .before) .count-steps .ensures)) ((c .before .before .before .before) .if2 .left) ((c .before .before) .bend-start .result) ((c .before .before) .bend-start .ensures) _ _ refl refl in
+    let b = rows-below (arrays s) (s .pre .0 .long) (s .pre .0 .sound) (s .args .e) (s .pre .1) (s .args .q) _ _ _ cu _ _ en in
+    let k = find-asks (heldBy (arrays s)) (size s) (sound s) (rowsBy (arrays s)) (index s) in
+    (k .0, (k .1 .0, (k .1 .1, (b .0, (b .1, cu .range)))))
+
+returns-3 : tie.Need-returns-3
+returns-3 c =
+    let s = (c .before .before .before .before .before .before .before .before .before .before .before .before .before .before) in let fd = (c .before .before .before .before .before .before .before .before .before .before .before .before .before) in let wd = (c .before .before .before .before .before .before .before .before .before .before .before) in let cu = cuts (arrays s) (s .pre .0 .long) (s .pre .0 .sound) (s .args .e) (s .pre .1) (s .args .q) (s .args .t) (s .pre .0 .sums) (fd .find .result) (fd .find .ensures) (wd .wide .result) (wd .wide .ensures) ((c .before .before .before .before .before .before .before .before .before .before) .if1 .left) ((c .before .before .before .before .before .before) .late-no .result) (late (s .args .next) (s .args .t) _ (s .args .q % 2) _ ((c .before .before .before .before .before .before) .late-no .result) ((c .before .before .before .before .before .before) .late-no .ensures) ((c .before .before .before .before .before .before .before) .count-steps .ensures)) ((c .before .before .before .before .before) .if2 .left) ((c .before .before .before) .bend-start .result) ((c .before .before .before) .bend-start .ensures) _ _ refl refl in
+    let en = ends (arrays s) (s .pre .0 .long) (s .pre .0 .sound) (s .args .e) (s .pre .1) (s .args .q) (s .args .t) (s .pre .0 .sums) (fd .find .result) (fd .find .ensures) (wd .wide .result) (wd .wide .ensures) ((c .before .before .before .before .before .before .before .before .before .before) .if1 .left) ((c .before .before .before .before .before .before) .late-no .result) (late (s .args .next) (s .args .t) _ (s .args .q % 2) _ ((c .before .before .before .before .before .before) .late-no .result) ((c .before .before .before .before .before .before) .late-no .ensures) ((c .before .before .before .before .before .before .before) .count-steps .ensures)) ((c .before .before .before .before .before) .if2 .left) ((c .before .before .before) .bend-start .result) ((c .before .before .before) .bend-start .ensures) _ _ refl refl in
+    let pl = placed-in (arrays s) (s .pre .0 .long) (s .pre .0 .sound) (s .args .e) (s .pre .1) (s .args .q) _ _ _ cu _ _ en (c .cut-place .result) (c .cut-place .ensures) in
+    planned (arrays s) (s .pre .0 .long) (s .pre .0 .sound) (s .args .e) (s .pre .1) (s .args .q) (s .args .t) (s .pre .0 .sums) (fd .find .result) (fd .find .ensures) (wd .wide .result) (wd .wide .ensures) ((c .before .before .before .before .before .before .before .before .before .before) .if1 .left) ((c .before .before .before .before .before .before) .late-no .result) (late (s .args .next) (s .args .t) _ (s .args .q % 2) _ ((c .before .before .before .before .before .before) .late-no .result) ((c .before .before .before .before .before .before) .late-no .ensures) ((c .before .before .before .before .before .before .before) .count-steps .ensures)) ((c .before .before .before .before .before) .if2 .left) ((c .before .before .before) .bend-start .result) ((c .before .before .before) .bend-start .ensures) _ _ refl refl (c .cut-place .result) pl _ ((c .before .before .before .before .before .before .before) .count-steps .ensures)
+
+pub cut-plan-spec : {M : Type 1} → statement M
+cut-plan-spec =
+    tie.close
+    (tie.spec
+    find-requires
+    mul-wide
+    element-copy-out-wide
+    wide-requires
+    add-if1
+    refused-requires
+    returns
+    count-steps-requires
+    late-no-requires
+    refused-requires-2
+    returns-2
+    bend-start-requires
+    mul-s
+    element-copy-out-s
+    mul-f
+    element-copy-out-f
+    cut-place-requires
+    returns-3)
