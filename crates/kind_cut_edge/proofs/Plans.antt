@@ -14,8 +14,8 @@ use Rattle.complex.specs.Cells.{Figure, vertex, openEdge, closedEdge, face, Liv
 use Rattle.complex.specs.Edits.{keepIds, reshape, others}
 use Rattle.complex.specs.Sound.{stepsIn, over}
 use Rattle.complex.specs.Uses.{stepUse, usesBy}
-use Rattle.complex.specs.Sizes.{sized, sizesOf, moreLess, changedBy, cutChange, changeOf, sizesAfter}
-use Rattle.complex.specs.Sizes as whole
+use Rattle.answer.specs.Sizes.{sized, sizesOf, moreLess, changedBy, cutChange, changeOf, sizesAfter}
+use Rattle.answer.specs.Sizes as whole
 use Rattle.complex.specs.Decode.{cutEdge}
 use Rattle.complex.specs.Commands.{result}
 use Rattle.complex.specs.Answer.{no, asked3}
@@ -23,7 +23,7 @@ use Rattle.complex.proofs.Bools.{both}
 use Rattle.complex.proofs.Asked.{Passed}
 use Rattle.complex.proofs.Faces.{without-one}
 use Rattle.complex.proofs.Euler.{over-rebuild}
-use Rattle.complex.proofs.SizesCut.{cut-edge-sizes}
+use Rattle.answer.proofs.SizesCut.{cut-edge-sizes}
 use Rattle.store.specs.declared.Shape.{Shape}
 use Rattle.store.specs.declared.Cell.{Cell}
 use Rattle.store.specs.declared.Drawing.{Drawing}

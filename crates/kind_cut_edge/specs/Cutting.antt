@@ -6,7 +6,7 @@ use lib.Dec.{leb}
 use Rattle.complex.specs.Edits.{reshape, rewired, sameVertex}
 use Rattle.complex.specs.Cut.{inTwo}
 use Rattle.complex.specs.Sound.{over, stepsIn, idsEnd}
-use Rattle.complex.specs.Sizes.{newCells, sizesAfter, sizesFit}
+use Rattle.answer.specs.Sizes.{newCells, sizesAfter, sizesFit}
 use Rattle.complex.specs.Decode.{cutEdge}
 use Rattle.complex.specs.Answer.{no, asked3}
 use Rattle.complex.proofs.Asked.{Passed}

@@ -7,7 +7,7 @@ use lib.ListN.{take}
 use Rattle.complex.specs.Lists.{total}
 use Rattle.complex.specs.Decode.{Command}
 use Rattle.complex.specs.Answer.{no, asked3}
-use Rattle.complex.specs.Sizes.{sizesOf}
+use Rattle.answer.specs.Sizes.{sizesOf}
 use Rattle.complex.specs.Sound.{sound}
 use Rattle.store.specs.declared.Cell.{Cell}
 use Rattle.store.specs.Sizes.{Sizes}

@@ -5,7 +5,7 @@ use mathlib.Core.Path.{_≡_, refl, ap, _∙_}
 use lib.Dec.{T, lit≤}
 use lib.ListN.{take}
 use denote.Ref.{now}
-use Rattle.complex.specs.Sizes.{sized, moreLess, changedBy}
+use Rattle.answer.specs.Sizes.{sized, moreLess, changedBy}
 use Rattle.store.specs.Index.{Indexes}
 use Rattle.store.specs.Sizes.{Sizes}
 use Rattle.sound.specs.Soundness.{soundDrawing}
