@@ -26,7 +26,8 @@ use Rattle.sound.specs.Soundness.{soundDrawing}
 use Rattle.sound.specs.Looks.{told}
 use Rattle.sound.proofs.Meaning.{sound-fits}
 use Rattle.answer.specs.Answers.{outcome, Answers}
-use Rattle.edits.proofs.Edit.{move-passed, move-kind, move-row, move-new, move-change, move-result, edit-answers}
+use Rattle.answer.proofs.Asked.{kind-vertex}
+use Rattle.edits.proofs.Edit.{move-passed, move-row, move-new, move-change, move-result, edit-answers}
 use Rattle.lent.specs.Arrays.{Arrays, shapeBy, shapeAt, positionIn, cellsBy, heldBy, rowsBy, normal, soundArrays, Lengths}
 use Rattle.lent.proofs.Held.{held-sizes, held-indexes, cells-set, cells-id, place-other, place-same}
 use Rattle.lent.specs.declared.Line.{Line}
@@ -92,7 +93,7 @@ module _ (a : Arrays) (l : Lengths a) (w : T (soundArrays a)) (v : ℕ) (p : Pos
         answers =
             subst (λ (q : Drawing). Answers d (move v p) (answerBy r q)) (sym t)
             (edit-answers d z s (move v p) (move-new d v p) (move-change d v p)
-            (move-passed d v p b (sym (move-kind d z s (rowsBy a) x v k e) ∙ eq-eqb k 0 k0))
+            (move-passed d v p b (sym (kind-vertex d z s (rowsBy a) x v k e) ∙ eq-eqb k 0 k0))
             out (record { cells = length-set (d .cells) row _ ∙ z .cells; cycles = z .cycles; steps = z .steps; bends = z .bends }) (m .1) (m .0 ∙ move-result d z s (rowsBy a) x v p row er h)
             (answerBy r out) (ap (λ (u : Line). answerBy u out) el ∙ outcome-is (a .next) (a .count) out refl refl));
         back = λ n. absurd (n (ap (λ (u : Line). u .number) el));

@@ -6,14 +6,14 @@ use mathlib.Core.Path.{refl, sym, _∙_}
 use lib.ListN.{length-set}
 use denote.Ref.{now}
 use Rattle.complex.specs.Decode.{delete}
-use Rattle.complex.proofs.Asked.{no-4}
+use Rattle.complex.proofs.Asked.{early-none, no-4}
 use Rattle.store.specs.Index.{Indexes}
 use Rattle.store.specs.Sizes.{Sizes}
 use Rattle.store.specs.View.{Fits}
 use Rattle.sound.specs.Looks.{Looks}
 use Rattle.sound.proofs.Meaning.{sound-fits, looks}
 use Rattle.query.proofs.Meaning.{readable}
-use Rattle.edits.proofs.Edit.{delete-three, delete-four, delete-live}
+use Rattle.edits.proofs.Edit.{delete-four, delete-live}
 use Rattle.lent.specs.Arrays.{Arrays, lent, heldBy, rowsBy}
 use Rattle.lent.proofs.Held.{held-sizes, held-indexes}
 use Rattle.lent.proofs.Replies.{rows-of, drawing-of, obeyed-no}
@@ -53,7 +53,7 @@ returns c =
     let a = arrays s in
     let i = s .args .id in
     obeyed-no a (s .pre .sound) (delete i) 4 _ (c .line-of .ensures)
-    (no-4 _ (delete i) (delete-three i)
+    (no-4 _ (delete i) (early-none (delete i) refl)
     (delete-four (heldBy a) i (sym (delete-live (heldBy a) (size s) (drawing-of a (s .pre .sound)) (rowsBy a) (index s) i (f .find .result) (f .find .ensures)) ∙ le-ltb _ _ (c .before .if1 .taken))))
 
 star-marks-requires : tie.Need-star-marks-requires

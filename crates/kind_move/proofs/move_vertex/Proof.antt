@@ -1,14 +1,14 @@
 -- `move_vertex` meets its contract: questions 3 and 4, then the vertex at its new place. Assumes nothing.
 use borrow.Author.Needs.{needs}
 use borrow.Author.Tests.{not-true, not-false, ne-eqb}
-use mathlib.Core.Path.{sym, _∙_}
-use mathlib.Core.Bool.{true, false}
+use mathlib.Core.Path.{refl, sym, _∙_}
 use Rattle.complex.specs.Decode.{Command, move}
-use Rattle.complex.proofs.Asked.{no-3, no-4}
+use Rattle.complex.proofs.Asked.{early-one, out-one, no-3, no-4}
 use Rattle.store.specs.Index.{Indexes}
 use Rattle.sound.specs.Looks.{Looks}
 use Rattle.sound.proofs.Meaning.{sound-fits, looks}
-use Rattle.edits.proofs.Edit.{move-three, move-four, move-kind}
+use Rattle.answer.proofs.Asked.{kind-vertex}
+use Rattle.edits.proofs.Edit.{move-four}
 use Rattle.lent.specs.Arrays.{Arrays, lent, heldBy, rowsBy}
 use Rattle.lent.proofs.Held.{held-sizes, held-indexes}
 use Rattle.lent.proofs.Replies.{rows-of, drawing-of, obeyed-no}
@@ -40,7 +40,7 @@ returns : tie.Need-returns
 returns c =
     let b = c .before .before in
     let s = b .before in
-    obeyed-no (arrays s) (s .pre .sound) (asked s) 3 _ (c .line-of .ensures) (no-3 _ (asked s) (move-three (s .args .v) (s .args .p) false (sym (b .in-bounds .ensures) ∙ not-true _ (c .before .if1 .taken))))
+    obeyed-no (arrays s) (s .pre .sound) (asked s) 3 _ (c .line-of .ensures) (no-3 _ (asked s) (out-one (asked s) (s .args .p) refl (sym (b .in-bounds .ensures) ∙ not-true _ (c .before .if1 .taken))))
 
 value-at-requires : tie.Need-value-at-requires
 value-at-requires c κs =
@@ -56,8 +56,8 @@ returns-2 c =
     let b = a .before .before in
     let s = b .before in
     obeyed-no (arrays s) (s .pre .sound) (asked s) 4 _ (c .line-of2 .ensures)
-    (no-4 _ (asked s) (move-three (s .args .v) (s .args .p) true (sym (b .in-bounds .ensures) ∙ not-false _ (a .before .if1 .left)))
-    (move-four _ (s .args .v) (s .args .p) (sym (move-kind _ (held-sizes (arrays s) (s .pre .long)) (drawing-of (arrays s) (s .pre .sound)) _ (index s) (s .args .v) (a .value-at .result) (a .value-at .ensures)) ∙ ne-eqb _ 0 (c .before .if2 .taken))))
+    (no-4 _ (asked s) (early-one (asked s) (s .args .p) refl (sym (b .in-bounds .ensures) ∙ not-false _ (a .before .if1 .left)))
+    (move-four _ (s .args .v) (s .args .p) (sym (kind-vertex _ (held-sizes (arrays s) (s .pre .long)) (drawing-of (arrays s) (s .pre .sound)) _ (index s) (s .args .v) (a .value-at .result) (a .value-at .ensures)) ∙ ne-eqb _ 0 (c .before .if2 .taken))))
 
 find-requires : tie.Need-find-requires
 find-requires c κs =
