@@ -258,7 +258,7 @@ fn cycles_pass(
 // ---- 04
 
 // Questions 4 and 6 of a new face: the number of the first no, or 0.
-fn face_no(
+pub fn face_no(
     script: &[u8],
     first: usize,
     k: u32,

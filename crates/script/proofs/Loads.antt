@@ -135,28 +135,28 @@ module _ (s : List ℕ) (at m first n : ℕ) (number : readNumber (drop at s) �
 
 -- ---- a face's cycles
 -- what is left to load makes, from here on, what all of it makes
-pub record Loading (s : List ℕ) (first n : ℕ) (counts₀ steps₀ counts steps : List ℕ) (at left i used : ℕ) : Type 0 where
+pub record Loading (s : List ℕ) (first n : ℕ) (counts₀ : List ℕ) (row : ℕ) (steps₀ : List ℕ) (place : ℕ) (counts steps : List ℕ) (at left i used : ℕ) : Type 0 where
   pub walk : Walking readCycle s first n at left
-  pub rows : i + left ≡ n
-  pub sum : used + total stepCount (cyclesRead s at left) ≡ total stepCount (cyclesRead s first n)
+  pub rows : i + left ≡ row + n
+  pub sum : used + total stepCount (cyclesRead s at left) ≡ place + total stepCount (cyclesRead s first n)
   pub countsSize : length counts ≡ length counts₀
   pub stepsSize : length steps ≡ length steps₀
-  pub lengths : sets counts i (map numOf (cyclesRead s at left)) ≡ sets counts₀ 0 (map numOf (cyclesRead s first n))
-  pub places : sets steps used (spread stepsIn (cyclesRead s at left)) ≡ sets steps₀ 0 (spread stepsIn (cyclesRead s first n))
+  pub lengths : sets counts i (map numOf (cyclesRead s at left)) ≡ sets counts₀ row (map numOf (cyclesRead s first n))
+  pub places : sets steps used (spread stepsIn (cyclesRead s at left)) ≡ sets steps₀ place (spread stepsIn (cyclesRead s first n))
 
-pub loading-start : (s : List ℕ) (first n : ℕ) (counts steps : List ℕ) → Stand readCycle s first n → Loading s first n counts steps counts steps first n 0 0
-loading-start s first n counts steps h =
+pub loading-start : (s : List ℕ) (first n : ℕ) (counts : List ℕ) (row : ℕ) (steps : List ℕ) (place : ℕ) → Stand readCycle s first n → Loading s first n counts row steps place counts steps first n row place
+loading-start s first n counts row steps place h =
     record {
       walk = walking-start readCycle s first n h;
-      rows = omega arith;
-      sum = omega arith;
+      rows = refl;
+      sum = refl;
       countsSize = refl;
       stepsSize = refl;
       lengths = refl;
       places = refl;
     }
 
-module _ {s : List ℕ} {first n : ℕ} {counts₀ steps₀ counts steps : List ℕ} {at left i used : ℕ} (room : Room s first n counts₀ 0 steps₀ 0) (l : Loading s first n counts₀ steps₀ counts steps at left i used) where
+module _ {s : List ℕ} {first n : ℕ} {counts₀ : List ℕ} {row : ℕ} {steps₀ : List ℕ} {place : ℕ} {counts steps : List ℕ} {at left i used : ℕ} (room : Room s first n counts₀ row steps₀ place) (l : Loading s first n counts₀ row steps₀ place counts steps at left i used) where
   module _ (some : 0 < left) where
     pub loading-room : Room s at 1 counts i steps used
     loading-room =
@@ -204,7 +204,7 @@ module _ {s : List ℕ} {first n : ℕ} {counts₀ steps₀ counts steps : List 
           let z = width in
           omega arith
 
-      pub loading-turn : Loading s first n counts₀ steps₀ counts′ steps′ next (left - 1) (i + 1) (used + k)
+      pub loading-turn : Loading s first n counts₀ row steps₀ place counts′ steps′ next (left - 1) (i + 1) (used + k)
       loading-turn =
           let w = walking-turn readCycle leaves-cycle s first n at left (l .walk) some (o .thing) next (o .read) (done .reach .fits) in
           let b : total stepCount (cyclesRead s at left) ≡ stepCount (o .thing) + total stepCount (cyclesRead s next (left - 1)) = ap (total stepCount) (w .0) in
@@ -233,27 +233,35 @@ module _ {s : List ℕ} {first n : ℕ} {counts₀ steps₀ counts steps : List 
     nothing : cyclesRead s at left ≡ []
     nothing = let e : left ≡ 0 = omega arith in ap (cyclesRead s at) e
 
-    pub loading-used : used ≡ total stepCount (cyclesRead s first n)
+    pub loading-used : used ≡ place + total stepCount (cyclesRead s first n)
     loading-used =
         let z : total stepCount (cyclesRead s at left) ≡ 0 = ap (total stepCount) nothing in
         let u = l .sum in
         omega arith
 
-    pub loading-end : Held (cyclesRead s first n) counts n steps used
-    loading-end =
-        let u = loading-used in
-        let e = room .rows in
-        let f = room .places in
-        let c = l .countsSize in
-        let d = l .stepsSize in
-        let a : length (map numOf (cyclesRead s first n)) ≡ n = length-map (cyclesRead s first n) numOf ∙ stand-length readCycle s first n (room .stand) in
-        let b : length (spread stepsIn (cyclesRead s first n)) ≡ used = all-places (cyclesRead s first n) ∙ sym u in
-        let p : counts ≡ sets counts₀ 0 (map numOf (cyclesRead s first n)) = ap (λ (ks : List Cycle). sets counts i (map numOf ks)) (sym nothing) ∙ l .lengths in
-        let q : steps ≡ sets steps₀ 0 (spread stepsIn (cyclesRead s first n)) = ap (λ (ks : List Cycle). sets steps used (spread stepsIn ks)) (sym nothing) ∙ l .places in
-        record {
-          lengths = ap (take n) p ∙ take-sets counts₀ (map numOf (cyclesRead s first n)) n a (omega arith);
-          places = ap (take used) q ∙ take-sets steps₀ (spread stepsIn (cyclesRead s first n)) used b (omega arith);
-          real = reals-read n (drop first s) (drop (room .stand .end) s) (cyclesRead s first n) (room .stand .reach .read);
-          lengthsRoom = omega arith;
-          placesRoom = omega arith;
-        }
+    pub loading-lengths : counts ≡ sets counts₀ row (map numOf (cyclesRead s first n))
+    loading-lengths = ap (λ (ks : List Cycle). sets counts i (map numOf ks)) (sym nothing) ∙ l .lengths
+
+    pub loading-places : steps ≡ sets steps₀ place (spread stepsIn (cyclesRead s first n))
+    loading-places = ap (λ (ks : List Cycle). sets steps used (spread stepsIn ks)) (sym nothing) ∙ l .places
+
+pub sets-size : (l vs : List ℕ) (i n : ℕ) (r : List ℕ) → r ≡ sets l i vs → length l ≡ n → length r ≡ n
+sets-size l vs i n r e h = ap length e ∙ length-sets l i vs ∙ h
+
+-- at the front of the arrays they are held
+pub loads-held : (s : List ℕ) (first n : ℕ) (counts₀ steps₀ counts steps : List ℕ) (used : ℕ) → Room s first n counts₀ 0 steps₀ 0 → used ≡ total stepCount (cyclesRead s first n)
+    → counts ≡ sets counts₀ 0 (map numOf (cyclesRead s first n)) → steps ≡ sets steps₀ 0 (spread stepsIn (cyclesRead s first n)) → Held (cyclesRead s first n) counts n steps used
+loads-held s first n counts₀ steps₀ counts steps used room u p q =
+    let e = room .rows in
+    let f = room .places in
+    let c : length counts ≡ length counts₀ = ap length p ∙ length-sets counts₀ 0 (map numOf (cyclesRead s first n)) in
+    let d : length steps ≡ length steps₀ = ap length q ∙ length-sets steps₀ 0 (spread stepsIn (cyclesRead s first n)) in
+    let a : length (map numOf (cyclesRead s first n)) ≡ n = length-map (cyclesRead s first n) numOf ∙ stand-length readCycle s first n (room .stand) in
+    let b : length (spread stepsIn (cyclesRead s first n)) ≡ used = all-places (cyclesRead s first n) ∙ sym u in
+    record {
+      lengths = ap (take n) p ∙ take-sets counts₀ (map numOf (cyclesRead s first n)) n a (omega arith);
+      places = ap (take used) q ∙ take-sets steps₀ (spread stepsIn (cyclesRead s first n)) used b (omega arith);
+      real = reals-read n (drop first s) (drop (room .stand .end) s) (cyclesRead s first n) (room .stand .reach .read);
+      lengthsRoom = omega arith;
+      placesRoom = omega arith;
+    }

@@ -2,12 +2,16 @@
 // cycles of a face.
 ghost use mathlib.Core.Path.{_≡_};
 ghost use mathlib.Core.Bool.{true};
+ghost use mathlib.Core.List.{map};
 ghost use Prim.Native.Nat.{_+_, _≤_, min};
 ghost use lib.ListN.{length};
+ghost use lib.Seq.{sets};
+ghost use Rattle.number.specs.Readers.{spread};
 ghost use Rattle.number.specs.Numbers.{readNumber};
 ghost use Rattle.complex.specs.Lists.{total, holds, places};
 ghost use Rattle.complex.specs.Sound.{stepCount};
 ghost use Rattle.complex.specs.Decode.{readCycle};
+ghost use Rattle.store.specs.Places.{numOf, stepsIn};
 ghost use Rattle.store.specs.Pools.{Held};
 ghost use Rattle.command.specs.Lists.{numbersRead, cyclesRead, Stand};
 ghost use Rattle.script.specs.Walks.{below, Marks, Copied, Room, Loaded};
@@ -154,6 +158,38 @@ fn load_cycle(
     copy_numbers(script, first, n, steps, used)
 }
 
+// The cycles of a face go to lent arrays, their lengths from a row of `counts` on and their places
+// from a place of `steps` on; the place after them comes back.
+pub fn put_cycles(
+    script: &[u8],
+    first: usize,
+    count: u32,
+    counts: &mut [u32; 512],
+    row: usize,
+    steps: &mut [u32; 2048],
+    place: usize,
+) -> usize
+    requires { ⌜ Room (now script) first count (now counts) row (now steps) place ⌝ }
+    requires { ⌜ length (now counts) ≡ 512 ⌝ }
+    requires { ⌜ length (now steps) ≡ 2048 ⌝ }
+    ensures { λ r. ⌜ r ≡ place + total stepCount (cyclesRead (now (script .entry)) first count) ⌝ }
+    ensures { λ _. ⌜ now (counts .exit) ≡ sets (now (counts .entry)) row (map numOf (cyclesRead (now (script .entry)) first count)) ⌝ }
+    ensures { λ _. ⌜ now (steps .exit) ≡ sets (now (steps .entry)) place (spread stepsIn (cyclesRead (now (script .entry)) first count)) ⌝ }
+{
+    let mut at = first;
+    let mut left = count;
+    let mut i = row;
+    let mut used = place;
+    while 0 < left {
+        at = load_cycle(script, at, counts, i, steps, used);
+        let m = counts[i];
+        used = used + store::places(1, m);
+        i = i + 1;
+        left -= 1;
+    }
+    used
+}
+
 // The cycles of a face go to the front of lent arrays; the count of steps comes back.
 pub fn load_cycles(
     script: &[u8],
@@ -170,16 +206,5 @@ pub fn load_cycles(
     ensures { λ _. ⌜ length (now (counts .exit)) ≡ 512 ⌝ }
     ensures { λ _. ⌜ length (now (steps .exit)) ≡ 2048 ⌝ }
 {
-    let mut at = first;
-    let mut left = count;
-    let mut i: usize = 0;
-    let mut used: usize = 0;
-    while 0 < left {
-        at = load_cycle(script, at, counts, i, steps, used);
-        let m = counts[i];
-        used = used + store::places(1, m);
-        i = i + 1;
-        left -= 1;
-    }
-    used
+    put_cycles(script, first, count, counts, 0, steps, 0)
 }
