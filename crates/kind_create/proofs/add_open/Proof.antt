@@ -1,0 +1,214 @@
+-- `add_open` meets its contract: questions 3 and 4, then 7 and 8, then the bends and the row. Assumes nothing.
+use borrow.Author.Needs.{needs}
+use borrow.Author.Tests.{not-true, not-false, eq-eqb, ne-eqb}
+use native.Mathlib.Omega.{arith}
+use Prim.Native.Nat.{ℕ}
+use mathlib.Core.Path.{_≡_, refl, sym, _∙_}
+use mathlib.Core.Bool.{true}
+use mathlib.Core.List.{List}
+use lib.Dec.{lit≤, eqb}
+use lib.ListN.{length}
+use denote.Ref.{now}
+use Rattle.coordinate.specs.declared.Position.{Position}
+use Rattle.coordinate.specs.Bounds.{within}
+use Rattle.bends.specs.Bends.{positionsAt}
+use Rattle.bends.proofs.Laws.{positions-length}
+use Rattle.complex.specs.Lists.{all}
+use Rattle.complex.specs.Cells.{Figure, openEdge, cellAt, isVertex}
+use Rattle.complex.specs.Decode.{create}
+use Rattle.complex.proofs.Asked.{early-bends, out-bends, no-3, no-4, Passed}
+use Rattle.store.specs.View.{sheetOf}
+use Rattle.sound.specs.Looks.{told}
+use Rattle.append.specs.Appends.{Room}
+use Rattle.answer.specs.Sizes.{sized, nothing, moreLess, changedBy}
+use Rattle.answer.specs.Late.{sizesBy, lateNo}
+use Rattle.answer.proofs.Asked.{next-in, kind-vertex}
+use Rattle.cells.proofs.Create.{no-by-bends, open-four-start, open-four-end, open-passed}
+use Rattle.lent.specs.Arrays.{Arrays, lent, heldBy, rowsBy}
+use Rattle.lent.specs.Growing.{withOpen}
+use Rattle.lent.proofs.Grown.{open-long, open-normal}
+use Rattle.lent.proofs.Sums.{ready-rows, ready-drawing, ready-sizes, ready-fits, ready-indexes, ready-looks, ready-small, ready-bends, ready-no}
+use Rattle.kind_create.proofs.Comes.{obeyed-full, came-room, obeyed-came}
+use Rattle.kind_create.proofs.Put.{withPlaced, placed-long, open-grew}
+use Rattle.kind_create.proofs.add_open.Statement.{statement}
+use Rattle.kind_create.proofs.add_open.Tie as tie
+
+abbrev arrays : (c : tie.Start) → Arrays
+arrays c =
+    let a = c .args in
+    lent (now (a .next)) (now (a .count)) (a .ids) (a .kinds) (a .starts) (a .ends) (a .bends) (a .counts) (a .px) (a .py) (a .cycles) (a .steps) (a .bx) (a .by)
+
+-- the bends in the script
+abbrev listed : (c : tie.Start) → List Position
+listed c = positionsAt (now (c .args .script)) (c .args .first) (c .args .k)
+
+many : (c : tie.Start) → length (listed c) ≡ c .args .k
+many c = positions-length (now (c .args .script)) (c .args .first) (c .args .k)
+
+abbrev edge : (c : tie.Start) → Figure
+edge c = openEdge (c .args .start) (c .args .end) (listed c)
+
+-- the kind in the row of an id
+kind : (c : tie.Start) (v k : ℕ) → k ≡ told 4 (heldBy (arrays c)) (rowsBy (arrays c)) (arrays c .kinds) v → eqb k 0 ≡ isVertex (cellAt (sheetOf (heldBy (arrays c))) v)
+kind c v k e =
+    let a = arrays c in
+    let t = c .args .t in
+    let r = c .pre .0 in
+    kind-vertex (heldBy a) (ready-sizes a t r) (ready-drawing a t r) (rowsBy a) (ready-indexes a t r) v k e
+
+bends-within-requires : tie.Need-bends-within-requires
+bends-within-requires c κs = c .before .pre .1
+
+line-of-requires : tie.Need-line-of-requires
+line-of-requires c κs = search needs
+
+returns : tie.Need-returns
+returns c =
+    let w = c .before .before in
+    let s = w .before .before in
+    let q = create (edge s) in
+    ready-no (arrays s) (s .args .t) (s .pre .0) q 3 _ (c .line-of .ensures) (no-3 _ q (out-bends q (sym (w .bends-within .ensures) ∙ not-true _ (c .before .if1 .taken))))
+
+value-at-requires : tie.Need-value-at-requires
+value-at-requires c κs =
+    let s = c .before .before .before .before .before .before in
+    let a = arrays s in
+    let r = s .pre .0 in
+    (ready-fits a (s .args .t) r .cells, (r .long .ids, (r .long .kinds, ready-looks a (s .args .t) r .rising)))
+
+-- where the kind of the start is known
+abbrev asking : tie.After-value-at → tie.Start
+asking a = a .before .before .before .before .before .before .before
+
+bounds : (a : tie.After-value-at) → all within (listed (asking a)) ≡ true
+bounds a = let e = a .before .before .before .before in sym (e .before .bends-within .ensures) ∙ not-false _ (e .if1 .left)
+
+line-of-requires-2 : tie.Need-line-of-requires-2
+line-of-requires-2 c κs = search needs
+
+returns-2 : tie.Need-returns-2
+returns-2 c =
+    let a = c .before .before in
+    let s = asking a in
+    let q = create (edge s) in
+    ready-no (arrays s) (s .args .t) (s .pre .0) q 4 _ (c .line-of2 .ensures)
+    (no-4 _ q (early-bends q (bounds a))
+    (open-four-start (heldBy (arrays s)) (s .args .start) (s .args .end) (listed s) (sym (kind s (s .args .start) (a .value-at .result) (a .value-at .ensures)) ∙ ne-eqb _ 0 (c .before .if2 .taken))))
+
+value-at-requires-2 : tie.Need-value-at-requires-2
+value-at-requires-2 c κs =
+    let s = asking (c .before .before .before) in
+    let a = arrays s in
+    let r = s .pre .0 in
+    (ready-fits a (s .args .t) r .cells, (r .long .ids, (r .long .kinds, ready-looks a (s .args .t) r .rising)))
+
+starts-at : (e : tie.Else2) → isVertex (cellAt (sheetOf (heldBy (arrays (asking (e .before))))) (asking (e .before) .args .start)) ≡ true
+starts-at e = let a = e .before in let s = asking a in sym (kind s (s .args .start) (a .value-at .result) (a .value-at .ensures)) ∙ eq-eqb _ 0 (e .if2 .left)
+
+line-of-requires-3 : tie.Need-line-of-requires-3
+line-of-requires-3 c κs = search needs
+
+returns-3 : tie.Need-returns-3
+returns-3 c =
+    let b = c .before .before in
+    let e = b .before .before .before in
+    let s = asking (e .before) in
+    let q = create (edge s) in
+    ready-no (arrays s) (s .args .t) (s .pre .0) q 4 _ (c .line-of3 .ensures)
+    (no-4 _ q (early-bends q (bounds (e .before)))
+    (open-four-end (heldBy (arrays s)) (s .args .start) (s .args .end) (listed s) (starts-at e) (sym (kind s (s .args .end) (b .value-at2 .result) (b .value-at2 .ensures)) ∙ ne-eqb _ 0 (c .before .if3 .taken))))
+
+-- where both are known
+abbrev starting : tie.Else3 → tie.Start
+starting f = asking (f .before .before .before .before .before)
+
+passed : (f : tie.Else3) → Passed (sheetOf (heldBy (arrays (starting f)))) (create (edge (starting f)))
+passed f =
+    let b = f .before in
+    let e = b .before .before .before in
+    let s = starting f in
+    open-passed (heldBy (arrays s)) (s .args .start) (s .args .end) (listed s) (bounds (e .before)) (starts-at e) (sym (kind s (s .args .end) (b .value-at2 .result) (b .value-at2 .ensures)) ∙ eq-eqb _ 0 (f .if3 .left))
+
+wide-requires : tie.Need-wide-requires
+wide-requires c κs = search needs
+
+cell-no-requires : tie.Need-cell-no-requires
+cell-no-requires c κs =
+    let s = starting (c .before .before) in
+    (next-in (heldBy (arrays s)) (ready-drawing (arrays s) (s .args .t) (s .pre .0)), (ready-small (arrays s) (s .args .t) (s .pre .0), (lit≤ tt, (lit≤ tt, omega (arith, c .wide .ensures, s .fits .k)))))
+
+line-of-requires-4 : tie.Need-line-of-requires-4
+line-of-requires-4 c κs = search needs
+
+-- where questions 7 and 8 are answered
+abbrev start : tie.After-cell-no → tie.Start
+start l = starting (l .before .before .before)
+
+late : (l : tie.After-cell-no) → l .cell-no .result ≡ lateNo (arrays (start l) .next) 1 (changedBy (sizesBy (start l .args .t)) (moreLess (sized 1 0 0 (length (listed (start l)))) nothing))
+late l = let s = start l in no-by-bends (arrays s .next) (s .args .t) (l .cell-no .result) _ (listed s) (many s ∙ sym (l .before .wide .ensures)) (l .cell-no .ensures)
+
+returns-4 : tie.Need-returns-4
+returns-4 c =
+    let l = c .before .before in
+    let s = start l in
+    obeyed-full (arrays s) (s .args .t) (s .pre .0) (edge s) (passed (l .before .before .before)) (l .cell-no .result) (late l) (c .before .if4 .taken) _ (c .line-of4 .ensures)
+
+-- where the edge has room
+room : (e : tie.Else4) → Room (heldBy (arrays (start (e .before)))) (edge (start (e .before)))
+room e =
+    let l = e .before in
+    let s = start l in
+    came-room (arrays s) (s .args .t) (s .pre .0) (edge s) (passed (l .before .before .before)) (l .cell-no .result) (late l) (e .if4 .left)
+
+put-bends-requires : tie.Need-put-bends-requires
+put-bends-requires c κs =
+    let e = c .before .before in
+    let s = start (e .before) in
+    (s .pre .1, (omega (arith, room e .bends, many s, ready-bends (arrays s) (s .args .t) (s .pre .0)), (s .pre .0 .long .bx, s .pre .0 .long .by)))
+
+add-row-requires : tie.Need-add-row-requires
+add-row-requires c κs = let m = room (c .before .before .before .before .before .before .before .before .before .before .before) in (m .cells, m .ids)
+
+returns-5 : tie.Need-returns-5
+returns-5 c =
+    let p = c .before .before .before .before .before .before .before .before .before in
+    let e = p .before .before .before in
+    let l = e .before in
+    let s = start l in
+    let a = arrays s in
+    let k = s .args .k in
+    let us = p .put-bends .last .1 .1 .1 .0 in
+    let vs = p .put-bends .last .1 .1 .1 .1 .0 in
+    let at = ready-bends a (s .args .t) (s .pre .0) in
+    let b = withPlaced a us vs in
+    let lb = placed-long a (s .pre .0 .long) (listed s) k (s .args .t .bends) (many s) at us vs (p .put-bends .ensures) in
+    let w = c .add-row .ensures in
+    let y = w .1 .1 .1 in
+    let m = room e in
+    obeyed-came a (s .args .t) (s .pre .0) (edge s) (passed (l .before .before .before)) (l .cell-no .result) (late l) (e .if4 .left)
+    (withOpen b (s .args .start) (s .args .end) k) (open-long b lb (s .args .start) (s .args .end) k) refl refl (open-normal b lb (s .args .start) (s .args .end) k (m .cells) (ready-rows a (s .args .t) (s .pre .0)))
+    (open-grew a (s .pre .0 .long) (listed s) k (s .args .t .bends) (many s) at us vs (p .put-bends .ensures) (s .args .start) (s .args .end) m)
+    _
+    (λ i. record { next = w .1 .0 i; count = w .1 .1 .0 i; ids = y .0 i; kinds = y .1 .0 i; starts = y .1 .1 .0 i; ends = y .1 .1 .1 .0 i; bends = y .1 .1 .1 .1 .0 i; counts = y .1 .1 .1 .1 .1 i; px = a .px; py = a .py; cycles = a .cycles; steps = a .steps; bx = us; by = vs })
+    _ (w .0)
+
+pub add-open-spec : {M : Type 1} → statement M
+add-open-spec =
+    tie.close
+    (tie.spec
+    bends-within-requires
+    line-of-requires
+    returns
+    value-at-requires
+    line-of-requires-2
+    returns-2
+    value-at-requires-2
+    line-of-requires-3
+    returns-3
+    wide-requires
+    cell-no-requires
+    line-of-requires-4
+    returns-4
+    put-bends-requires
+    add-row-requires
+    returns-5)
