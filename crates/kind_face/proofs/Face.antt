@@ -1,0 +1,162 @@
+-- 04: the arrays with a face more, whose cycles and steps are put after those in use. Assumes nothing.
+use Prim.Native.Nat.{ℕ, _+_, _≤_, min}
+use native.Mathlib.Omega.{arith}
+use mathlib.Core.Path.{_≡_, refl, sym, ap, _∙_, subst}
+use mathlib.Core.Bool.{true}
+use mathlib.Core.List.{List, _++_, map}
+use lib.ListN.{length, take, drop, length-append, length-map, length-set}
+use lib.Seq.{sets, length-sets, sets-eq, take-at, length-take-le}
+use Rattle.number.specs.Readers.{spread}
+use Rattle.complex.specs.Lists.{total}
+use Rattle.complex.specs.Cells.{Cycle, face}
+use Rattle.complex.specs.Sound.{stepCount}
+use Rattle.complex.specs.Decode.{create, readCycle}
+use Rattle.complex.proofs.Asked.{Passed}
+use Rattle.store.specs.declared.Shape.the-variants.{Face}
+use Rattle.store.specs.Sheet.{allReal}
+use Rattle.store.specs.Places.{numOf, stepsIn}
+use Rattle.store.specs.View.{sheetOf, cycleTotal, stepTotal, bendTotal}
+use Rattle.store.proofs.Encode.{all-places}
+use Rattle.store.proofs.Grow.{append, no-more}
+use Rattle.sound.specs.Rows.{rowsOf}
+use Rattle.append.specs.Appends.{Room, withCell}
+use Rattle.append.proofs.Bends.{Grew}
+use Rattle.command.specs.Lists.{cyclesRead, Stand}
+use Rattle.command.proofs.Laws.{stand-length}
+use Rattle.script.specs.Walks.{Room as Space}
+use Rattle.script.proofs.Cycles.{reals-read}
+use Rattle.answer.specs.declared.Totals.{Totals}
+use Rattle.answer.specs.Sizes.{sized, nothing, moreLess, changedBy}
+use Rattle.answer.specs.Late.{sizesBy, lateNo}
+use Rattle.faces.specs.Walks.{Rowed, faceNo}
+use Rattle.faces.proofs.Meaning.{rowed, face-refuses, face-passed, no-by-steps}
+use Rattle.lent.specs.Arrays.{Arrays, heldBy, rowsBy, Lengths}
+use Rattle.lent.specs.declared.Line.{Line}
+use Rattle.lent.specs.Growing.{withFace}
+use Rattle.lent.specs.Replies.{lineOf, Ready, Obeyed}
+use Rattle.lent.proofs.Held.{held-sizes}
+use Rattle.lent.proofs.Grown.{face-long, face-held, face-normal}
+use Rattle.lent.proofs.Sums.{ready-rows, ready-drawing, ready-sizes, ready-indexes, ready-cycles, ready-steps, ready-no}
+use Rattle.kind_create.specs.Comes.{oneNew}
+use Rattle.kind_create.proofs.Comes.{obeyed-full, came-room, obeyed-came}
+
+-- the front, where numbers are put after it
+sets-front : (l vs : List ℕ) (i : ℕ) → i + length vs ≤ length l → take (i + length vs) (sets l i vs) ≡ take i l ++ vs
+sets-front l vs i h =
+    let n : length (take i l ++ vs) ≡ i + length vs = length-append (take i l) vs ∙ ap (λ (k : ℕ). k + length vs) (length-take-le i l (omega (arith, h))) in
+    ap (take (i + length vs)) (sets-eq vs l i h) ∙ take-at (take i l ++ vs) (drop (i + length vs) l) (i + length vs) n
+
+-- the arrays with other cycles and steps
+abbrev pub withPools : Arrays → List ℕ → List ℕ → Arrays
+withPools a cs ss =
+    record {
+      next = a .next;
+      count = a .count;
+      ids = a .ids;
+      kinds = a .kinds;
+      starts = a .starts;
+      ends = a .ends;
+      bends = a .bends;
+      counts = a .counts;
+      px = a .px;
+      py = a .py;
+      cycles = cs;
+      steps = ss;
+      bx = a .bx;
+      by = a .by;
+    }
+
+-- ---- the face
+module _ (a : Arrays) (l : Lengths a) (ks : List Cycle) (k c p : ℕ) (lk : length ks ≡ k) (ec : c ≡ cycleTotal (heldBy a)) (ep : p ≡ stepTotal (heldBy a)) (re : allReal ks ≡ true)
+    (cs ss : List ℕ) (es : cs ≡ sets (a .cycles) c (map numOf ks)) (et : ss ≡ sets (a .steps) p (spread stepsIn ks)) where
+  pub pools-long : Lengths (withPools a cs ss)
+  pools-long =
+      record {
+        ids = l .ids;
+        kinds = l .kinds;
+        starts = l .starts;
+        ends = l .ends;
+        bends = l .bends;
+        counts = l .counts;
+        px = l .px;
+        py = l .py;
+        cycles = ap length es ∙ length-sets (a .cycles) c (map numOf ks) ∙ l .cycles;
+        steps = ap length et ∙ length-sets (a .steps) p (spread stepsIn ks) ∙ l .steps;
+        bx = l .bx;
+        by = l .by;
+      }
+
+  pub face-grew : Room (heldBy a) (face ks) → Grew (heldBy a) (face ks) (heldBy (withFace (withPools a cs ss) k))
+  face-grew m =
+      let d = heldBy a in
+      let z = held-sizes a l in
+      let b = pools-long in
+      let ln = length-map ks numOf in
+      let u : take (cycleTotal d + length (map numOf ks)) cs ≡ take (cycleTotal d) (a .cycles) ++ map numOf ks =
+      ap (take (cycleTotal d + length (map numOf ks))) (es ∙ ap (λ (i : ℕ). sets (a .cycles) i (map numOf ks)) ec)
+      ∙ sets-front (a .cycles) (map numOf ks) (cycleTotal d) (omega (arith, m .cycles, ln, l .cycles)) in
+      let v : take (stepTotal d + length (spread stepsIn ks)) ss ≡ take (stepTotal d) (a .steps) ++ spread stepsIn ks =
+      ap (take (stepTotal d + length (spread stepsIn ks))) (et ∙ ap (λ (i : ℕ). sets (a .steps) i (spread stepsIn ks)) ep)
+      ∙ sets-front (a .steps) (spread stepsIn ks) (stepTotal d) (omega (arith, m .steps, l .steps)) in
+      let g =
+      append d z (m .fits) (m .cells) (face ks) cs ss (d .bends)
+      (record { cells = length-set (d .cells) (d .count) _ ∙ z .cells; cycles = b .cycles; steps = b .steps; bends = z .bends })
+      (omega (arith, m .cycles, ln)) u (m .steps) v (m .bends) (no-more (d .bends) (bendTotal d)) re in
+      let q : heldBy (withFace (withPools a cs ss) k) ≡ withCell (heldBy (withPools a cs ss)) (Face (length ks)) =
+      face-held (withPools a cs ss) b k (m .cells) ∙ ap (λ (n : ℕ). withCell (heldBy (withPools a cs ss)) (Face n)) (sym lk) in
+      subst (Grew d (face ks)) (sym q) g
+
+-- ---- 04
+module _ (a : Arrays) (t : Totals) (r : Ready a t) (s : List ℕ) (first k : ℕ) (stand : Stand readCycle s first k) where
+  abbrev ks : List Cycle
+  ks = cyclesRead s first k
+
+  count : length (cyclesRead s first k) ≡ k
+  count = stand-length readCycle s first k stand
+
+  pub face-rowed : Rowed (a .count) (a .ids) (a .kinds) (a .starts) (a .ends)
+  face-rowed = rowed (heldBy a) (ready-sizes a t r) (ready-drawing a t r) (rowsBy a) (ready-indexes a t r)
+
+  -- n is what `face_no` answers
+  module _ (n : ℕ) (en : n ≡ faceNo (rowsOf (a .count) (a .ids) (a .kinds) (a .starts) (a .ends)) (cyclesRead s first k)) where
+    pub obeyed-asked : (n ≡ 0 → ⊥) → (x : Line) → x ≡ lineOf n → Obeyed a (create (face (cyclesRead s first k))) a x
+    obeyed-asked z x e =
+        ready-no a t r (create (face ks)) n x e
+        (face-refuses (heldBy a) (ready-sizes a t r) (ready-drawing a t r) (rowsBy a) (ready-indexes a t r) s first k stand n en z)
+
+    -- m is what `count_cycle_steps` and q what `cell_no` answers
+    module _ (z : n ≡ 0) (w m q : ℕ) (ew : w ≡ k) (em : m ≡ min 2049 (total stepCount (cyclesRead s first k)))
+        (eq : q ≡ lateNo (a .next) 1 (changedBy (sizesBy t) (moreLess (sized 1 w m 0) nothing))) where
+      passed : Passed (sheetOf (heldBy a)) (create (face (cyclesRead s first k)))
+      passed = face-passed (heldBy a) (ready-sizes a t r) (ready-drawing a t r) (rowsBy a) (ready-indexes a t r) s first k stand n en z
+
+      late : q ≡ lateNo (a .next) 1 (changedBy (sizesBy t) (moreLess (sized 1 (length ks) (total stepCount ks) 0) nothing))
+      late = no-by-steps (a .next) t q w m ks (ew ∙ sym count) em eq
+
+      pub obeyed-face-full : (q ≡ 0 → ⊥) → (x : Line) → x ≡ lineOf q → Obeyed a (create (face (cyclesRead s first k))) a x
+      obeyed-face-full = obeyed-full a t r (face ks) passed q late
+
+      module _ (y : q ≡ 0) where
+        pub face-room : Room (heldBy a) (face (cyclesRead s first k))
+        face-room = came-room a t r (face ks) passed q late y
+
+        pub face-space : Space s first k (a .cycles) (t .cycles) (a .steps) (t .steps)
+        face-space =
+            let f = face-room in
+            record {
+              stand = stand;
+              rows = omega (arith, f .cycles, count, ready-cycles a t r, r .long .cycles);
+              places = omega (arith, f .steps, all-places ks, ready-steps a t r, r .long .steps);
+            }
+
+        pub obeyed-face : (cs ss : List ℕ) → cs ≡ sets (a .cycles) (t .cycles) (map numOf (cyclesRead s first k)) → ss ≡ sets (a .steps) (t .steps) (spread stepsIn (cyclesRead s first k))
+            → (o : Arrays) → o ≡ withFace (withPools a cs ss) k → (x : Line) → x ≡ oneNew (a .next) → Obeyed a (create (face (cyclesRead s first k))) o x
+        obeyed-face cs ss es et =
+            let c = ready-cycles a t r in
+            let p = ready-steps a t r in
+            let re : allReal ks ≡ true = reals-read k (drop first s) (drop (stand .end) s) ks (stand .reach .read) in
+            let lb = pools-long a (r .long) ks k (t .cycles) (t .steps) count c p re cs ss es et in
+            let b = withPools a cs ss in
+            obeyed-came a t r (face ks) passed q late y (withFace b k) (face-long b lb k) refl refl
+            (face-normal b lb k (face-room .cells) (ready-rows a t r))
+            (face-grew a (r .long) ks k (t .cycles) (t .steps) count c p re cs ss es et face-room)
