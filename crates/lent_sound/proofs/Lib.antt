@@ -1,0 +1,4 @@
+pub mod Testing
+pub mod Ranges
+pub mod Whole
+pub mod Cells
