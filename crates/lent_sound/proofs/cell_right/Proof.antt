@@ -1,18 +1,29 @@
 -- `lent_sound::cell_right` meets its contract. One rule after another. Assumes nothing.
 use borrow.Author.Needs.{needs}
 use native.Mathlib.Omega.{arith}
-use mathlib.Core.Path.{refl, sym, _∙_}
+use mathlib.Core.Path.{refl, ap, _∙_}
+use lib.ListN.{take}
 use borrow.Author.Tests.{not-true, not-false}
 use Rattle.lent.specs.Arrays.{Arrays, lent}
-use Rattle.lent_sound.proofs.Cells.{row-in, bends-so, cycles-so, steps-so, cell-id, cell-row, cell-bends, cell-cycles, cell-figure, cell-places, cell-stop, cell-done, looked}
+use Rattle.lent_sound.specs.Walk.{figureRight, rowsIn}
+use Rattle.lent_sound.proofs.Cells.{row-in, steps-so, cell-id, cell-row, cell-bends, cell-cycles, cell-figure, cell-places, cell-stop, cell-done, looked}
 use Rattle.lent_sound.proofs.cell_right.Statement.{statement}
 use Rattle.lent_sound.proofs.cell_right.Tie as tie
+
+abbrev held : (c : tie.Start) → Arrays
+held c =
+    let a = c .args in
+    lent (a .next) (a .count) (a .ids) (a .kinds) (a .starts) (a .ends) (a .bends) (a .counts) (a .px) (a .py) (a .cycles) (a .steps) (a .bx) (a .by)
 
 id-right-requires : tie.Need-id-right-requires
 id-right-requires c κs = search needs
 
 returns : tie.Need-returns
-returns c = ?
+returns c =
+    let s = c .before .before in
+    let a = held s in
+    let u = s .pre .0 in
+    cell-id a (s .args .i) (s .args .t) u (s .pre .1 .1) _ (c .before .id-right .ensures) (not-true _ (c .if1 .taken))
 
 mul-row-normal : tie.Need-mul-row-normal
 mul-row-normal c = search needs
@@ -48,7 +59,12 @@ row-normal-requires : tie.Need-row-normal-requires
 row-normal-requires c κs = search needs
 
 returns-2 : tie.Need-returns-2
-returns-2 c = ?
+returns-2 c =
+    let s = c .before .before .before .before .before .before .before .before .before in
+    let a = held s in
+    let u = s .pre .0 in
+    cell-row a (s .args .i) (s .args .t) u (s .pre .1 .1) _ (c .before .before .before .before .before .before .before .before .id-right .ensures)
+    (not-false _ (c .before .before .before .before .before .before .before .if1 .left)) _ (c .before .row-normal .ensures) (not-true _ (c .if2 .taken))
 
 mul-wide : tie.Need-mul-wide
 mul-wide c = search needs
@@ -63,7 +79,13 @@ sub-if3 : tie.Need-sub-if3
 sub-if3 c = search needs
 
 returns-3 : tie.Need-returns-3
-returns-3 c = ?
+returns-3 c =
+    let s = c .before .before .before .before .before .before .before .before .before .before .before .before .before in
+    let a = held s in
+    let u = s .pre .0 in
+    cell-bends a (s .args .i) (s .args .t) u (s .pre .1 .1) _ (c .before .before .before .before .before .before .before .before .before .before .before .before .id-right .ensures)
+    (not-false _ (c .before .before .before .before .before .before .before .before .before .before .before .if1 .left)) _ (c .before .before .before .before .before .row-normal .ensures)
+    (not-false _ (c .before .before .before .before .if2 .left)) _ (c .before .before .wide .ensures) (c .if3 .taken)
 
 mul-wide-2 : tie.Need-mul-wide-2
 mul-wide-2 c = search needs
@@ -78,25 +100,61 @@ sub-if4 : tie.Need-sub-if4
 sub-if4 c = search needs
 
 returns-4 : tie.Need-returns-4
-returns-4 c = ?
+returns-4 c =
+    let s = c .before .before .before .before .before .before .before .before .before .before .before .before .before .before .before .before .before in
+    let a = held s in
+    let u = s .pre .0 in
+    cell-cycles a (s .args .i) (s .args .t) u (s .pre .1 .1) _ (c .before .before .before .before .before .before .before .before .before .before .before .before .before .before .before .before .id-right .ensures)
+    (not-false _ (c .before .before .before .before .before .before .before .before .before .before .before .before .before .before .before .if1 .left)) _ (c .before .before .before .before .before .before .before .before .before .row-normal .ensures)
+    (not-false _ (c .before .before .before .before .before .before .before .before .if2 .left)) _ (c .before .before .before .before .before .before .wide .ensures)
+    (c .before .before .before .before .if3 .left) _ (c .before .before .wide2 .ensures) (c .if4 .taken)
 
 vertex-at-requires : tie.Need-vertex-at-requires
 vertex-at-requires c κs = search needs
 
 figure-right-requires : tie.Need-figure-right-requires
-figure-right-requires c κs = ?
+figure-right-requires c κs =
+    let s = c .before .before .before .before .before .before .before .before .before .before .before .before .before .before .before .before .before .before in
+    let a = held s in
+    let u = s .pre .0 in
+    (looked a (s .args .i) (s .args .t) u _ (s .pre .1 .0), (u .long .bends, s .pre .1 .1))
 
 returns-5 : tie.Need-returns-5
-returns-5 c = ?
+returns-5 c =
+    let s = c .before .before .before .before .before .before .before .before .before .before .before .before .before .before .before .before .before .before .before .before in
+    let a = held s in
+    let u = s .pre .0 in
+    cell-figure a (s .args .i) (s .args .t) u (s .pre .1 .1) _ (c .before .before .before .before .before .before .before .before .before .before .before .before .before .before .before .before .before .before .before .id-right .ensures)
+    (not-false _ (c .before .before .before .before .before .before .before .before .before .before .before .before .before .before .before .before .before .before .if1 .left)) _ (c .before .before .before .before .before .before .before .before .before .before .before .before .row-normal .ensures)
+    (not-false _ (c .before .before .before .before .before .before .before .before .before .before .before .if2 .left)) _ (c .before .before .before .before .before .before .before .before .before .wide .ensures)
+    (c .before .before .before .before .before .before .before .if3 .left) _ (c .before .before .before .before .before .wide2 .ensures)
+    (c .before .before .before .if4 .left) _ (c .before .figure-right .ensures ∙ ap (figureRight (rowsIn a) (take (a .count) (a .bends)) (s .args .i)) (c .before .before .vertex-at .ensures)) (not-true _ (c .if5 .taken))
 
 bends-right-requires : tie.Need-bends-right-requires
-bends-right-requires c κs = ?
+bends-right-requires c κs =
+    let s = c .before .before .before .before .before .before .before .before .before .before .before .before .before .before .before .before .before .before .before .before in
+    let u = s .pre .0 in
+    omega (arith, c .before .before .before .before .before .before .before .if3 .left, u .bends)
 
 returns-6 : tie.Need-returns-6
-returns-6 c = ?
+returns-6 c =
+    let s = c .before .before .before .before .before .before .before .before .before .before .before .before .before .before .before .before .before .before .before .before .before .before in
+    let a = held s in
+    let u = s .pre .0 in
+    cell-places a (s .args .i) (s .args .t) u (s .pre .1 .1) _ (c .before .before .before .before .before .before .before .before .before .before .before .before .before .before .before .before .before .before .before .before .before .id-right .ensures)
+    (not-false _ (c .before .before .before .before .before .before .before .before .before .before .before .before .before .before .before .before .before .before .before .before .if1 .left)) _ (c .before .before .before .before .before .before .before .before .before .before .before .before .before .before .row-normal .ensures)
+    (not-false _ (c .before .before .before .before .before .before .before .before .before .before .before .before .before .if2 .left)) _ (c .before .before .before .before .before .before .before .before .before .before .before .wide .ensures)
+    (c .before .before .before .before .before .before .before .before .before .if3 .left) _ (c .before .before .before .before .before .before .before .wide2 .ensures)
+    (c .before .before .before .before .before .if4 .left) _ (c .before .before .before .figure-right .ensures ∙ ap (figureRight (rowsIn a) (take (a .count) (a .bends)) (s .args .i)) (c .before .before .before .before .vertex-at .ensures))
+    (not-false _ (c .before .before .if5 .left)) _ (c .before .bends-right .ensures) (not-true _ (c .if6 .taken))
 
 cycles-good-requires : tie.Need-cycles-good-requires
-cycles-good-requires c κs = ?
+cycles-good-requires c κs =
+    let s = c .before .before .before .before .before .before .before .before .before .before .before .before .before .before .before .before .before .before .before .before .before .before in
+    let a = held s in
+    let u = s .pre .0 in
+    (looked a (s .args .i) (s .args .t) u _ (s .pre .1 .0), (u .long .cycles, (u .long .steps, (omega (arith, c .before .before .before .before .before .if4 .left, u .cycles),
+    (steps-so a (s .args .i) (s .args .t) u (s .pre .1 .1), u .steps)))))
 
 enum-known-s : tie.Need-enum-known-s
 enum-known-s c = search needs
@@ -105,10 +163,24 @@ enum-told : tie.Need-enum-told
 enum-told c = search needs
 
 returns-7 : tie.Need-returns-7
-returns-7 c = ?
+returns-7 c =
+    let s = c .before .before .before .before .before .before .before .before .before .before .before .before .before .before .before .before .before .before .before .before .before .before .before .before .before in
+    let a = held s in
+    let u = s .pre .0 in
+    cell-stop a (s .args .i) (s .args .t) u (s .pre .1 .1) _ (c .before .before .before .before .before .before .before .before .before .before .before .before .before .before .before .before .before .before .before .before .before .before .before .before .id-right .ensures)
+    (not-false _ (c .before .before .before .before .before .before .before .before .before .before .before .before .before .before .before .before .before .before .before .before .before .before .before .if1 .left)) _ (c .before .before .before .before .before .before .before .before .before .before .before .before .before .before .before .before .before .row-normal .ensures)
+    (not-false _ (c .before .before .before .before .before .before .before .before .before .before .before .before .before .before .before .before .if2 .left)) _ (c .before .before .before .before .before .before .before .before .before .before .before .before .before .before .wide .ensures)
+    (c .before .before .before .before .before .before .before .before .before .before .before .before .if3 .left) _ (c .before .before .before .before .before .before .before .before .before .before .wide2 .ensures)
+    (c .before .before .before .before .before .before .before .before .if4 .left) _ (c .before .before .before .before .before .before .figure-right .ensures ∙ ap (figureRight (rowsIn a) (take (a .count) (a .bends)) (s .args .i)) (c .before .before .before .before .before .before .before .vertex-at .ensures))
+    (not-false _ (c .before .before .before .before .before .if5 .left)) _ (c .before .before .before .before .bends-right .ensures)
+    (not-false _ (c .before .before .before .if6 .left)) _ (c .before .before .cycles-good .ensures) (c .enum-told .given .1)
 
 add-t24 : tie.Need-add-t24
-add-t24 c = ?
+add-t24 c =
+    let s = c .before .before .before .before .before .before .before .before .before .before .before .before .before .before .before .before .before .before .before .before .before .before .before .before .before .before in
+    let a = held s in
+    let u = s .pre .0 in
+    record { fits = omega (arith, row-in a (s .args .i) (s .args .t) u (s .pre .1 .1)) }
 
 add-t28 : tie.Need-add-t28
 add-t28 c = search needs
@@ -117,7 +189,17 @@ add-t32 : tie.Need-add-t32
 add-t32 c = search needs
 
 returns-8 : tie.Need-returns-8
-returns-8 c = ?
+returns-8 c =
+    let s = c .before .before .before .before .before .before .before .before .before .before .before .before .before .before .before .before .before .before .before .before .before .before .before .before .before .before .before .before in
+    let a = held s in
+    let u = s .pre .0 in
+    cell-done a (s .args .i) (s .args .t) u (s .pre .1 .1) _ (c .before .before .before .before .before .before .before .before .before .before .before .before .before .before .before .before .before .before .before .before .before .before .before .before .before .before .before .id-right .ensures)
+    (not-false _ (c .before .before .before .before .before .before .before .before .before .before .before .before .before .before .before .before .before .before .before .before .before .before .before .before .before .before .if1 .left)) _ (c .before .before .before .before .before .before .before .before .before .before .before .before .before .before .before .before .before .before .before .before .row-normal .ensures)
+    (not-false _ (c .before .before .before .before .before .before .before .before .before .before .before .before .before .before .before .before .before .before .before .if2 .left)) _ (c .before .before .before .before .before .before .before .before .before .before .before .before .before .before .before .before .before .wide .ensures)
+    (c .before .before .before .before .before .before .before .before .before .before .before .before .before .before .before .if3 .left) _ (c .before .before .before .before .before .before .before .before .before .before .before .before .before .wide2 .ensures)
+    (c .before .before .before .before .before .before .before .before .before .before .before .if4 .left) _ (c .before .before .before .before .before .before .before .before .before .figure-right .ensures ∙ ap (figureRight (rowsIn a) (take (a .count) (a .bends)) (s .args .i)) (c .before .before .before .before .before .before .before .before .before .before .vertex-at .ensures))
+    (not-false _ (c .before .before .before .before .before .before .before .before .if5 .left)) _ (c .before .before .before .before .before .before .before .bends-right .ensures)
+    (not-false _ (c .before .before .before .before .before .before .if6 .left)) _ (c .before .before .before .before .before .cycles-good .ensures) _ (c .before .before .before .s .given .1) _ refl
 
 pub cell-right-spec : {M : Type 1} → statement M
 cell-right-spec =
