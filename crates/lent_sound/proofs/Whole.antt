@@ -82,12 +82,12 @@ module _ (a : Arrays) (l : Lengths a) where
       let s = steps-held a l (q .rows) in
       let f : Fits (heldBy a) = record { cells = q .few; cycles = omega (arith, k, q .cycleSum); steps = omega (arith, s, q .stepSum); bends = omega (arith, b, q .bendSum) } in
       let fit : fitsIn (heldBy a) ≡ true =
-          ap₂ _&&_ (le-leb (a .count) cellsMost (f .cells))
-          (ap₂ _&&_ (le-leb (bendTotal (heldBy a)) bendsMost (f .bends))
-          (ap₂ _&&_ (le-leb (cycleTotal (heldBy a)) cyclesMost (f .cycles)) (le-leb (stepTotal (heldBy a)) stepsMost (f .steps)))) in
+      ap₂ _&&_ (le-leb (a .count) cellsMost (f .cells))
+      (ap₂ _&&_ (le-leb (bendTotal (heldBy a)) bendsMost (f .bends))
+      (ap₂ _&&_ (le-leb (cycleTotal (heldBy a)) cyclesMost (f .cycles)) (le-leb (stepTotal (heldBy a)) stepsMost (f .steps)))) in
       let sheet : soundSheet (heldBy a) ≡ true =
-          tests (q .rows) f
-          ∙ ap₂ _&&_ (ap₂ _&&_ (le-leb (a .next) idsEnd (q .last)) (ap₂ _&&_ (q .ids) (ap₂ _&&_ (q .edges) (q .rings)))) (ap₂ _&&_ (q .vertices) (q .bends)) in
+      tests (q .rows) f
+      ∙ ap₂ _&&_ (ap₂ _&&_ (le-leb (a .next) idsEnd (q .last)) (ap₂ _&&_ (q .ids) (ap₂ _&&_ (q .edges) (q .rings)))) (ap₂ _&&_ (q .vertices) (q .bends)) in
       ap₂ _&&_ (q .rows) (ap₂ _&&_ fit sheet)
 
 -- ---- cell by cell

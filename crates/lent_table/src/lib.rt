@@ -71,13 +71,7 @@ pub fn row_of(table: &[u8; 1024], ids: &[u32; 256], n: usize, id: u32) -> usize
 }
 
 // Whether the id v is a vertex's.
-pub fn is_vertex(
-    table: &[u8; 1024],
-    ids: &[u32; 256],
-    kinds: &[u32; 256],
-    n: usize,
-    v: u32,
-) -> bool
+pub fn is_vertex(table: &[u8; 1024], ids: &[u32; 256], kinds: &[u32; 256], n: usize, v: u32) -> bool
     requires { ⌜ Table n (now table) (now ids) ⌝ }
     requires { ⌜ length (now kinds) ≡ cellsMost ⌝ }
     ensures { λ r. ⌜ r ≡ isVertexIn (take n (now (ids .entry))) (take n (now (kinds .entry))) v ⌝ }

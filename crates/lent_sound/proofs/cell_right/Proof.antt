@@ -20,10 +20,9 @@ id-right-requires c κs = search needs
 
 returns : tie.Need-returns
 returns c =
-    let s = c .before .before in
-    let a = held s in
-    let u = s .pre .0 in
-    cell-id a (s .args .i) (s .args .t) u (s .pre .1 .1) _ (c .before .id-right .ensures) (not-true _ (c .if1 .taken))
+    let id = c .before in
+    let s = id .before in
+    cell-id (held s) (s .args .i) (s .args .t) (s .pre .0) (s .pre .1 .1) _ (id .id-right .ensures) (not-true _ (c .if1 .taken))
 
 mul-row-normal : tie.Need-mul-row-normal
 mul-row-normal c = search needs
@@ -60,11 +59,12 @@ row-normal-requires c κs = search needs
 
 returns-2 : tie.Need-returns-2
 returns-2 c =
-    let s = c .before .before .before .before .before .before .before .before .before in
-    let a = held s in
-    let u = s .pre .0 in
-    cell-row a (s .args .i) (s .args .t) u (s .pre .1 .1) _ (c .before .before .before .before .before .before .before .before .id-right .ensures)
-    (not-false _ (c .before .before .before .before .before .before .before .if1 .left)) _ (c .before .row-normal .ensures) (not-true _ (c .if2 .taken))
+    let row = c .before in
+    let id-good = row .before .before .before .before .before .before in
+    let id = id-good .before in
+    let s = id .before in
+    cell-row (held s) (s .args .i) (s .args .t) (s .pre .0) (s .pre .1 .1) _ (id .id-right .ensures)
+    (not-false _ (id-good .if1 .left)) _ (row .row-normal .ensures) (not-true _ (c .if2 .taken))
 
 mul-wide : tie.Need-mul-wide
 mul-wide c = search needs
@@ -80,12 +80,15 @@ sub-if3 c = search needs
 
 returns-3 : tie.Need-returns-3
 returns-3 c =
-    let s = c .before .before .before .before .before .before .before .before .before .before .before .before .before in
-    let a = held s in
-    let u = s .pre .0 in
-    cell-bends a (s .args .i) (s .args .t) u (s .pre .1 .1) _ (c .before .before .before .before .before .before .before .before .before .before .before .before .id-right .ensures)
-    (not-false _ (c .before .before .before .before .before .before .before .before .before .before .before .if1 .left)) _ (c .before .before .before .before .before .row-normal .ensures)
-    (not-false _ (c .before .before .before .before .if2 .left)) _ (c .before .before .wide .ensures) (c .if3 .taken)
+    let bent = c .before .before in
+    let row-good = bent .before .before in
+    let row = row-good .before in
+    let id-good = row .before .before .before .before .before .before in
+    let id = id-good .before in
+    let s = id .before in
+    cell-bends (held s) (s .args .i) (s .args .t) (s .pre .0) (s .pre .1 .1) _ (id .id-right .ensures)
+    (not-false _ (id-good .if1 .left)) _ (row .row-normal .ensures)
+    (not-false _ (row-good .if2 .left)) _ (bent .wide .ensures) (c .if3 .taken)
 
 mul-wide-2 : tie.Need-mul-wide-2
 mul-wide-2 c = search needs
@@ -101,13 +104,18 @@ sub-if4 c = search needs
 
 returns-4 : tie.Need-returns-4
 returns-4 c =
-    let s = c .before .before .before .before .before .before .before .before .before .before .before .before .before .before .before .before .before in
-    let a = held s in
-    let u = s .pre .0 in
-    cell-cycles a (s .args .i) (s .args .t) u (s .pre .1 .1) _ (c .before .before .before .before .before .before .before .before .before .before .before .before .before .before .before .before .id-right .ensures)
-    (not-false _ (c .before .before .before .before .before .before .before .before .before .before .before .before .before .before .before .if1 .left)) _ (c .before .before .before .before .before .before .before .before .before .row-normal .ensures)
-    (not-false _ (c .before .before .before .before .before .before .before .before .if2 .left)) _ (c .before .before .before .before .before .before .wide .ensures)
-    (c .before .before .before .before .if3 .left) _ (c .before .before .wide2 .ensures) (c .if4 .taken)
+    let counted = c .before .before in
+    let bends-fit = counted .before .before in
+    let bent = bends-fit .before .before in
+    let row-good = bent .before .before in
+    let row = row-good .before in
+    let id-good = row .before .before .before .before .before .before in
+    let id = id-good .before in
+    let s = id .before in
+    cell-cycles (held s) (s .args .i) (s .args .t) (s .pre .0) (s .pre .1 .1) _ (id .id-right .ensures)
+    (not-false _ (id-good .if1 .left)) _ (row .row-normal .ensures)
+    (not-false _ (row-good .if2 .left)) _ (bent .wide .ensures)
+    (bends-fit .if3 .left) _ (counted .wide2 .ensures) (c .if4 .taken)
 
 vertex-at-requires : tie.Need-vertex-at-requires
 vertex-at-requires c κs = search needs
@@ -115,46 +123,72 @@ vertex-at-requires c κs = search needs
 figure-right-requires : tie.Need-figure-right-requires
 figure-right-requires c κs =
     let s = c .before .before .before .before .before .before .before .before .before .before .before .before .before .before .before .before .before .before in
-    let a = held s in
-    let u = s .pre .0 in
-    (looked a (s .args .i) (s .args .t) u _ (s .pre .1 .0), (u .long .bends, s .pre .1 .1))
+    (looked (held s) (s .args .i) (s .args .t) (s .pre .0) _ (s .pre .1 .0), (s .pre .0 .long .bends, s .pre .1 .1))
 
 returns-5 : tie.Need-returns-5
 returns-5 c =
-    let s = c .before .before .before .before .before .before .before .before .before .before .before .before .before .before .before .before .before .before .before .before in
-    let a = held s in
-    let u = s .pre .0 in
-    cell-figure a (s .args .i) (s .args .t) u (s .pre .1 .1) _ (c .before .before .before .before .before .before .before .before .before .before .before .before .before .before .before .before .before .before .before .id-right .ensures)
-    (not-false _ (c .before .before .before .before .before .before .before .before .before .before .before .before .before .before .before .before .before .before .if1 .left)) _ (c .before .before .before .before .before .before .before .before .before .before .before .before .row-normal .ensures)
-    (not-false _ (c .before .before .before .before .before .before .before .before .before .before .before .if2 .left)) _ (c .before .before .before .before .before .before .before .before .before .wide .ensures)
-    (c .before .before .before .before .before .before .before .if3 .left) _ (c .before .before .before .before .before .wide2 .ensures)
-    (c .before .before .before .if4 .left) _ (c .before .figure-right .ensures ∙ ap (figureRight (rowsIn a) (take (a .count) (a .bends)) (s .args .i)) (c .before .before .vertex-at .ensures)) (not-true _ (c .if5 .taken))
+    let figure = c .before in
+    let place = figure .before in
+    let cycles-fit = place .before in
+    let counted = cycles-fit .before .before in
+    let bends-fit = counted .before .before in
+    let bent = bends-fit .before .before in
+    let row-good = bent .before .before in
+    let row = row-good .before in
+    let id-good = row .before .before .before .before .before .before in
+    let id = id-good .before in
+    let s = id .before in
+    cell-figure (held s) (s .args .i) (s .args .t) (s .pre .0) (s .pre .1 .1) _ (id .id-right .ensures)
+    (not-false _ (id-good .if1 .left)) _ (row .row-normal .ensures)
+    (not-false _ (row-good .if2 .left)) _ (bent .wide .ensures)
+    (bends-fit .if3 .left) _ (counted .wide2 .ensures)
+    (cycles-fit .if4 .left) _ (figure .figure-right .ensures ∙ ap (figureRight (rowsIn (held s)) (take (s .args .count) (s .args .bends .now)) (s .args .i)) (place .vertex-at .ensures)) (not-true _ (c .if5 .taken))
 
 bends-right-requires : tie.Need-bends-right-requires
 bends-right-requires c κs =
-    let s = c .before .before .before .before .before .before .before .before .before .before .before .before .before .before .before .before .before .before .before .before in
-    let u = s .pre .0 in
-    omega (arith, c .before .before .before .before .before .before .before .if3 .left, u .bends)
+    let bends-fit = c .before .before .before .before .before .before .before in
+    let s = bends-fit .before .before .before .before .before .before .before .before .before .before .before .before .before in
+    omega (arith, bends-fit .if3 .left, s .pre .0 .bends)
 
 returns-6 : tie.Need-returns-6
 returns-6 c =
-    let s = c .before .before .before .before .before .before .before .before .before .before .before .before .before .before .before .before .before .before .before .before .before .before in
-    let a = held s in
-    let u = s .pre .0 in
-    cell-places a (s .args .i) (s .args .t) u (s .pre .1 .1) _ (c .before .before .before .before .before .before .before .before .before .before .before .before .before .before .before .before .before .before .before .before .before .id-right .ensures)
-    (not-false _ (c .before .before .before .before .before .before .before .before .before .before .before .before .before .before .before .before .before .before .before .before .if1 .left)) _ (c .before .before .before .before .before .before .before .before .before .before .before .before .before .before .row-normal .ensures)
-    (not-false _ (c .before .before .before .before .before .before .before .before .before .before .before .before .before .if2 .left)) _ (c .before .before .before .before .before .before .before .before .before .before .before .wide .ensures)
-    (c .before .before .before .before .before .before .before .before .before .if3 .left) _ (c .before .before .before .before .before .before .before .wide2 .ensures)
-    (c .before .before .before .before .before .if4 .left) _ (c .before .before .before .figure-right .ensures ∙ ap (figureRight (rowsIn a) (take (a .count) (a .bends)) (s .args .i)) (c .before .before .before .before .vertex-at .ensures))
-    (not-false _ (c .before .before .if5 .left)) _ (c .before .bends-right .ensures) (not-true _ (c .if6 .taken))
+    let placed = c .before in
+    let figure-good = placed .before in
+    let figure = figure-good .before in
+    let place = figure .before in
+    let cycles-fit = place .before in
+    let counted = cycles-fit .before .before in
+    let bends-fit = counted .before .before in
+    let bent = bends-fit .before .before in
+    let row-good = bent .before .before in
+    let row = row-good .before in
+    let id-good = row .before .before .before .before .before .before in
+    let id = id-good .before in
+    let s = id .before in
+    cell-places (held s) (s .args .i) (s .args .t) (s .pre .0) (s .pre .1 .1) _ (id .id-right .ensures)
+    (not-false _ (id-good .if1 .left)) _ (row .row-normal .ensures)
+    (not-false _ (row-good .if2 .left)) _ (bent .wide .ensures)
+    (bends-fit .if3 .left) _ (counted .wide2 .ensures)
+    (cycles-fit .if4 .left) _ (figure .figure-right .ensures ∙ ap (figureRight (rowsIn (held s)) (take (s .args .count) (s .args .bends .now)) (s .args .i)) (place .vertex-at .ensures))
+    (not-false _ (figure-good .if5 .left)) _ (placed .bends-right .ensures) (not-true _ (c .if6 .taken))
 
 cycles-good-requires : tie.Need-cycles-good-requires
 cycles-good-requires c κs =
-    let s = c .before .before .before .before .before .before .before .before .before .before .before .before .before .before .before .before .before .before .before .before .before .before in
-    let a = held s in
-    let u = s .pre .0 in
-    (looked a (s .args .i) (s .args .t) u _ (s .pre .1 .0), (u .long .cycles, (u .long .steps, (omega (arith, c .before .before .before .before .before .if4 .left, u .cycles),
-    (steps-so a (s .args .i) (s .args .t) u (s .pre .1 .1), u .steps)))))
+    let cycles-fit = c .before .before .before .before .before in
+    let s = cycles-fit .before .before .before .before .before .before .before .before .before .before .before .before .before .before .before .before .before in
+    let u = s .pre .0 in (
+      looked (held s) (s .args .i) (s .args .t) u _ (s .pre .1 .0),
+      (
+        u .long .cycles,
+        (
+          u .long .steps,
+          (
+            omega (arith, cycles-fit .if4 .left, u .cycles),
+            (steps-so (held s) (s .args .i) (s .args .t) u (s .pre .1 .1), u .steps),
+          ),
+        ),
+      ),
+    )
 
 enum-known-s : tie.Need-enum-known-s
 enum-known-s c = search needs
@@ -164,23 +198,33 @@ enum-told c = search needs
 
 returns-7 : tie.Need-returns-7
 returns-7 c =
-    let s = c .before .before .before .before .before .before .before .before .before .before .before .before .before .before .before .before .before .before .before .before .before .before .before .before .before in
-    let a = held s in
-    let u = s .pre .0 in
-    cell-stop a (s .args .i) (s .args .t) u (s .pre .1 .1) _ (c .before .before .before .before .before .before .before .before .before .before .before .before .before .before .before .before .before .before .before .before .before .before .before .before .id-right .ensures)
-    (not-false _ (c .before .before .before .before .before .before .before .before .before .before .before .before .before .before .before .before .before .before .before .before .before .before .before .if1 .left)) _ (c .before .before .before .before .before .before .before .before .before .before .before .before .before .before .before .before .before .row-normal .ensures)
-    (not-false _ (c .before .before .before .before .before .before .before .before .before .before .before .before .before .before .before .before .if2 .left)) _ (c .before .before .before .before .before .before .before .before .before .before .before .before .before .before .wide .ensures)
-    (c .before .before .before .before .before .before .before .before .before .before .before .before .if3 .left) _ (c .before .before .before .before .before .before .before .before .before .before .wide2 .ensures)
-    (c .before .before .before .before .before .before .before .before .if4 .left) _ (c .before .before .before .before .before .before .figure-right .ensures ∙ ap (figureRight (rowsIn a) (take (a .count) (a .bends)) (s .args .i)) (c .before .before .before .before .before .before .before .vertex-at .ensures))
-    (not-false _ (c .before .before .before .before .before .if5 .left)) _ (c .before .before .before .before .bends-right .ensures)
-    (not-false _ (c .before .before .before .if6 .left)) _ (c .before .before .cycles-good .ensures) (c .enum-told .given .1)
+    let walked = c .before .before in
+    let placed-good = walked .before in
+    let placed = placed-good .before in
+    let figure-good = placed .before in
+    let figure = figure-good .before in
+    let place = figure .before in
+    let cycles-fit = place .before in
+    let counted = cycles-fit .before .before in
+    let bends-fit = counted .before .before in
+    let bent = bends-fit .before .before in
+    let row-good = bent .before .before in
+    let row = row-good .before in
+    let id-good = row .before .before .before .before .before .before in
+    let id = id-good .before in
+    let s = id .before in
+    cell-stop (held s) (s .args .i) (s .args .t) (s .pre .0) (s .pre .1 .1) _ (id .id-right .ensures)
+    (not-false _ (id-good .if1 .left)) _ (row .row-normal .ensures)
+    (not-false _ (row-good .if2 .left)) _ (bent .wide .ensures)
+    (bends-fit .if3 .left) _ (counted .wide2 .ensures)
+    (cycles-fit .if4 .left) _ (figure .figure-right .ensures ∙ ap (figureRight (rowsIn (held s)) (take (s .args .count) (s .args .bends .now)) (s .args .i)) (place .vertex-at .ensures))
+    (not-false _ (figure-good .if5 .left)) _ (placed .bends-right .ensures)
+    (not-false _ (placed-good .if6 .left)) _ (walked .cycles-good .ensures) (c .enum-told .given .1)
 
 add-t24 : tie.Need-add-t24
 add-t24 c =
     let s = c .before .before .before .before .before .before .before .before .before .before .before .before .before .before .before .before .before .before .before .before .before .before .before .before .before .before in
-    let a = held s in
-    let u = s .pre .0 in
-    record { fits = omega (arith, row-in a (s .args .i) (s .args .t) u (s .pre .1 .1)) }
+    record { fits = omega (arith, row-in (held s) (s .args .i) (s .args .t) (s .pre .0) (s .pre .1 .1)) }
 
 add-t28 : tie.Need-add-t28
 add-t28 c = search needs
@@ -190,16 +234,29 @@ add-t32 c = search needs
 
 returns-8 : tie.Need-returns-8
 returns-8 c =
-    let s = c .before .before .before .before .before .before .before .before .before .before .before .before .before .before .before .before .before .before .before .before .before .before .before .before .before .before .before .before in
-    let a = held s in
-    let u = s .pre .0 in
-    cell-done a (s .args .i) (s .args .t) u (s .pre .1 .1) _ (c .before .before .before .before .before .before .before .before .before .before .before .before .before .before .before .before .before .before .before .before .before .before .before .before .before .before .before .id-right .ensures)
-    (not-false _ (c .before .before .before .before .before .before .before .before .before .before .before .before .before .before .before .before .before .before .before .before .before .before .before .before .before .before .if1 .left)) _ (c .before .before .before .before .before .before .before .before .before .before .before .before .before .before .before .before .before .before .before .before .row-normal .ensures)
-    (not-false _ (c .before .before .before .before .before .before .before .before .before .before .before .before .before .before .before .before .before .before .before .if2 .left)) _ (c .before .before .before .before .before .before .before .before .before .before .before .before .before .before .before .before .before .wide .ensures)
-    (c .before .before .before .before .before .before .before .before .before .before .before .before .before .before .before .if3 .left) _ (c .before .before .before .before .before .before .before .before .before .before .before .before .before .wide2 .ensures)
-    (c .before .before .before .before .before .before .before .before .before .before .before .if4 .left) _ (c .before .before .before .before .before .before .before .before .before .figure-right .ensures ∙ ap (figureRight (rowsIn a) (take (a .count) (a .bends)) (s .args .i)) (c .before .before .before .before .before .before .before .before .before .before .vertex-at .ensures))
-    (not-false _ (c .before .before .before .before .before .before .before .before .if5 .left)) _ (c .before .before .before .before .before .before .before .bends-right .ensures)
-    (not-false _ (c .before .before .before .before .before .before .if6 .left)) _ (c .before .before .before .before .before .cycles-good .ensures) _ (c .before .before .before .s .given .1) _ refl
+    let summed = c .before .before .before in
+    let walked = summed .before .before in
+    let placed-good = walked .before in
+    let placed = placed-good .before in
+    let figure-good = placed .before in
+    let figure = figure-good .before in
+    let place = figure .before in
+    let cycles-fit = place .before in
+    let counted = cycles-fit .before .before in
+    let bends-fit = counted .before .before in
+    let bent = bends-fit .before .before in
+    let row-good = bent .before .before in
+    let row = row-good .before in
+    let id-good = row .before .before .before .before .before .before in
+    let id = id-good .before in
+    let s = id .before in
+    cell-done (held s) (s .args .i) (s .args .t) (s .pre .0) (s .pre .1 .1) _ (id .id-right .ensures)
+    (not-false _ (id-good .if1 .left)) _ (row .row-normal .ensures)
+    (not-false _ (row-good .if2 .left)) _ (bent .wide .ensures)
+    (bends-fit .if3 .left) _ (counted .wide2 .ensures)
+    (cycles-fit .if4 .left) _ (figure .figure-right .ensures ∙ ap (figureRight (rowsIn (held s)) (take (s .args .count) (s .args .bends .now)) (s .args .i)) (place .vertex-at .ensures))
+    (not-false _ (figure-good .if5 .left)) _ (placed .bends-right .ensures)
+    (not-false _ (placed-good .if6 .left)) _ (walked .cycles-good .ensures) _ (summed .s .given .1) _ refl
 
 pub cell-right-spec : {M : Type 1} → statement M
 cell-right-spec =
