@@ -84,12 +84,42 @@ fn cut_at(
     let mut places = [0u32; 2048];
     let u = and_lone(cycles, steps, s, id, &mut numbers, &mut places);
     kernel_cycles::replace_cycles(
-        id, n, ids, kinds, starts, ends, bends, counts, px, py, cycles, steps, bx, by, row, s,
-        &numbers, u.cycles, &places, u.steps,
+        id,
+        n,
+        ids,
+        kinds,
+        starts,
+        ends,
+        bends,
+        counts,
+        px,
+        py,
+        cycles,
+        steps,
+        bx,
+        by,
+        row,
+        s,
+        &numbers,
+        u.cycles,
+        &places,
+        u.steps,
     );
     lent::put_position(px, py, n, p);
     kind_create::add_row(
-        next, count, ids, kinds, starts, ends, bends, counts, 0, 0, 0, 0, 0,
+        next,
+        count,
+        ids,
+        kinds,
+        starts,
+        ends,
+        bends,
+        counts,
+        0,
+        0,
+        0,
+        0,
+        0,
     )
 }
 
@@ -128,6 +158,22 @@ pub fn cut_face_vertex(
         return lent::line_of(no);
     }
     cut_at(
-        next, count, ids, kinds, starts, ends, bends, counts, px, py, cycles, steps, bx, by, t, f, p,
+        next,
+        count,
+        ids,
+        kinds,
+        starts,
+        ends,
+        bends,
+        counts,
+        px,
+        py,
+        cycles,
+        steps,
+        bx,
+        by,
+        t,
+        f,
+        p,
     )
 }

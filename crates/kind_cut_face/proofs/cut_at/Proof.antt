@@ -108,10 +108,14 @@ returns c =
     let u = w .1 .1 .1 in
     let z = v .put-position .ensures in (
       w .0,
-      (w .1 .0,
-      (w .1 .1 .0,
-      vertex-holds (arrays s) (s .args .t) (s .args .f) (s .args .p) (s .pre) _ _ _ _ _ _ q e _
-      (w .1 .0) (w .1 .1 .0) (u .0) (u .1 .0) (u .1 .1 .0) (u .1 .1 .1 .0) (u .1 .1 .1 .1 .0) (u .1 .1 .1 .1 .1) (z .0) (z .1) refl refl refl refl)),
+      (
+        w .1 .0,
+        (
+          w .1 .1 .0,
+          vertex-holds (arrays s) (s .args .t) (s .args .f) (s .args .p) (s .pre) _ _ _ _ _ _ q e _
+              (w .1 .0) (w .1 .1 .0) (u .0) (u .1 .0) (u .1 .1 .0) (u .1 .1 .1 .0) (u .1 .1 .1 .1 .0) (u .1 .1 .1 .1 .1) (z .0) (z .1) refl refl refl refl,
+        ),
+      ),
     )
 
 pub cut-at-spec : {M : Type 1} → statement M
