@@ -33,14 +33,13 @@ use Rattle.append.specs.Appends.{remade, RoomIn, Room}
 use Rattle.append.proofs.Rooms.{room-first, room-next}
 use Rattle.append.proofs.RunLists.{runs-single}
 use Rattle.answer.specs.Answers.{outcome}
-use Rattle.answer.proofs.Laws.{answers-done}
+use Rattle.answer.proofs.Asked.{answers}
 use Rattle.dropping.proofs.Dropped.{dropped-row}
 use Rattle.rewire.specs.Swap.{swapHalf, twoFor}
 use Rattle.rewire.specs.declared.Swap.{Swap}
 use Rattle.rewire.proofs.Merging.{real-with}
 use Rattle.rewire.proofs.Swaps.{two-for, two-some}
 use Rattle.cut.specs.Cuts.{partRun}
-use Rattle.cut.proofs.Found.{sound-in}
 use Rattle.cut.proofs.Opened.{place-below, edge-small, steps-room, parts-room, parts-made}
 use Rattle.lent.specs.Arrays.{Arrays, positionsIn, heldBy, rowsBy, normal, soundArrays, Lengths}
 use Rattle.lent.proofs.Held.{held-sizes, held-indexes, positions-length}
@@ -242,8 +241,7 @@ module _ (a : Arrays) (l : Lengths a) (w : T (soundArrays a)) (e q : ℕ) (r : P
           subst (λ (v : Arrays). Obeyed a (cutEdge e q) v k) (sym eo)
           (record {
             answers =
-                answers-done (heldBy a) (cutEdge e q) (sound-in (heldBy a) (drawing-of a w)) (g .passed) (g .idsSuffice) (g .sizesSuffice) (held-sizes a l) (sound-fits (heldBy a) (drawing-of a w))
-                (heldBy b3) (held-sizes b3 l3) (came3 .1) made (answerBy k (heldBy b3))
+                answers (heldBy a) (held-sizes a l) (drawing-of a w) (cutEdge e q) 0 (g .asked) refl (heldBy b3) (held-sizes b3 l3) (came3 .1) made (answerBy k (heldBy b3))
                 (ap (λ (u : Line). answerBy u (heldBy b3)) ek ∙ three-outcome (a .next) (a .count) (b .count) (heldBy b3) (ap (λ (n : ℕ). n + 1 + 1 + 1) en) refl);
             back = λ n. absurd (n (ap (λ (u : Line). u .number) ek));
             rows =
