@@ -1,16 +1,15 @@
 -- What is found before an open edge is cut. Assumes nothing.
 use Prim.Native.Nat.{ℕ, zero, suc, _+_, _-_, _/_, _%_, _<_, _≤_}
 use native.Mathlib.Omega.{arith}
-use mathlib.Core.Path.{_≡_, refl, sym, ap, ap₂, _∙_, subst}
-use mathlib.Core.Bool.{Bool, true, false, _&&_}
-use mathlib.Core.List.{List, [], _∷_}
+use mathlib.Core.Path.{_≡_, refl, sym, ap, _∙_, subst}
+use mathlib.Core.Bool.{true, _&&_}
 use mathlib.Core.Option.{Option, none, some}
 use lib.Dec.{T}
 use lib.ListN.{length, getD, take}
 use Rattle.coordinate.specs.declared.Position.{Position}
 use Rattle.coordinate.specs.Bounds.{within}
 use Rattle.complex.specs.Lists.{all, total}
-use Rattle.complex.specs.Cells.{Figure, vertex, openEdge, closedEdge, face, LiveCell, Sheet, cellAt, isVertex, isOpen, isLive, startOf, endOf, bendsOf, cyclesOf as cyclesHeld, origin}
+use Rattle.complex.specs.Cells.{Figure, vertex, openEdge, closedEdge, face, Sheet, cellAt, isVertex, isOpen, isLive, startOf, endOf, bendsOf, cyclesOf as cyclesHeld, origin}
 use Rattle.complex.specs.Edits.{keepIds, reshape, others}
 use Rattle.complex.specs.Sound.{stepsIn, over}
 use Rattle.complex.specs.Uses.{stepUse, usesBy}
@@ -24,12 +23,11 @@ use Rattle.complex.proofs.Asked.{answered-no}
 use Rattle.complex.proofs.Faces.{without-one}
 use Rattle.complex.proofs.Euler.{over-rebuild}
 use Rattle.answer.proofs.SizesCut.{cut-edge-sizes}
-use Rattle.store.specs.declared.Shape.{Shape}
 use Rattle.store.specs.declared.Cell.{Cell}
 use Rattle.store.specs.declared.Drawing.{Drawing}
-use Rattle.store.specs.Index.{Indexes, Rising, rowOf, kindOf}
+use Rattle.store.specs.Index.{Indexes, rowOf, kindOf}
 use Rattle.store.specs.Sizes.{Sizes}
-use Rattle.store.specs.View.{sheetOf, Fits, cyclesOf, cycleTotal, stepTotal, cycleCount}
+use Rattle.store.specs.View.{sheetOf, cyclesOf, cycleTotal, stepTotal, cycleCount}
 use Rattle.store.specs.Places.{shapeOf}
 use Rattle.store.specs.Edits.{placesOf}
 use Rattle.store.proofs.Stands.{ids-same}
@@ -47,13 +45,12 @@ use Rattle.cut.specs.Cuts.{Cuts, Ends, Placed, placeOf, noCell, pointPlace, ope
 use Rattle.cut.proofs.Found.{own-figure, read-row}
 use Rattle.cut.proofs.Opened.{open-figure, point-below, partStep, partCells, first, second, parts-are, stepsAfter, steps-by, placed-read}
 use Rattle.cut.proofs.OpenAnswer.{uses-are, open-live, ends-found, asked, open-cuts}
-use Rattle.lent.specs.Arrays.{Arrays, shapeBy, shapeAt, positionIn, positionsIn, cellsBy, heldBy, rowsBy, soundArrays, Lengths}
+use Rattle.lent.specs.Arrays.{Arrays, shapeBy, shapeAt, positionIn, heldBy, rowsBy, soundArrays, Lengths}
 use Rattle.lent.proofs.Held.{held-sizes, held-indexes, positions-at}
 use Rattle.lent.proofs.Replies.{rows-of, drawing-of}
 use Rattle.kernel_keep.proofs.Rows.{cell-at}
 use Rattle.kind_cut_edge.specs.declared.Plan.{Plan}
-use Rattle.kernel_keep.specs.Keeps.{EdgeRow}
-use Rattle.kind_cut_edge.specs.Cutting.{Goes, Planned}
+use Rattle.kind_cut_edge.specs.Cutting.{Planned}
 
 pub planned-no : (a : Arrays) (e q n : ℕ) (r : Plan) → r .no ≡ n → (n ≡ 0 → ⊥) → asked3 (sheetOf (heldBy a)) (cutEdge e q) ≡ no n (sheetOf (heldBy a)) → Planned a e q r
 planned-no a e q n r en nz h = record { refused = λ z. h ∙ ap (λ (k : ℕ). no k (sheetOf (heldBy a))) (sym en); goes = λ z. absurd (nz (sym en ∙ z)) }
