@@ -25,7 +25,7 @@ use store::Index;
 use store::Shape;
 
 // The place of the bend after bend i of a closed edge, round its end.
-fn next_bend(base: usize, m: usize, i: usize) -> usize
+pub fn next_bend(base: usize, m: usize, i: usize) -> usize
     requires { ⌜ base + m ≤ 2048 ⌝ }
     requires { ⌜ i < m ⌝ }
     ensures { λ r. ⌜ r ≡ nextBend base m i ⌝ }
@@ -37,7 +37,7 @@ fn next_bend(base: usize, m: usize, i: usize) -> usize
 }
 
 // Where place q of a closed edge lies: at the bend p, or between p and the bend o after it.
-fn closed_place(p: Position, o: Position, q: usize) -> Position
+pub fn closed_place(p: Position, o: Position, q: usize) -> Position
     ensures { λ r. ⌜ r ≡ closedBetween p o q ⌝ }
 {
     if q % 2 == 1 {

@@ -95,17 +95,29 @@ module _ {A : Type 0} where
         part (suc n) k [] = take-nil k ∙ sym (ap (drop (suc n)) (take-nil (suc n + k)))
         part (suc n) k (y ∷ x) = part n k x ∙ ap (λ (w : ℕ). drop (suc n) (take w (y ∷ x))) (sym (suc-more n k))
 
+    -- of the last m those after the first k
+    drop-take : (k n : ℕ) (x : List A) → drop k (take n x) ≡ take (n - k) (drop k x)
+    drop-take zero n x = let e : n ≡ n - 0 = omega arith in ap (λ (w : ℕ). take w x) e
+    drop-take (suc k) zero x = let e : 0 ≡ 0 - suc k = omega arith in ap (λ (w : ℕ). take w (drop (suc k) x)) e
+    drop-take (suc k) (suc n) [] = sym (take-nil (suc n - suc k))
+    drop-take (suc k) (suc n) (y ∷ x) = let e : n - k ≡ suc n - suc k = omega arith in drop-take k n x ∙ ap (λ (w : ℕ). take w (drop k x)) e
+
+    after : (k n : ℕ) (x : List A) → run (n + k) (m - k) x ≡ drop k (run n m x)
+    after k n x = ap (take (m - k)) (sym (drop-drop k n x)) ∙ sym (drop-take k m (drop n x))
+
+    from : (k : ℕ) → run (t - m + k) (m - k) once ≡ run (base + k) (m - k) l
+    from k = after k (t - m) once ∙ ap (drop k) moved ∙ sym (after k base l)
+
     pub twice-second : run (t - m + i) (m - j) twice ≡ run (base + j) (m - j) l
     twice-second =
         let a : t - (t - m + j) ≡ m - j = omega arith in
         ap (λ (n : ℕ). run (t - m + i) n twice) (sym a) ∙ rotated-next (t - m + i) (t - m + j) t once (omega arith) (omega arith) (omega (arith, lo))
-        ∙ ap (λ (n : ℕ). run (t - m + j) n once) a ∙ after (t - m) once ∙ ap (drop j) moved ∙ sym (after base l)
-      where
-        drop-take : (k n : ℕ) (x : List A) → drop k (take n x) ≡ take (n - k) (drop k x)
-        drop-take zero n x = let e : n ≡ n - 0 = omega arith in ap (λ (w : ℕ). take w x) e
-        drop-take (suc k) zero x = let e : 0 ≡ 0 - suc k = omega arith in ap (λ (w : ℕ). take w (drop (suc k) x)) e
-        drop-take (suc k) (suc n) [] = sym (take-nil (suc n - suc k))
-        drop-take (suc k) (suc n) (y ∷ x) = let e : n - k ≡ suc n - suc k = omega arith in drop-take k n x ∙ ap (λ (w : ℕ). take w (drop k x)) e
+        ∙ ap (λ (n : ℕ). run (t - m + j) n once) a ∙ from j
 
-        after : (n : ℕ) (x : List A) → run (n + j) (m - j) x ≡ drop j (run n m x)
-        after n x = ap (take (m - j)) (sym (drop-drop j n x)) ∙ sym (drop-take j m (drop n x))
+    pub twice-last : run (t - m + i + (m - j)) (j - i) twice ≡ run (base + i) (j - i) l
+    twice-last =
+        let a : t - (t - m + j) ≡ m - j = omega arith in
+        let b : t - m + j - (t - m + i) ≡ j - i = omega arith in
+        ap₂ (λ (u v : ℕ). run (t - m + i + u) v twice) (sym a) (sym b) ∙ rotated-last (t - m + i) (t - m + j) t once (omega arith) (omega arith) (omega (arith, lo))
+        ∙ ap (λ (v : ℕ). run (t - m + i) v once) b ∙ sym (take-take (j - i) (m - i) (drop (t - m + i) once) (omega arith)) ∙ ap (take (j - i)) (from i)
+        ∙ take-take (j - i) (m - i) (drop (base + i) l) (omega arith)

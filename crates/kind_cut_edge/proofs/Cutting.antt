@@ -1,13 +1,12 @@
 -- 0A of an open edge: the arrays hold the drawing with the edge cut. Assumes nothing.
-use Prim.Native.Nat.{ℕ, zero, suc, _+_, _-_, _/_, _%_, _<_, _≤_}
+use Prim.Native.Nat.{ℕ, _+_, _-_, _/_, _%_, _<_, _≤_}
 use native.Mathlib.Omega.{arith}
 use mathlib.Core.Path.{_≡_, refl, sym, ap, ap₂, _∙_, subst}
-use mathlib.Core.Bool.{Bool, true, false, cond}
-use mathlib.Core.List.{List, [], _∷_, _++_}
+use mathlib.Core.Bool.{true, false, cond}
+use mathlib.Core.List.{List, [], _∷_}
 use lib.Dec.{T, eqb}
-use lib.Ieee.{Float}
-use lib.ListN.{length, getD, set, take, drop, replicate, length-drop}
-use lib.Seq.{slice, length-take-le, length-slice, take-nil, drop-nil}
+use lib.ListN.{length, set, take, drop, replicate, length-drop}
+use lib.Seq.{length-take-le}
 use Rattle.coordinate.specs.declared.Position.{Position}
 use Rattle.complex.specs.Lists.{total}
 use Rattle.complex.specs.Cells.{Figure, vertex, openEdge, Sheet, Halfedge}
@@ -17,33 +16,30 @@ use Rattle.complex.specs.Decode.{cutEdge}
 use Rattle.complex.specs.Commands.{result}
 use Rattle.store.specs.declared.Cell.{Cell}
 use Rattle.store.specs.declared.Drawing.{Drawing}
-use mathlib.Core.Logic.{_⊎_, inl, inr}
+use mathlib.Core.Logic.{_⊎_, inr}
 use Rattle.complex.specs.Sound.{over, stepsIn}
 use Rattle.number.specs.Readers.{spread}
 use Rattle.store.specs.Sheet.{allReal}
 use Rattle.store.specs.Places.{cyclesAt}
 use Rattle.store.specs.View.{sheetOf, Fits, bendTotal, bendCount, cycleTotal, stepTotal}
-use Rattle.store.specs.Sizes.{Sizes}
 use Rattle.store.specs.Edits.{placesOf, appended, withEntries}
 use Rattle.store.proofs.Lists.{places-sum}
 use Rattle.sound.proofs.Meaning.{sound-fits}
-use Rattle.append.specs.declared.Runs.{Runs}
 use Rattle.append.specs.Runs.{run, runsOf}
 use Rattle.append.specs.Appends.{remade, RoomIn, Room}
 use Rattle.append.proofs.Rooms.{room-first, room-next}
 use Rattle.append.proofs.RunLists.{runs-single}
 use Rattle.answer.specs.Answers.{outcome}
-use Rattle.answer.proofs.Laws.{answers-done}
+use Rattle.answer.proofs.Asked.{answers}
 use Rattle.dropping.proofs.Dropped.{dropped-row}
 use Rattle.rewire.specs.Swap.{swapHalf, twoFor}
 use Rattle.rewire.specs.declared.Swap.{Swap}
 use Rattle.rewire.proofs.Merging.{real-with}
 use Rattle.rewire.proofs.Swaps.{two-for, two-some}
 use Rattle.cut.specs.Cuts.{partRun}
-use Rattle.cut.proofs.Found.{sound-in}
 use Rattle.cut.proofs.Opened.{place-below, edge-small, steps-room, parts-room, parts-made}
-use Rattle.lent.specs.Arrays.{Arrays, positionsIn, heldBy, rowsBy, normal, soundArrays, Lengths}
-use Rattle.lent.proofs.Held.{held-sizes, held-indexes, positions-length}
+use Rattle.lent.specs.Arrays.{Arrays, positionsIn, heldBy, soundArrays, Lengths}
+use Rattle.lent.proofs.Held.{held-sizes, held-indexes}
 use Rattle.lent.specs.declared.Line.{Line}
 use Rattle.lent.specs.Replies.{answerBy, Obeyed}
 use Rattle.lent.proofs.Replies.{rows-of, drawing-of}
@@ -242,8 +238,7 @@ module _ (a : Arrays) (l : Lengths a) (w : T (soundArrays a)) (e q : ℕ) (r : P
           subst (λ (v : Arrays). Obeyed a (cutEdge e q) v k) (sym eo)
           (record {
             answers =
-                answers-done (heldBy a) (cutEdge e q) (sound-in (heldBy a) (drawing-of a w)) (g .passed) (g .idsSuffice) (g .sizesSuffice) (held-sizes a l) (sound-fits (heldBy a) (drawing-of a w))
-                (heldBy b3) (held-sizes b3 l3) (came3 .1) made (answerBy k (heldBy b3))
+                answers (heldBy a) (held-sizes a l) (drawing-of a w) (cutEdge e q) 0 (g .asked) refl (heldBy b3) (held-sizes b3 l3) (came3 .1) made (answerBy k (heldBy b3))
                 (ap (λ (u : Line). answerBy u (heldBy b3)) ek ∙ three-outcome (a .next) (a .count) (b .count) (heldBy b3) (ap (λ (n : ℕ). n + 1 + 1 + 1) en) refl);
             back = λ n. absurd (n (ap (λ (u : Line). u .number) ek));
             rows =

@@ -1,16 +1,15 @@
 -- What is found before an open edge is cut. Assumes nothing.
 use Prim.Native.Nat.{ℕ, zero, suc, _+_, _-_, _/_, _%_, _<_, _≤_}
 use native.Mathlib.Omega.{arith}
-use mathlib.Core.Path.{_≡_, refl, sym, ap, ap₂, _∙_, subst}
-use mathlib.Core.Bool.{Bool, true, false, _&&_}
-use mathlib.Core.List.{List, [], _∷_}
+use mathlib.Core.Path.{_≡_, refl, sym, ap, _∙_, subst}
+use mathlib.Core.Bool.{true, _&&_}
 use mathlib.Core.Option.{Option, none, some}
 use lib.Dec.{T}
 use lib.ListN.{length, getD, take}
 use Rattle.coordinate.specs.declared.Position.{Position}
 use Rattle.coordinate.specs.Bounds.{within}
 use Rattle.complex.specs.Lists.{all, total}
-use Rattle.complex.specs.Cells.{Figure, vertex, openEdge, closedEdge, face, LiveCell, Sheet, cellAt, isVertex, isOpen, isLive, startOf, endOf, bendsOf, cyclesOf as cyclesHeld, origin}
+use Rattle.complex.specs.Cells.{Figure, vertex, openEdge, closedEdge, face, Sheet, cellAt, isVertex, isOpen, isLive, startOf, endOf, bendsOf, cyclesOf as cyclesHeld, origin}
 use Rattle.complex.specs.Edits.{keepIds, reshape, others}
 use Rattle.complex.specs.Sound.{stepsIn, over}
 use Rattle.complex.specs.Uses.{stepUse, usesBy}
@@ -20,16 +19,15 @@ use Rattle.complex.specs.Decode.{cutEdge}
 use Rattle.complex.specs.Commands.{result}
 use Rattle.complex.specs.Answer.{no, asked3}
 use Rattle.complex.proofs.Bools.{both}
-use Rattle.complex.proofs.Asked.{Passed}
+use Rattle.complex.proofs.Asked.{answered-no}
 use Rattle.complex.proofs.Faces.{without-one}
 use Rattle.complex.proofs.Euler.{over-rebuild}
 use Rattle.answer.proofs.SizesCut.{cut-edge-sizes}
-use Rattle.store.specs.declared.Shape.{Shape}
 use Rattle.store.specs.declared.Cell.{Cell}
 use Rattle.store.specs.declared.Drawing.{Drawing}
-use Rattle.store.specs.Index.{Indexes, Rising, rowOf, kindOf}
+use Rattle.store.specs.Index.{Indexes, rowOf, kindOf}
 use Rattle.store.specs.Sizes.{Sizes}
-use Rattle.store.specs.View.{sheetOf, Fits, cyclesOf, cycleTotal, stepTotal, cycleCount}
+use Rattle.store.specs.View.{sheetOf, cyclesOf, cycleTotal, stepTotal, cycleCount}
 use Rattle.store.specs.Places.{shapeOf}
 use Rattle.store.specs.Edits.{placesOf}
 use Rattle.store.proofs.Stands.{ids-same}
@@ -40,22 +38,26 @@ use Rattle.append.specs.Appends.{figureAt}
 use Rattle.append.proofs.Copied.{row-shape}
 use Rattle.answer.specs.declared.Totals.{Totals}
 use Rattle.answer.specs.Late.{sizesBy, lateNo}
-use Rattle.answer.proofs.Laws.{totalsIn, totals-are, asked-six}
+use Rattle.answer.proofs.Laws.{totalsIn, totals-are}
+use Rattle.answer.proofs.Asked.{sound-in, Asked, asked-six, answer}
 use Rattle.dropping.proofs.Dropped.{live-below}
 use Rattle.cut.specs.Cuts.{Cuts, Ends, Placed, placeOf, noCell, pointPlace, openBetween}
-use Rattle.cut.proofs.Found.{sound-in, own-figure, read-row}
+use Rattle.cut.proofs.Found.{own-figure, read-row}
 use Rattle.cut.proofs.Opened.{open-figure, point-below, partStep, partCells, first, second, parts-are, stepsAfter, steps-by, placed-read}
-use Rattle.cut.proofs.OpenAnswer.{uses-are, open-live, ends-found, passed, passes, open-cuts}
-use Rattle.lent.specs.Arrays.{Arrays, shapeBy, shapeAt, positionIn, positionsIn, cellsBy, heldBy, rowsBy, soundArrays, Lengths}
+use Rattle.cut.proofs.OpenAnswer.{uses-are, open-live, ends-found, asked, open-cuts}
+use Rattle.lent.specs.Arrays.{Arrays, shapeBy, shapeAt, positionIn, heldBy, rowsBy, soundArrays, Lengths}
 use Rattle.lent.proofs.Held.{held-sizes, held-indexes, positions-at}
 use Rattle.lent.proofs.Replies.{rows-of, drawing-of}
 use Rattle.kernel_keep.proofs.Rows.{cell-at}
 use Rattle.kind_cut_edge.specs.declared.Plan.{Plan}
-use Rattle.kernel_keep.specs.Keeps.{EdgeRow}
-use Rattle.kind_cut_edge.specs.Cutting.{Goes, Planned}
+use Rattle.kind_cut_edge.specs.Cutting.{Planned}
 
 pub planned-no : (a : Arrays) (e q n : ℕ) (r : Plan) → r .no ≡ n → (n ≡ 0 → ⊥) → asked3 (sheetOf (heldBy a)) (cutEdge e q) ≡ no n (sheetOf (heldBy a)) → Planned a e q r
 planned-no a e q n r en nz h = record { refused = λ z. h ∙ ap (λ (k : ℕ). no k (sheetOf (heldBy a))) (sym en); goes = λ z. absurd (nz (sym en ∙ z)) }
+
+-- questions 7 and 8 say no
+pub late-refuses : (a : Arrays) (l : Lengths a) (w : T (soundArrays a)) (e q r : ℕ) → Asked (heldBy a) (cutEdge e q) r → (r ≡ 0 → ⊥) → asked3 (sheetOf (heldBy a)) (cutEdge e q) ≡ no r (sheetOf (heldBy a))
+late-refuses a l w e q r k nz = answer (heldBy a) (held-sizes a l) (drawing-of a w) (cutEdge e q) r k ∙ answered-no (sheetOf (heldBy a)) (result (sheetOf (heldBy a)) (cutEdge e q)) r nz
 
 -- ---- a vertex's row
 vertex-live : (o : Option Figure) → T (isVertex o) → isLive o ≡ true
@@ -175,8 +177,8 @@ module _ (a : Arrays) (l : Lengths a) (w : T (soundArrays a)) where
         pub ends : Ends (heldBy a) e u f
         ends = ends-found d z s (rowsBy a) x t et e q op row er m em u f eu ef
 
-        pass : Passed (sheetOf (heldBy a)) (cutEdge e q)
-        pass = passed d z s (rowsBy a) x t et e q op row er m em h
+        pass : Asked (heldBy a) (cutEdge e q) r
+        pass = asked d z s (rowsBy a) x t et e q op row er m em h r ro
 
         none-own : getD (a .counts) row 0 ≡ 0
         none-own =
@@ -196,7 +198,7 @@ module _ (a : Arrays) (l : Lengths a) (w : T (soundArrays a)) where
               let v = without-one e (openEdge (startOf o) (endOf o) (bendsOf o)) (sheetOf d) (sound-in d s) (open-figure o op) (stepsAfter d z e row base m q cuts u f ends p ep) in
               let b1 = steps-by d z e row base m q cuts u f ends p ep cs in
               let b2 = steps-by d z e row base m q cuts u f ends p ep k in
-              let sz = cut-edge-sizes (sheetOf d) (sound-in d s) e q (asked-six d (cutEdge e q) (sound-in d s) pass) ∙ after-is ∙ ap (changedBy (sizesOf cs)) change-is in
+              let sz = cut-edge-sizes (sheetOf d) (sound-in d s) e q (asked-six (sheetOf d) (cutEdge e q) (pass .passed)) ∙ after-is ∙ ap (changedBy (sizesOf cs)) change-is in
               let ss : over stepsIn (result (sheetOf d) (cutEdge e q) .cells) ≡ over stepsIn cs + total (stepUse e) (cyclesOf (take (t .cycles) (a .cycles)) (a .steps)) - 0 = ap (λ (i : whole.Sizes). i .steps) sz in
               let st : t .steps ≡ over stepsIn cs = ap (λ (i : whole.Sizes). i .steps) sizes-are in
               omega (arith, y, v, b1, b2, ss, st)
@@ -204,7 +206,6 @@ module _ (a : Arrays) (l : Lengths a) (w : T (soundArrays a)) where
           pub planned : (uses : ℕ) → uses ≡ total (stepUse e) (cyclesOf (take (t .cycles) (a .cycles)) (a .steps))
               → Planned a e q (record { no = 0; row = row; base = base; m = m; s = u; f = f; cycles = t .cycles; steps = t .steps; bends = t .bends; uses = uses; p = p })
           planned uses eu′ =
-              let y = passes d z s (rowsBy a) x t et e q op row er m em h r ro r0 in
               record {
                 refused = λ i. absurd (i refl);
                 goes =
@@ -216,8 +217,6 @@ module _ (a : Arrays) (l : Lengths a) (w : T (soundArrays a)) where
                       cycles = cycles-are;
                       steps = steps-are;
                       grows = grown ∙ ap (λ (j : ℕ). j + t .steps) (sym eu′);
-                      passed = pass;
-                      idsSuffice = y .0;
-                      sizesSuffice = y .1;
+                      asked = subst (Asked (heldBy a) (cutEdge e q)) r0 pass;
                     };
               }

@@ -1,15 +1,12 @@
 -- 0A of an open edge in lent arrays. Definitions only.
 use Prim.Native.Nat.{ℕ, _+_}
 use mathlib.Core.Path.{_≡_}
-use mathlib.Core.Bool.{true}
-use lib.Dec.{leb}
 use Rattle.complex.specs.Edits.{reshape, rewired, sameVertex}
 use Rattle.complex.specs.Cut.{inTwo}
-use Rattle.complex.specs.Sound.{over, stepsIn, idsEnd}
-use Rattle.answer.specs.Sizes.{newCells, sizesAfter, sizesFit}
+use Rattle.complex.specs.Sound.{over, stepsIn}
 use Rattle.complex.specs.Decode.{cutEdge}
 use Rattle.complex.specs.Answer.{no, asked3}
-use Rattle.complex.proofs.Asked.{Passed}
+use Rattle.answer.proofs.Asked.{Asked}
 use Rattle.store.specs.View.{sheetOf, cycleTotal, stepTotal}
 use Rattle.cut.specs.Cuts.{Cuts, Ends, Placed}
 use Rattle.lent.specs.Arrays.{Arrays, heldBy}
@@ -26,9 +23,7 @@ pub record Goes (a : Arrays) (e q : ℕ) (r : Plan) : Type 0 where
   pub steps : r .steps ≡ stepTotal (heldBy a)
   pub grows : over stepsIn (reshape (rewired sameVertex (inTwo e (a .next + 1) (a .next + 2))) (sheetOf (heldBy a) .cells))
       ≡ r .uses + r .steps
-  pub passed : Passed (sheetOf (heldBy a)) (cutEdge e q)
-  pub idsSuffice : leb (sheetOf (heldBy a) .next + newCells (sheetOf (heldBy a)) (cutEdge e q)) idsEnd ≡ true
-  pub sizesSuffice : sizesFit (sizesAfter (sheetOf (heldBy a)) (cutEdge e q)) ≡ true
+  pub asked : Asked (heldBy a) (cutEdge e q) 0
 
 -- the plan says no with the number of the question, or has what 0A needs
 pub record Planned (a : Arrays) (e q : ℕ) (r : Plan) : Type 0 where

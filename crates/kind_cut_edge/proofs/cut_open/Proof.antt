@@ -4,7 +4,7 @@ use mathlib.Core.Path.{refl}
 use denote.Ref.{now}
 use Rattle.complex.specs.Decode.{cutEdge}
 use Rattle.sound.proofs.Meaning.{sound-fits}
-use Rattle.cut.proofs.Found.{next-in}
+use Rattle.answer.proofs.Asked.{next-in}
 use Rattle.lent.specs.Arrays.{Arrays, lent, heldBy}
 use Rattle.lent.proofs.Replies.{rows-of, drawing-of, obeyed-no}
 use Rattle.kind_cut_edge.specs.Cutting.{Goes}

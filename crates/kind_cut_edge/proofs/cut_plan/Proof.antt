@@ -12,11 +12,11 @@ use Rattle.sound.specs.Soundness.{soundDrawing}
 use Rattle.answer.specs.declared.Totals.{Totals}
 use Rattle.answer.specs.Late.{sizesBy, lateNo}
 use Rattle.cut.proofs.Found.{find-asks, row-below, base-asks}
-use Rattle.cut.proofs.OpenAnswer.{uses-most, open-live, counted-in, no-place, refuses}
+use Rattle.cut.proofs.OpenAnswer.{uses-most, open-live, counted-in, no-place, asked}
 use Rattle.lent.specs.Arrays.{Arrays, lent, heldBy, rowsBy}
 use Rattle.lent.proofs.Held.{held-sizes, held-indexes}
 use Rattle.lent.proofs.Replies.{rows-of, drawing-of}
-use Rattle.kind_cut_edge.proofs.Plans.{planned-no, cuts, ends, rows-below, placed-in, planned}
+use Rattle.kind_cut_edge.proofs.Plans.{planned-no, late-refuses, cuts, ends, rows-below, placed-in, planned}
 use borrow.Author.Needs.{needs}
 use Rattle.kind_cut_edge.proofs.cut_plan.Statement.{statement}
 use Rattle.kind_cut_edge.proofs.cut_plan.Tie as tie
@@ -79,7 +79,7 @@ refused-requires-2 c κs = search needs
 
 returns-2 : tie.Need-returns-2
 returns-2 c =
-    let s = (c .before .before .before .before .before .before .before .before .before .before) in let fd = (c .before .before .before .before .before .before .before .before .before) in let wd = (c .before .before .before .before .before .before .before) in planned-no (arrays s) (s .args .e) (s .args .q) ((c .before .before) .late-no .result) _ (c .refused2 .ensures) ((c .before) .if2 .taken) (refuses (heldBy (arrays s)) (size s) (sound s) (rowsBy (arrays s)) (index s) (s .args .t) (s .pre .0 .sums) (s .args .e) (s .args .q) (s .pre .1) (fd .find .result) (fd .find .ensures) (wd .wide .result) (wd .wide .ensures) ((c .before .before .before .before .before .before) .if1 .left) ((c .before .before) .late-no .result) (late (s .args .next) (s .args .t) _ (s .args .q % 2) _ ((c .before .before) .late-no .result) ((c .before .before) .late-no .ensures) ((c .before .before .before) .count-steps .ensures)) ((c .before) .if2 .taken))
+    let s = (c .before .before .before .before .before .before .before .before .before .before) in let fd = (c .before .before .before .before .before .before .before .before .before) in let wd = (c .before .before .before .before .before .before .before) in planned-no (arrays s) (s .args .e) (s .args .q) ((c .before .before) .late-no .result) _ (c .refused2 .ensures) ((c .before) .if2 .taken) (late-refuses (arrays s) (s .pre .0 .long) (s .pre .0 .sound) (s .args .e) (s .args .q) ((c .before .before) .late-no .result) (asked (heldBy (arrays s)) (size s) (sound s) (rowsBy (arrays s)) (index s) (s .args .t) (s .pre .0 .sums) (s .args .e) (s .args .q) (s .pre .1) (fd .find .result) (fd .find .ensures) (wd .wide .result) (wd .wide .ensures) ((c .before .before .before .before .before .before) .if1 .left) ((c .before .before) .late-no .result) (late (s .args .next) (s .args .t) _ (s .args .q % 2) _ ((c .before .before) .late-no .result) ((c .before .before) .late-no .ensures) ((c .before .before .before) .count-steps .ensures))) ((c .before) .if2 .taken))
 
 bend-start-requires : tie.Need-bend-start-requires
 bend-start-requires c κs =
