@@ -1,4 +1,5 @@
 pub mod Copies
+pub mod Edge
 pub mod Search
 pub mod Links
 pub mod Ends

@@ -38,7 +38,7 @@ fn count_all<'a>(u: Use, cycles: &'a [u32; 512], m: usize, steps: &'a [u32; 2048
 }
 
 // Questions 7 and 8, of n new copies of a cell with b bends.
-fn late_copies(next: u32, t: Totals, b: usize, n: usize) -> u32
+pub fn late_copies(next: u32, t: Totals, b: usize, n: usize) -> u32
     requires { ⌜ next ≤ idsEnd ⌝ }
     requires { ⌜ Small t ⌝ }
     requires { ⌜ b ≤ bendsMost ⌝ }
