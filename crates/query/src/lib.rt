@@ -28,7 +28,7 @@ fn ends_at(kind: u32, start: u32, end: u32, id: u32) -> bool
 }
 
 // Marks the rows of the open edges with an end at id.
-fn mark_edges(
+pub fn mark_edges(
     kinds: &[u32; 256],
     starts: &[u32; 256],
     ends: &[u32; 256],
@@ -136,7 +136,7 @@ fn cycle_holds(
 }
 
 // Marks the first m cycles that hold id.
-fn mark_cycles(
+pub fn mark_cycles(
     ids: &[u32; 256],
     marks: &[bool; 256],
     n: usize,
@@ -196,7 +196,7 @@ fn cell_mark(mark: bool, on: &[bool; 512], from: usize, c: usize) -> bool
 }
 
 // Marks the rows whose own mark is true, or that of one of their cycles.
-fn mark_cells(
+pub fn mark_cells(
     marks: &[bool; 256],
     counts: &[u32; 256],
     n: usize,
@@ -240,6 +240,32 @@ fn sum_of(counts: &[u32; 256], n: usize) -> usize
 }
 
 // Marks the rows of the cells whose boundary holds id.
+pub fn mark_star(
+    ids: &[u32; 256],
+    kinds: &[u32; 256],
+    starts: &[u32; 256],
+    ends: &[u32; 256],
+    counts: &[u32; 256],
+    n: usize,
+    cycles: &[u32; 512],
+    steps: &[u32; 2048],
+    id: u32,
+    out: &mut [bool; 256],
+)
+    requires { ⌜ Readable (now ids) (now kinds) (now starts) (now ends) (now counts) n (now cycles) (now steps) ⌝ }
+    requires { ⌜ length (now out) ≡ 256 ⌝ }
+    ensures { λ r. ⌜ take n (now (out .exit)) ≡ starMarks (take n (now (ids .entry))) (take n (now (kinds .entry))) (take n (now (starts .entry))) (take n (now (ends .entry))) (take n (now (counts .entry))) (now (cycles .entry)) (now (steps .entry)) id ⌝ }
+    ensures { λ r. ⌜ length (now (out .exit)) ≡ 256 ⌝ }
+{
+    let m = sum_of(counts, n);
+    let mut marks = [false; 256];
+    mark_edges(kinds, starts, ends, n, id, &mut marks);
+    let mut on = [false; 512];
+    mark_cycles(ids, &marks, n, cycles, m, steps, id, &mut on);
+    mark_cells(&marks, counts, n, &on, out);
+}
+
+// The same of rows that are lent together.
 pub fn star_marks<'a>(
     ids: &'a [u32; 256],
     kinds: &'a [u32; 256],
@@ -257,12 +283,7 @@ pub fn star_marks<'a>(
     ensures { λ r. ⌜ take n (now (out .exit)) ≡ starMarks (take n (now (ids .entry))) (take n (now (kinds .entry))) (take n (now (starts .entry))) (take n (now (ends .entry))) (take n (now (counts .entry))) (now (cycles .entry)) (now (steps .entry)) id ⌝ }
     ensures { λ r. ⌜ length (now (out .exit)) ≡ 256 ⌝ }
 {
-    let m = sum_of(counts, n);
-    let mut marks = [false; 256];
-    mark_edges(kinds, starts, ends, n, id, &mut marks);
-    let mut on = [false; 512];
-    mark_cycles(ids, &marks, n, cycles, m, steps, id, &mut on);
-    mark_cells(&marks, counts, n, &on, out);
+    mark_star(ids, kinds, starts, ends, counts, n, cycles, steps, id, out)
 }
 
 fn one_if(mark: bool) -> usize
@@ -320,7 +341,7 @@ pub struct Counted {
 }
 
 // The ids of the marked rows, in order, if the buffer has room for them.
-fn give_marked(ids: &[u32; 256], marks: &[bool; 256], n: usize, buffer: &mut [u32]) -> Counted
+pub fn give_marked(ids: &[u32; 256], marks: &[bool; 256], n: usize, buffer: &mut [u32]) -> Counted
     requires { ⌜ n ≤ 256 ⌝ }
     requires { ⌜ length (now ids) ≡ 256 ⌝ }
     requires { ⌜ length (now marks) ≡ 256 ⌝ }
@@ -369,7 +390,7 @@ fn difference(a: u32, b: u32) -> i32
 }
 
 // The Euler number of the first n rows.
-fn euler_of<'a>(kinds: &'a [u32; 256], counts: &'a [u32; 256], n: usize) -> i32
+pub fn euler_rows(kinds: &[u32; 256], counts: &[u32; 256], n: usize) -> i32
     requires { ⌜ n ≤ 256 ⌝ }
     requires { ⌜ length (now kinds) ≡ 256 ⌝ }
     requires { ⌜ length (now counts) ≡ 256 ⌝ }
@@ -388,16 +409,27 @@ fn euler_of<'a>(kinds: &'a [u32; 256], counts: &'a [u32; 256], n: usize) -> i32
     difference(up, down)
 }
 
+// The same of rows that are lent together.
+fn euler_of<'a>(kinds: &'a [u32; 256], counts: &'a [u32; 256], n: usize) -> i32
+    requires { ⌜ n ≤ 256 ⌝ }
+    requires { ⌜ length (now kinds) ≡ 256 ⌝ }
+    requires { ⌜ length (now counts) ≡ 256 ⌝ }
+    requires { ⌜ sumOf (take n (now counts)) ≤ 512 ⌝ }
+    ensures { λ r. ⌜ r ≡ eulerIn (take n (now (kinds .entry))) (take n (now (counts .entry))) ⌝ }
+{
+    euler_rows(kinds, counts, n)
+}
+
 // The star of id, which question 4 asks to be the id of a row.
-fn star_in<'a>(
-    ids: &'a [u32; 256],
-    kinds: &'a [u32; 256],
-    starts: &'a [u32; 256],
-    ends: &'a [u32; 256],
-    counts: &'a [u32; 256],
+pub fn star_rows(
+    ids: &[u32; 256],
+    kinds: &[u32; 256],
+    starts: &[u32; 256],
+    ends: &[u32; 256],
+    counts: &[u32; 256],
     n: usize,
-    cycles: &'a [u32; 512],
-    steps: &'a [u32; 2048],
+    cycles: &[u32; 512],
+    steps: &[u32; 2048],
     id: u32,
     buffer: &mut [u32],
 ) -> Counted
@@ -407,7 +439,7 @@ fn star_in<'a>(
     let row = store::find(ids, n, id);
     if row < n {
         let mut marks = [false; 256];
-        star_marks(
+        mark_star(
             ids,
             kinds,
             starts,
@@ -425,6 +457,36 @@ fn star_in<'a>(
         number: 4,
         count: 0,
     }
+}
+
+// The same of rows that are lent together.
+fn star_in<'a>(
+    ids: &'a [u32; 256],
+    kinds: &'a [u32; 256],
+    starts: &'a [u32; 256],
+    ends: &'a [u32; 256],
+    counts: &'a [u32; 256],
+    n: usize,
+    cycles: &'a [u32; 512],
+    steps: &'a [u32; 2048],
+    id: u32,
+    buffer: &mut [u32],
+) -> Counted
+    requires { ⌜ Readable (now ids) (now kinds) (now starts) (now ends) (now counts) n (now cycles) (now steps) ⌝ }
+    ensures { λ r. ⌜ answered r (now (buffer .exit)) ≡ starIn (take n (now (ids .entry))) (take n (now (kinds .entry))) (take n (now (starts .entry))) (take n (now (ends .entry))) (take n (now (counts .entry))) (now (cycles .entry)) (now (steps .entry)) id (now (buffer .entry)) ⌝ }
+{
+    star_rows(
+        ids,
+        kinds,
+        starts,
+        ends,
+        counts,
+        n,
+        cycles,
+        steps,
+        id,
+        buffer,
+    )
 }
 
 // The star of a cell: the ids, rising, of the cells whose boundary holds it, in the buffer's first places.

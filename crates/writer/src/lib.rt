@@ -47,7 +47,7 @@ pub struct Measure {
 
 // ---- numbers
 
-fn put_two(a: u32, b: u32, out: &mut [u8], at: usize) -> usize
+pub fn put_two(a: u32, b: u32, out: &mut [u8], at: usize) -> usize
     requires { ⌜ a < numbersEnd ⌝ }
     requires { ⌜ b < numbersEnd ⌝ }
     requires { ⌜ at + length (spell a ++ spell b) ≤ length (now out) ⌝ }
@@ -225,7 +225,7 @@ fn put_face(
 }
 
 // The cell c, at the front of what is lent; the count of its bytes comes back.
-fn put_cell(
+pub fn put_cell(
     c: Cell,
     at: Place,
     xs: &[f64; 2048],
@@ -270,7 +270,7 @@ fn step_run(cycles: &[u32; 512], from: usize, n: usize) -> usize
     sum
 }
 
-fn place_after(s: Shape, cycles: &[u32; 512], at: Place) -> Place
+pub fn place_after(s: Shape, cycles: &[u32; 512], at: Place) -> Place
     requires { ⌜ PlaceFits s (now cycles) at ⌝ }
     ensures { λ r. ⌜ r ≡ placeAfter s (now (cycles .entry)) at ⌝ }
 {
@@ -355,7 +355,7 @@ fn shape_length(s: Shape) -> usize
 }
 
 // The bytes that a cell takes besides its bends and cycles.
-fn head_length(c: Cell) -> usize
+pub fn head_length(c: Cell) -> usize
     requires { ⌜ T (headSpells c) ⌝ }
     ensures { λ r. ⌜ r ≡ headWidth c ⌝ }
 {
@@ -389,7 +389,7 @@ fn measure_cells(cells: [Cell; 256], n: usize) -> Measure
 }
 
 // The bytes of the first n numbers.
-fn widths(src: &[u32], n: usize) -> usize
+pub fn widths(src: &[u32], n: usize) -> usize
     requires { ⌜ Numbers (now src) 0 n ⌝ }
     requires { ⌜ n ≤ 2048 ⌝ }
     ensures { λ r. ⌜ r ≡ total spellWidth (take n (now (src .entry))) ⌝ }

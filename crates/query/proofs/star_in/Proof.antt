@@ -1,43 +1,16 @@
 -- `query::star_in` meets its contract. Assumes nothing.
-use mathlib.Core.Path.{_∙_}
-use native.Mathlib.Omega.{arith}
-use lib.ListN.{take}
-use lib.Seq.{length-take-le}
-use Rattle.query.proofs.Answers.{row-found, row-missing}
 use borrow.Author.Needs.{needs}
 use Rattle.query.proofs.star_in.Statement.{statement}
 use Rattle.query.proofs.star_in.Tie as tie
 
-find-requires : tie.Need-find-requires
-find-requires c κs = search needs
-
-star-marks-requires : tie.Need-star-marks-requires
-star-marks-requires c κs = search needs
-
-give-marked-requires : tie.Need-give-marked-requires
-give-marked-requires c κs = search needs
+star-rows-requires : tie.Need-star-rows-requires
+star-rows-requires c κs = search needs
 
 same-length : tie.Need-same-length
 same-length c = search needs
 
 returns : tie.Need-returns
-returns c =
-    let g = c .before .before in
-    let m = g .before .before .before in
-    let f = m .before .before .before in
-    let a = f .before .before .args in
-    let l = length-take-le (a .n) (a .ids .now) (omega arith) in
-    g .give-marked .ensures
-    ∙ row-found (take (a .n) (a .ids .now)) (take (a .n) (a .kinds .now)) (take (a .n) (a .starts .now)) (take (a .n) (a .ends .now)) (take (a .n) (a .counts .now)) (a .cycles .now) (a .steps .now) (a .id) (a .buffer .now) (f .find .result) (f .find .ensures) (omega (arith, l, m .before .before .if1 .taken)) _ (m .star-marks .ensures .0)
-
-returns-2 : tie.Need-returns-2
-returns-2 c =
-    let f = c .before in
-    let a = f .before .before .args in
-    let l = length-take-le (a .n) (a .ids .now) (omega arith) in
-    row-missing (take (a .n) (a .ids .now)) (take (a .n) (a .kinds .now)) (take (a .n) (a .starts .now)) (take (a .n) (a .ends .now)) (take (a .n) (a .counts .now)) (a .cycles .now) (a .steps .now) (a .id) (a .buffer .now) (f .find .result) (f .find .ensures) (omega (arith, l, c .if1 .left))
+returns c = c .before .before .star-rows .ensures
 
 pub star-in-spec : {M : Type 1} → statement M
-star-in-spec =
-    tie.close
-    (tie.spec find-requires star-marks-requires give-marked-requires same-length returns returns-2)
+star-in-spec = tie.close (tie.spec star-rows-requires same-length returns)

@@ -1,0 +1,91 @@
+-- `heads` meets its contract. The loop's invariant: the sum is that of the first i cells. Assumes nothing.
+use borrow.Author.Needs.{needs}
+use Prim.Native.Nat.{ℕ, _+_, _-_, _<_, _≤_}
+use mathlib.Core.Path.{_≡_, refl, ap, sym, _∙_, subst}
+use mathlib.Core.List.{List}
+use native.Mathlib.Omega.{arith}
+use lib.Dec.{T}
+use lib.ListN.{length, take, getD}
+use lib.Seq.{length-take-le, getD-take}
+use Rattle.complex.specs.Lists.{total}
+use Rattle.store.specs.declared.Cell.{Cell}
+use Rattle.store.proofs.Lists.{sum-more}
+use Rattle.writer.specs.Places.{headSpells, headWidth}
+use Rattle.writer.proofs.Laying.{all-get}
+use Rattle.writer.proofs.Lengths.{total-most, head-most}
+use Rattle.lent.proofs.Held.{cells-length}
+use Rattle.call_write.specs.Rows.{cellsIn, noCell}
+use Rattle.call_write.proofs.heads.Statement.{statement}
+use Rattle.call_write.proofs.heads.Tie as tie
+
+abbrev Inv-loop : tie.InvT-loop
+Inv-loop ids kinds starts ends bends counts px py n sum₀ i₀ sum i =
+    (i ≤ n) × (sum ≡ total headWidth (take i (cellsIn ids kinds starts ends bends counts px py)))
+
+abbrev μ-loop : tie.MeasureT-loop
+μ-loop ids kinds starts ends bends counts px py n sum₀ i₀ sum i = n - i
+
+abbrev cells : (s : tie.Start Inv-loop μ-loop) → List Cell
+cells s = let a = s .args in cellsIn (a .ids .now) (a .kinds .now) (a .starts .now) (a .ends .now) (a .bends .now) (a .counts .now) (a .px .now) (a .py .now)
+
+loop-holds : tie.Need-loop-holds Inv-loop μ-loop
+loop-holds c = (omega arith, refl)
+
+cell-at-requires : tie.Need-cell-at-requires Inv-loop μ-loop
+cell-at-requires c κs =
+    let s = c .before .before in
+    let f = s .pre .few in
+    (omega (arith, c .loop-test .taken), sym (cells-length _ (s .args .ids .now)) ∙ s .pre .cells)
+
+head-length-requires : tie.Need-head-length-requires Inv-loop μ-loop
+head-length-requires c κs =
+    let w = c .before in
+    let l = w .before .loop in
+    let s = w .before .before in
+    let cs = cells s in
+    let n = s .args .n in
+    let k : length (take n cs) ≡ n = length-take-le n cs (let f = s .pre .few in let z = s .pre .cells in omega arith) in
+    subst (λ (x : Cell). T (headSpells x)) (getD-take n cs (l .i) noCell (w .loop-test .taken) ∙ sym (c .cell-at .ensures)) (all-get headSpells (take n cs) (l .i) noCell (s .pre .spelled) (omega arith))
+
+add-sum : tie.Need-add-sum Inv-loop μ-loop
+add-sum c =
+    let w = c .before .before in
+    let l = w .before .loop in
+    let s = w .before .before in
+    let cs = cells s in
+    let f = s .pre .few in
+    let z = s .pre .cells in
+    let m = total-most headWidth 20 head-most (take (l .i) cs) in
+    let k = length-take-le (l .i) cs (omega arith) in
+    let v = head-most (c .before .cell-at .result) in
+    let e = c .head-length .ensures in
+    record { fits = omega arith }
+
+add-i : tie.Need-add-i Inv-loop μ-loop
+add-i c = search needs
+
+loop-less : tie.Need-loop-less Inv-loop μ-loop
+loop-less c = omega arith
+
+loop-again : tie.Need-loop-again Inv-loop μ-loop
+loop-again c =
+    let w = c .before .before in
+    let l = w .before .loop in
+    let s = w .before .before in
+    let cs = cells s in
+    let f = s .pre .few in
+    let z = s .pre .cells in
+    let e = c .head-length .ensures ∙ ap headWidth (c .before .cell-at .ensures) in
+    (omega arith, (λ i. l .inv .1 i + e i) ∙ sym (sum-more headWidth cs (l .i) noCell (omega arith)))
+
+returns : tie.Need-returns Inv-loop μ-loop
+returns c =
+    let l = c .before .loop in
+    let s = c .before .before in
+    let e : l .i ≡ s .args .n = omega arith in
+    l .inv .1 ∙ ap (λ (k : ℕ). total headWidth (take k (cells s))) e
+
+pub heads-spec : {M : Type 1} → statement M
+heads-spec =
+    tie.close
+    (tie.spec Inv-loop μ-loop loop-holds cell-at-requires head-length-requires add-sum add-i loop-less loop-again returns)
