@@ -11,7 +11,7 @@ use answer::Answer;
 use store::Drawing;
 
 // Questions 4 and 6 of 07: the number of the first no, or 0.
-fn vertices_no(ids: &[u32; 256], kinds: &[u32; 256], n: usize, a: u32, b: u32) -> u32
+pub fn vertices_no(ids: &[u32; 256], kinds: &[u32; 256], n: usize, a: u32, b: u32) -> u32
     requires { ⌜ Rows (now ids) (now kinds) n ⌝ }
     ensures { λ r. ⌜ r ≡ verticesNo (valueAt 4 (take n (now (ids .entry))) (take n (now (kinds .entry))) a) (valueAt 4 (take n (now (ids .entry))) (take n (now (kinds .entry))) b) (eqb a b) ⌝ }
 {
@@ -72,7 +72,7 @@ fn ends_meet(flag: u32, sa: u32, ea: u32, sb: u32, eb: u32) -> bool
 }
 
 // The same of the edges a and b.
-fn ends_of(
+pub fn ends_of(
     ids: &[u32; 256],
     starts: &[u32; 256],
     ends: &[u32; 256],
@@ -109,7 +109,7 @@ fn may_glue(ka: u32, kb: u32, meet: bool) -> bool
 }
 
 // Questions 4, 5 and 6 of 08: the number of the first no, or 0.
-fn edges_no(ka: u32, kb: u32, same: bool, flag: u32, meet: bool) -> u32
+pub fn edges_no(ka: u32, kb: u32, same: bool, flag: u32, meet: bool) -> u32
     ensures { λ r. ⌜ r ≡ edgesNo ka kb same flag meet ⌝ }
 {
     if !is_edge(ka) {

@@ -1,12 +1,12 @@
 -- An edge's row goes, and its bends to the end. Assumes nothing.
-use Prim.Native.Nat.{ℕ, suc, _+_, _-_, _<_, _≤_}
+use Prim.Native.Nat.{ℕ, zero, suc, _+_, _-_, _<_, _≤_}
 use native.Mathlib.Omega.{arith}
 use mathlib.Core.Path.{_≡_, refl, sym, ap, ap₂, _∙_, subst}
 use mathlib.Core.Bool.{Bool, true, false}
 use mathlib.Core.List.{List, [], _∷_, _++_}
 use lib.Ieee.{Float}
-use lib.ListN.{length, getD, set, take, drop, replicate, length-set, length-replicate}
-use lib.Seq.{getD-take, take-take, length-take-le}
+use lib.ListN.{length, getD, set, take, drop, replicate, length-set, length-replicate, take-append-drop}
+use lib.Seq.{getD-take, take-take, length-take-le, slice, slice-empty}
 use Rattle.complex.specs.Lists.{total}
 use Rattle.store.specs.View.{sheetOf, Fits}
 use Rattle.store.specs.Edits.{kept, placesOf, PlacesKept, CyclesKept}
@@ -14,7 +14,7 @@ use Rattle.answer.specs.Late.{Summed}
 use Rattle.answer.proofs.Laws.{summed}
 use Rattle.lent.specs.Arrays.{Arrays, heldBy, rowsBy, normal, Lengths}
 use Rattle.lent.proofs.Held.{held-sizes, held-indexes}
-use Rattle.kernel_bends.specs.Turned.{movedLast}
+use Rattle.kernel_bends.specs.Turned.{rotated, movedLast}
 use Rattle.kernel_keep.specs.Keeps.{RowsKept, BendsKept, Keeps, EdgeRow, RowGone}
 use Rattle.kernel_keep.proofs.Rows.{keeps, count-by}
 use Rattle.kernel_keep.proofs.Dead.{oneDead, dead-front, rows-one, total-append, total-row, places-zero, cycles-stay, twice-kept}
@@ -92,3 +92,34 @@ module _ (a : Arrays) (l : Lengths a) (f : Fits (heldBy a)) (n : normal a ≡ tr
               ap (total (placesOf 0)) left ∙ total-append (placesOf 0) (take row cs) (drop (suc row) cs)
               ∙ omega (arith, total-row cs row row-in, places-zero (getD cs row 0), base-is, own-is, r .all);
         }
+
+-- ---- a row without bends
+module _ {A : Type 0} where
+  slice-rest : (f t : ℕ) (l : List A) → f ≤ t → slice f t l ++ drop t l ≡ drop f l
+  slice-rest zero t l h = take-append-drop t l
+  slice-rest (suc f) zero l h = absurd (omega arith)
+  slice-rest (suc f) (suc t) [] h = refl
+  slice-rest (suc f) (suc t) (x ∷ l) h = slice-rest f t l (omega arith)
+
+  rotated-none : (f m t : ℕ) (l : List A) → m ≡ f → f ≤ t → rotated f m t l ≡ l
+  rotated-none f m t l e h =
+      ap (λ (k : ℕ). rotated f k t l) e
+      ∙ ap (λ (q : List A). take f l ++ (slice f t l ++ (q ++ drop t l))) (slice-empty f l)
+      ∙ ap (λ (q : List A). take f l ++ q) (slice-rest f t l h)
+      ∙ take-append-drop f l
+
+  moved-none : (base t : ℕ) (l : List A) → base ≤ t → movedLast base 0 0 0 t l ≡ l
+  moved-none base t l h =
+      rotated-none (t - 0 + 0) (t - 0 + 0) t (rotated base (base + 0) t l) refl (omega arith) ∙ rotated-none base (base + 0) t l (omega arith) h
+
+module _ (a : Arrays) (l : Lengths a) (f : Fits (heldBy a)) (n : normal a ≡ true) (row : ℕ) (h : row < a .count) (ob : getD (a .bends) row 0 ≡ 0) (oc : getD (a .counts) row 0 ≡ 0)
+    (b : Arrays) (lb : Lengths b) (dead : List Bool) (ed : dead ≡ set (replicate 256 false) row true) (en : b .next ≡ a .next) (k : RowsKept dead (a .count) a b (b .count))
+    (bx : b .bx ≡ a .bx) (by : b .by ≡ a .by) (ec : b .cycles ≡ a .cycles) (es : b .steps ≡ a .steps) where
+  pub bare-gone : Keeps (set (replicate 256 false) row true) a b
+  bare-gone =
+      let base = total (placesOf 0) (take row (a .bends)) in
+      let t = total (placesOf 0) (take (a .count) (a .bends)) in
+      let r : EdgeRow a row base 0 t = record { below = h; from = refl; own = sym ob; none = oc; all = refl } in
+      let g = row-range a l f n row base 0 t r in
+      let hb : base ≤ t = omega (arith, g .0) in
+      row-gone a l f n row base 0 t r 0 0 (omega arith) (omega arith) b lb dead ed en k (bx ∙ sym (moved-none base t (a .bx) hb)) (by ∙ sym (moved-none base t (a .by) hb)) ec es .keeps

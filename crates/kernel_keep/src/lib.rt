@@ -1,7 +1,7 @@
 ghost use mathlib.Core.Path.{_≡_};
-ghost use mathlib.Core.Bool.{true};
-ghost use Prim.Native.Nat.{_+_, _≤_};
-ghost use lib.ListN.{take, length};
+ghost use mathlib.Core.Bool.{true, false};
+ghost use Prim.Native.Nat.{_+_, _<_, _≤_};
+ghost use lib.ListN.{take, length, getD, set, replicate};
 ghost use Rattle.complex.specs.Lists.{total};
 ghost use Rattle.complex.specs.Sound.{cellsMost, bendsMost};
 ghost use Rattle.store.specs.View.{Fits};
@@ -174,6 +174,65 @@ pub fn drop_row(
     kernel_bends::rotate(by, base, base + m, t);
     kernel_bends::rotate(bx, u + i, u + j, t);
     kernel_bends::rotate(by, u + i, u + j, t);
+    let dead = dropping::dead_row(row);
+    let k = pack_rows(
+        count,
+        ids,
+        kinds,
+        starts,
+        ends,
+        bends,
+        counts,
+        px,
+        py,
+        &dead,
+    );
+    lent::known(
+        next,
+        k,
+        ids,
+        kinds,
+        starts,
+        ends,
+        bends,
+        counts,
+        px,
+        py,
+        cycles,
+        steps,
+        bx,
+        by,
+    );
+    k
+}
+
+// The row of a cell that has neither bends nor cycles goes; how many rows there are then.
+pub fn drop_bare(
+    next: u32,
+    count: usize,
+    ids: &mut [u32; 256],
+    kinds: &mut [u32; 256],
+    starts: &mut [u32; 256],
+    ends: &mut [u32; 256],
+    bends: &mut [u32; 256],
+    counts: &mut [u32; 256],
+    px: &mut [f64; 256],
+    py: &mut [f64; 256],
+    cycles: &[u32; 512],
+    steps: &[u32; 2048],
+    bx: &[f64; 2048],
+    by: &[f64; 2048],
+    row: usize,
+) -> usize
+    requires { ⌜ Fits (heldBy (lent next count ids kinds starts ends bends counts px py cycles steps bx by)) ⌝ }
+    requires { ⌜ Lengths (lent next count ids kinds starts ends bends counts px py cycles steps bx by) ⌝ }
+    requires { ⌜ normal (lent next count ids kinds starts ends bends counts px py cycles steps bx by) ≡ true ⌝ }
+    requires { ⌜ row < count ⌝ }
+    requires { ⌜ getD (now bends) row 0 ≡ 0 ⌝ }
+    requires { ⌜ getD (now counts) row 0 ≡ 0 ⌝ }
+    ensures { λ r. ⌜ Keeps (set (replicate 256 false) row true) (entry next count ids kinds starts ends bends counts px py cycles steps bx by) (exit next r ids kinds starts ends bends counts px py cycles steps bx by) ⌝ }
+    ensures { λ r. ⌜ Lengths (exit next r ids kinds starts ends bends counts px py cycles steps bx by) ⌝ }
+{
     let dead = dropping::dead_row(row);
     let k = pack_rows(
         count,
