@@ -7,6 +7,7 @@ ghost use Rattle.number.specs.Numbers.{readNumber};
 ghost use Rattle.bends.specs.Bends.{positionsAt};
 ghost use Rattle.complex.specs.Lists.{one, places};
 ghost use Rattle.complex.specs.Cells.{path, closedEdge, face};
+ghost use Rattle.complex.specs.Decode.{cutFaceClosed};
 ghost use Rattle.complex.specs.Cut.{faceCutRound};
 ghost use Rattle.complex.specs.Sound.{idsEnd, cyclesMost, stepsMost};
 ghost use Rattle.store.specs.View.{sheetOf, halfedgeOf};
@@ -16,12 +17,13 @@ ghost use Rattle.command.specs.Lists.{Stand, numbersRead};
 ghost use Rattle.outline.specs.Faces.{Within, cyclesAt};
 ghost use Rattle.cutface.specs.Rounds.{stayed, left, RoundCut};
 ghost use Rattle.lent.specs.Arrays.{heldBy, rowsBy, lent, entry, exit};
-ghost use Rattle.lent.specs.Replies.{Ready};
+ghost use Rattle.lent.specs.Replies.{Ready, Obeyed};
 ghost use Rattle.kind_cut_face.specs.Cuts.{Holds};
 ghost use Rattle.kind_cut_round.specs.Rounds.{HoldsIn, RingRoom, PartRoom};
 use answer::Totals;
 use cycles::Spans;
 use cycles::Used;
+use lent::Line;
 
 // The cycles at s that are not skipped, and then a cycle of one step.
 fn and_ring(
@@ -356,4 +358,97 @@ fn cut_round(
         q.new,
         &gp,
     );
+}
+
+// 0D: the face f is cut along a closed edge with the k bends that the script has at `first`; the cycles that it names at `place`
+// go to the new face.
+pub fn cut_face_closed(
+    next: &mut u32,
+    count: &mut usize,
+    ids: &mut [u32; 256],
+    kinds: &mut [u32; 256],
+    starts: &mut [u32; 256],
+    ends: &mut [u32; 256],
+    bends: &mut [u32; 256],
+    counts: &mut [u32; 256],
+    px: &[f64; 256],
+    py: &[f64; 256],
+    cycles: &mut [u32; 512],
+    steps: &mut [u32; 2048],
+    bx: &mut [f64; 2048],
+    by: &mut [f64; 2048],
+    t: Totals,
+    script: &[u8],
+    f: u32,
+    k: u32,
+    first: usize,
+    moved: u32,
+    place: usize,
+) -> Line
+    requires { ⌜ Ready (lent (now next) (now count) ids kinds starts ends bends counts px py cycles steps bx by) t ⌝ }
+    requires { ⌜ first + 16 * k ≤ length (now script) ⌝ }
+    requires { ⌜ Stand readNumber (now script) place moved ⌝ }
+    ensures { λ r. ⌜ Obeyed (entry (now (next .entry)) (now (count .entry)) ids kinds starts ends bends counts px py cycles steps bx by) (cutFaceClosed f (positionsAt (now (script .entry)) first k) (numbersRead (now (script .entry)) place moved)) (exit (now (next .exit)) (now (count .exit)) ids kinds starts ends bends counts px py cycles steps bx by) r ⌝ }
+{
+    if !bends::bends_within(script, first, k) {
+        return lent::line_of(3);
+    }
+    let n = *count;
+    let id = *next;
+    let kind = store::value_at(4, ids, kinds, n, f);
+    if kind != 3 {
+        return lent::line_of(4);
+    }
+    if k == 0 {
+        return lent::line_of(5);
+    }
+    let c = store::value_at(0, ids, counts, n, f);
+    if !script::moved_rise(script, place, moved, c) {
+        return lent::line_of(5);
+    }
+    let more = Totals {
+        cells: 2,
+        cycles: 2,
+        steps: 2,
+        bends: store::wide(k),
+    };
+    let less = Totals {
+        cells: 0,
+        cycles: 0,
+        steps: 0,
+        bends: 0,
+    };
+    let no = answer::late_no(id, 2, t, more, less);
+    if no != 0 {
+        return lent::line_of(no);
+    }
+    cut_round(
+        next,
+        count,
+        ids,
+        kinds,
+        starts,
+        ends,
+        bends,
+        counts,
+        px,
+        py,
+        cycles,
+        steps,
+        bx,
+        by,
+        t,
+        script,
+        f,
+        k,
+        first,
+        moved,
+        place,
+    );
+    Line {
+        number: 0,
+        first: id,
+        new: 2,
+        removed: 0,
+    }
 }
