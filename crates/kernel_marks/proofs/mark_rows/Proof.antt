@@ -5,7 +5,7 @@ use mathlib.Core.Path.{_≡_, ap, sym, _∙_}
 use mathlib.Core.Bool.{Bool}
 use mathlib.Core.List.{[], _∷_, _++_}
 use native.Mathlib.Omega.{arith}
-use lib.ListN.{length, take, drop, getD, length-set}
+use lib.ListN.{length, take, drop, length-set}
 use Rattle.query.specs.Marks.{anyOf, sumOf}
 use Rattle.query.proofs.Marking.{front-more, sum-on, sum-within}
 use Rattle.kernel_marks.specs.Marks.{rowMarks}
