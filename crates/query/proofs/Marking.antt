@@ -204,7 +204,7 @@ bit-most true = omega arith
 bit-most false = omega arith
 
 -- ---- the three passes together
-part : {A : Type 0} (c s : ℕ) (l : List A) → c + s ≤ length l → (take c (take (c + s) l) ≡ take c l) × (drop c (take (c + s) l) ≡ take s (drop c l))
+pub part : {A : Type 0} (c s : ℕ) (l : List A) → c + s ≤ length l → (take c (take (c + s) l) ≡ take c l) × (drop c (take (c + s) l) ≡ take s (drop c l))
 part c s l h =
     let e = length-take-le c l (omega arith) in (
       take-take c (c + s) l (omega arith),

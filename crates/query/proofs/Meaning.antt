@@ -160,7 +160,7 @@ euler-row xs = ap₂ subℕ (gains-row xs) (losses-row xs) ∙ sym (euler-sub xs
 
 -- ---- of a drawing
 module _ (d : Drawing) (z : Sizes d) (f : Fits d) (t : Index) (x : Indexes d t) where
-  counts-sum : sumOf (take (d .count) (t .cycles)) ≡ cycleTotal d
+  pub counts-sum : sumOf (take (d .count) (t .cycles)) ≡ cycleTotal d
   counts-sum = ap sumOf (x .cycles) ∙ sum-map (λ (c : Cell). cycleCount (c .shape)) (take (d .count) (d .cells))
 
   -- the rows can be read

@@ -169,7 +169,7 @@ pub fn mark_cycles(
 }
 
 // Whether one of c marks, from a place on, is true.
-fn any_of(on: &[bool; 512], from: usize, c: usize) -> bool
+pub fn any_of(on: &[bool; 512], from: usize, c: usize) -> bool
     requires { ⌜ length (now on) ≡ 512 ⌝ }
     requires { ⌜ from + c ≤ 512 ⌝ }
     ensures { λ r. ⌜ r ≡ anyOf (take c (drop from (now (on .entry)))) ⌝ }

@@ -20,7 +20,7 @@ euler-rows-requires c κs =
     let a = arrays c in
     let t = c .args .t in
     let p = sound-rows (heldBy a) (ready-sizes a t (c .pre)) (rowsBy a) (ready-indexes a t (c .pre)) (ready-drawing a t (c .pre)) in
-    (p .rows, (p .kinds, (p .counts, p .cyclesFit)))
+    (p .rows, (search needs, (search needs, p .cyclesFit)))
 
 returns : tie.Need-returns
 returns c =
