@@ -12,7 +12,7 @@ use Rattle.coordinate.specs.declared.Position.{Position}
 use Rattle.coordinate.specs.Bounds.{within}
 use Rattle.sound.specs.Rows.{rowsOf, rowGood, allFrom}
 use Rattle.sound.proofs.Testing.{and-true, and-false}
-use Rattle.sound.proofs.Parts.{and-unit}
+use Rattle.sound.proofs.Parts.{and-unit, and-assoc}
 use Rattle.sound.proofs.Looking.{row-other}
 use Rattle.lent.specs.Arrays.{rowNormal}
 use Rattle.lent_sound.specs.Walk.{idBefore, idRight, figureRight}
@@ -82,29 +82,27 @@ module _ (n : ℕ) (is ks ss es bs : List ℕ) (i : ℕ) (p : Position) (h : i <
       ∙ sym (and-true _ (sym (row-other n is ks ss es bs i h (λ q. omega (arith, q, z)) (λ q. omega (arith, q, z))))
       ∙ ap (λ (b : Bool). cond b (within p) true) (kind-is true (eq-eqb (getD ks i 0) 0 z)))
 
--- ---- some numbers one after another: the first i are right, and the rest decides
+-- ---- some numbers one after another: b tells whether the first i are right, and the rest decides
 module _ (p : ℕ → Bool) (k m : ℕ) where
-  pub record Ranging (i : ℕ) : Type 0 where
-    pub rest : allFrom p k m ≡ allFrom p (k + i) (m - i)
+  pub record Ranging (b : Bool) (i : ℕ) : Type 0 where
+    pub rest : allFrom p k m ≡ b && allFrom p (k + i) (m - i)
 
-  pub ranging-start : Ranging 0
+  pub ranging-start : Ranging true 0
   ranging-start =
-      let a : k ≡ k + 0 = omega arith in
-      let b : m ≡ m - 0 = omega arith in
-      record { rest = ap (λ (j : ℕ). allFrom p j m) a ∙ ap (allFrom p (k + 0)) b }
+      let x : k ≡ k + 0 = omega arith in
+      let y : m ≡ m - 0 = omega arith in
+      record { rest = ap (λ (j : ℕ). allFrom p j m) x ∙ ap (allFrom p (k + 0)) y }
 
-  module _ (i : ℕ) (h : i < m) (g : Ranging i) where
-    following : allFrom p k m ≡ p (k + i) && allFrom p (k + (i + 1)) (m - (i + 1))
-    following =
-        let a : m - i ≡ suc (m - (i + 1)) = omega arith in
-        let b : suc (k + i) ≡ k + (i + 1) = omega arith in
-        g .rest ∙ ap (allFrom p (k + i)) a ∙ ap (λ (j : ℕ). p (k + i) && allFrom p j (m - (i + 1))) b
+  pub ranging-turn : (b : Bool) (i : ℕ) → i < m → Ranging b i → (r q : Bool) → q ≡ p (k + i) → r ≡ b && q → Ranging r (i + 1)
+  ranging-turn b i h g r q eq er =
+      let x : m - i ≡ suc (m - (i + 1)) = omega arith in
+      let y : suc (k + i) ≡ k + (i + 1) = omega arith in
+      record {
+        rest =
+            g .rest ∙ ap (λ (n : ℕ). b && allFrom p (k + i) n) x ∙ ap (λ (j : ℕ). b && (p (k + i) && allFrom p j (m - (i + 1)))) y
+            ∙ and-assoc b (p (k + i)) (allFrom p (k + (i + 1)) (m - (i + 1)))
+            ∙ ap (λ (t : Bool). t && allFrom p (k + (i + 1)) (m - (i + 1))) (ap (λ (t : Bool). b && t) (sym eq) ∙ sym er);
+      }
 
-    pub ranging-turn : p (k + i) ≡ true → Ranging (i + 1)
-    ranging-turn e = record { rest = following ∙ and-true _ e }
-
-    pub ranging-fail : p (k + i) ≡ false → false ≡ allFrom p k m
-    ranging-fail e = sym (following ∙ and-false _ e)
-
-  pub ranging-end : (i : ℕ) → i ≡ m → Ranging i → true ≡ allFrom p k m
-  ranging-end i e g = let z : m - i ≡ 0 = omega arith in sym (g .rest ∙ ap (allFrom p (k + i)) z)
+  pub ranging-end : (b : Bool) (i : ℕ) → i ≡ m → Ranging b i → b ≡ allFrom p k m
+  ranging-end b i e g = let z : m - i ≡ 0 = omega arith in sym (g .rest ∙ ap (λ (n : ℕ). b && allFrom p (k + i) n) z ∙ and-unit b)

@@ -1,5 +1,5 @@
 ghost use mathlib.Core.Path.{_≡_};
-ghost use mathlib.Core.Bool.{cond};
+ghost use mathlib.Core.Bool.{cond, _&&_};
 ghost use Prim.Native.Nat.{_+_, _<_, _≤_};
 ghost use lib.ListN.{take, length};
 ghost use Rattle.number.specs.Said.{done, no};
@@ -112,23 +112,32 @@ fn figure_right(
     true
 }
 
-// Whether m bends from one place on lie in bounds.
+// Whether both hold.
+fn both(a: bool, b: bool) -> bool
+    ensures { λ r. ⌜ r ≡ a && b ⌝ }
+{
+    if a {
+        return b;
+    }
+    false
+}
+
+// Whether m bends from one place on lie in bounds. All are looked at, which is faster than to leave at the first that does not.
 fn bends_right(bx: &[f64; 2048], by: &[f64; 2048], from: usize, m: usize) -> bool
     requires { ⌜ from + m ≤ bendsMost ⌝ }
     ensures { λ r. ⌜ r ≡ allFrom (bendRight (now (bx .entry)) (now (by .entry))) from m ⌝ }
 {
+    let mut good = true;
     let mut i: usize = 0;
     while i < m {
         let p = Position {
             x: bx[from + i],
             y: by[from + i],
         };
-        if !coordinate::in_bounds(p) {
-            return false;
-        }
+        good = both(good, coordinate::in_bounds(p));
         i = i + 1;
     }
-    true
+    good
 }
 
 // The cell in row i, where t are the sums of the rows before it: the sums with it, or its fault.
