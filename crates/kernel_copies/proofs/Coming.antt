@@ -1,12 +1,13 @@
 -- Rows that come after the last, all of one shape, and their bends. Assumes nothing.
-use Prim.Native.Nat.{ℕ, _+_, _*_, _%_, _<_, _≤_}
+use Prim.Native.Nat.{ℕ, _+_, _-_, _*_, _%_, _<_, _≤_}
 use native.Mathlib.Omega.{arith}
+use borrow.Author.Tests.{ne-eqb}
 use native.Mathlib.Nat.{mod-self, mod-add-mod}
 use mathlib.Core.Path.{_≡_, refl, sym, ap, ap₂, _∙_, subst}
-use mathlib.Core.Bool.{true}
+use mathlib.Core.Bool.{true, false, cond}
 use mathlib.Core.List.{List}
 use lib.Ieee.{Float}
-use lib.Dec.{T}
+use lib.Dec.{T, eqb}
 use lib.ListN.{length, getD, set, take, length-set}
 use lib.Seq.{paste, paste-zero}
 use Rattle.coordinate.specs.declared.Position.{Position}
@@ -26,6 +27,7 @@ use Rattle.append.specs.Requirements.{CopiesRoom}
 use Rattle.append.specs.Runs.{run}
 use Rattle.append.proofs.CopyLists.{bend-more, cells-more}
 use Rattle.append.proofs.Copied.{row-shape, row-count, row-within, bends-filled, copies-grown}
+use Rattle.answer.specs.Answers.{outcome}
 use Rattle.copies.specs.declared.Use.{Use}
 use Rattle.copies.specs.Copying.{usesIn, copied}
 use Rattle.copies.proofs.Dealing.{stepped-is, copied-cells}
@@ -195,3 +197,11 @@ module _ (a : Arrays) (l : Lengths a) (f : Fits (heldBy a)) (u : Use) (i k m : �
         fits = g .1;
         long = record { ids = l .ids; kinds = l .kinds; starts = l .starts; ends = l .ends; bends = l .bends; counts = l .counts; px = l .px; py = l .py; cycles = l .cycles; steps = ls; bx = l .bx; by = l .by };
       }
+
+-- ---- the answer of a command that issues k ids and keeps all cells
+pub more-outcome : (next n k : ℕ) (out : Drawing) → 1 ≤ k → out .next ≡ next + k → out .count ≡ n + k → record { number = 0; first = next; new = k; removed = 0; drawing = out } ≡ outcome next n out
+more-outcome next n k out h e f =
+    let g : k ≡ out .next - next = omega (arith, e) in
+    let r : 0 ≡ n + (out .next - next) - out .count = omega (arith, e, f) in
+    let q : false ≡ eqb (out .next - next) 0 = sym (ne-eqb (out .next - next) 0 (λ z. omega (arith, z, e, h))) in
+    λ i. record { number = 0; first = cond (q i) 0 next; new = g i; removed = r i; drawing = out }

@@ -1,11 +1,11 @@
 -- 09 of an edge: the arrays hold the drawing with a copy for each use but the first. Assumes nothing.
 use Prim.Native.Nat.{ℕ, _+_, _-_, _*_, _<_, _≤_}
 use native.Mathlib.Omega.{arith}
-use borrow.Author.Tests.{ltb-true, ne-eqb}
+use borrow.Author.Tests.{ltb-true}
 use mathlib.Core.Path.{_≡_, refl, sym, ap, _∙_}
-use mathlib.Core.Bool.{true, false, cond}
+use mathlib.Core.Bool.{true}
 use mathlib.Core.Option.{Option, none, some}
-use lib.Dec.{T, eqb, ltb}
+use lib.Dec.{T, ltb}
 use lib.ListN.{getD, take}
 use lib.Seq.{getD-take}
 use Rattle.complex.specs.Lists.{total}
@@ -22,7 +22,7 @@ use Rattle.sound.proofs.Meaning.{sound-fits, live-row}
 use Rattle.append.specs.Requirements.{CopiesRoom}
 use Rattle.answer.specs.declared.Answer.{Answer}
 use Rattle.answer.specs.declared.Totals.{Totals}
-use Rattle.answer.specs.Answers.{refusal, outcome, Answers}
+use Rattle.answer.specs.Answers.{refusal, Answers}
 use Rattle.answer.specs.Late.{sizesBy, lateNo}
 use Rattle.copies.specs.declared.Use.{Use}
 use Rattle.copies.specs.declared.Use.the-variants.{Step, Ring, Lone}
@@ -35,6 +35,7 @@ use Rattle.lent.specs.Replies.{lineOf, answerBy, Ready, Obeyed}
 use Rattle.lent.proofs.Held.{held-sizes, held-indexes}
 use Rattle.lent.proofs.Replies.{rows-of, drawing-of}
 use Rattle.kernel_copies.specs.Copies.{UsesCopied, CopiesCome}
+use Rattle.kernel_copies.proofs.Coming.{more-outcome}
 
 -- an edge that has uses is live
 uses-live : (u : Use) (o : Option Figure) → T (hasUses u o) → isLive o ≡ true
@@ -43,13 +44,6 @@ uses-live Step (some f) h = refl
 uses-live Ring none h = absurd h
 uses-live Ring (some f) h = refl
 uses-live Lone o h = absurd h
-
-more-outcome : (next n k : ℕ) (out : Drawing) → 1 ≤ k → out .next ≡ next + k → out .count ≡ n + k → record { number = 0; first = next; new = k; removed = 0; drawing = out } ≡ outcome next n out
-more-outcome next n k out h e f =
-    let g : k ≡ out .next - next = omega (arith, e) in
-    let r : 0 ≡ n + (out .next - next) - out .count = omega (arith, e, f) in
-    let q : false ≡ eqb (out .next - next) 0 = sym (ne-eqb (out .next - next) 0 (λ z. omega (arith, z, e, h))) in
-    λ i. record { number = 0; first = cond (q i) 0 next; new = g i; removed = r i; drawing = out }
 
 module _ (u : Use) (a : Arrays) (t : Totals) (r : Ready a t) (e : ℕ) (h : T (hasUses u (cellAt (sheetOf (heldBy a)) e))) where
   abbrev d : Drawing

@@ -6,3 +6,4 @@ pub mod Ends
 pub mod Order
 pub mod Vertex
 pub mod Found
+pub mod Parts

@@ -158,7 +158,7 @@ fn start_group(
 }
 
 // The marked places get the numbers of their groups, from 1 on in the order of their first places; how many groups there are.
-fn find_groups(groups: &mut [u32], at: &[bool], xs: &[u32], ys: &[u32], m: usize) -> u32
+pub fn find_groups(groups: &mut [u32], at: &[bool], xs: &[u32], ys: &[u32], m: usize) -> u32
     requires { ⌜ Ready (length (now groups)) (now at) (now xs) (now ys) m ⌝ }
     requires { ⌜ Sorting (now at) (now xs) (now ys) m 0 0 (now groups) ⌝ }
     ensures { λ r. ⌜ Sorting (now (at .entry)) (now (xs .entry)) (now (ys .entry)) m (length (now (at .entry))) r (now (groups .exit)) ⌝ }
@@ -298,7 +298,7 @@ fn cycle_links(
 }
 
 // The links of the passages of the first m cycles.
-fn find_links(
+pub fn find_links(
     ids: &[u32; 256],
     n: usize,
     at: &[bool],
@@ -337,7 +337,7 @@ fn is_end(k: u32, a: u32, v: u32) -> bool
 }
 
 // The places of the ends at v, from the kinds, starts and ends of n rows.
-fn mark_ends(kinds: &[u32], starts: &[u32], ends: &[u32], n: usize, v: u32, at: &mut [bool])
+pub fn mark_ends(kinds: &[u32], starts: &[u32], ends: &[u32], n: usize, v: u32, at: &mut [bool])
     requires { ⌜ n ≤ length (now kinds) ⌝ }
     requires { ⌜ n ≤ length (now starts) ⌝ }
     requires { ⌜ n ≤ length (now ends) ⌝ }
@@ -369,7 +369,15 @@ fn new_end(mark: bool, g: u32, a: u32, v: u32, next: u32) -> u32
 }
 
 // The ends at v in n rows become the copies of v that their groups say; on one side of the edges.
-fn new_ends(side: usize, at: &[bool], groups: &[u32], n: usize, v: u32, next: u32, ends: &mut [u32])
+pub fn new_ends(
+    side: usize,
+    at: &[bool],
+    groups: &[u32],
+    n: usize,
+    v: u32,
+    next: u32,
+    ends: &mut [u32],
+)
     requires { ⌜ EndRows side (now at) (now groups) n next (now ends) ⌝ }
     ensures { λ r. ⌜ NewEnds side (now (at .entry)) (now (groups .entry)) v next n (now (ends .entry)) (now (ends .exit)) ⌝ }
 {

@@ -1,0 +1,209 @@
+ghost use mathlib.Core.Path.{_≡_};
+ghost use Prim.Native.Nat.{_≤_};
+ghost use lib.Dec.{T};
+ghost use lib.ListN.{length};
+ghost use Rattle.complex.specs.Cells.{cellAt, isVertex};
+ghost use Rattle.complex.specs.Decode.{unglue as ungluing};
+ghost use Rattle.store.specs.View.{sheetOf};
+ghost use Rattle.unglue.specs.Places.{GroupedEnds, Fresh};
+ghost use Rattle.lent.specs.Arrays.{heldBy, rowsBy, lent, entry, exit};
+ghost use Rattle.lent.specs.Replies.{Ready, Obeyed};
+ghost use Rattle.kind_unglue_vertex.specs.Parts.{Parted};
+use answer::Totals;
+use copies::Use;
+use lent::Line;
+
+// The groups of the ends at vertex v, and how many there are.
+fn group_ends(
+    next: u32,
+    count: usize,
+    ids: &[u32; 256],
+    kinds: &[u32; 256],
+    starts: &[u32; 256],
+    ends: &[u32; 256],
+    bends: &[u32; 256],
+    counts: &[u32; 256],
+    px: &[f64; 256],
+    py: &[f64; 256],
+    cycles: &[u32; 512],
+    steps: &[u32; 2048],
+    bx: &[f64; 2048],
+    by: &[f64; 2048],
+    t: Totals,
+    v: u32,
+    at: &mut [bool],
+    groups: &mut [u32],
+) -> u32
+    requires { ⌜ Ready (lent next count ids kinds starts ends bends counts px py cycles steps bx by) t ⌝ }
+    requires { ⌜ T (isVertex (cellAt (sheetOf (heldBy (lent next count ids kinds starts ends bends counts px py cycles steps bx by))) v)) ⌝ }
+    requires { ⌜ Fresh (now at) (now groups) ⌝ }
+    ensures { λ r. ⌜ GroupedEnds (heldBy (entry next count ids kinds starts ends bends counts px py cycles steps bx by)) (rowsBy (entry next count ids kinds starts ends bends counts px py cycles steps bx by)) v r (now (at .exit)) (now (groups .exit)) ⌝ }
+    ensures { λ r. ⌜ r ≤ 512 ⌝ }
+{
+    unglue::mark_ends(kinds, starts, ends, count, v, at);
+    let mut xs = [0u32; 2048];
+    let mut ys = [0u32; 2048];
+    let k = unglue::find_links(ids, count, at, cycles, t.cycles, steps, &mut xs, &mut ys);
+    unglue::find_groups(groups, at, &xs, &ys, k)
+}
+
+// The ends at v and the lone cycles of v become its copies.
+fn part_ends(
+    next: u32,
+    count: usize,
+    ids: &[u32; 256],
+    kinds: &[u32; 256],
+    starts: &mut [u32; 256],
+    ends: &mut [u32; 256],
+    bends: &[u32; 256],
+    counts: &[u32; 256],
+    px: &[f64; 256],
+    py: &[f64; 256],
+    cycles: &[u32; 512],
+    steps: &mut [u32; 2048],
+    bx: &[f64; 2048],
+    by: &[f64; 2048],
+    t: Totals,
+    v: u32,
+    g: u32,
+    at: &[bool],
+    groups: &[u32],
+)
+    requires { ⌜ Ready (lent next count ids kinds starts ends bends counts px py cycles steps bx by) t ⌝ }
+    requires { ⌜ T (isVertex (cellAt (sheetOf (heldBy (lent next count ids kinds starts ends bends counts px py cycles steps bx by))) v)) ⌝ }
+    requires { ⌜ GroupedEnds (heldBy (lent next count ids kinds starts ends bends counts px py cycles steps bx by)) (rowsBy (lent next count ids kinds starts ends bends counts px py cycles steps bx by)) v g (now at) (now groups) ⌝ }
+    requires { ⌜ (g ≤ 512) × (length (now at) ≡ 512) × (length (now groups) ≡ 512) ⌝ }
+    ensures { λ _. ⌜ Parted (entry next count ids kinds starts ends bends counts px py cycles steps bx by) v (exit next count ids kinds starts ends bends counts px py cycles steps bx by) ⌝ }
+{
+    unglue::new_ends(0, at, groups, count, v, next, starts);
+    unglue::new_ends(1, at, groups, count, v, next, ends);
+    kernel_copies::copy_uses(
+        Use::Lone,
+        next,
+        count,
+        ids,
+        kinds,
+        starts,
+        ends,
+        bends,
+        counts,
+        px,
+        py,
+        cycles,
+        steps,
+        bx,
+        by,
+        t.cycles,
+        v,
+        store::wide(g),
+    );
+}
+
+// 09, of a vertex by the groups of its ends and its lone cycles: a copy for each of them but the first.
+pub fn unglue_vertex(
+    next: &mut u32,
+    count: &mut usize,
+    ids: &mut [u32; 256],
+    kinds: &mut [u32; 256],
+    starts: &mut [u32; 256],
+    ends: &mut [u32; 256],
+    bends: &mut [u32; 256],
+    counts: &mut [u32; 256],
+    px: &mut [f64; 256],
+    py: &mut [f64; 256],
+    cycles: &mut [u32; 512],
+    steps: &mut [u32; 2048],
+    bx: &mut [f64; 2048],
+    by: &mut [f64; 2048],
+    t: Totals,
+    v: u32,
+) -> Line
+    requires { ⌜ Ready (lent (now next) (now count) ids kinds starts ends bends counts px py cycles steps bx by) t ⌝ }
+    requires { ⌜ T (isVertex (cellAt (sheetOf (heldBy (lent (now next) (now count) ids kinds starts ends bends counts px py cycles steps bx by))) v)) ⌝ }
+    ensures { λ r. ⌜ Obeyed (entry (now (next .entry)) (now (count .entry)) ids kinds starts ends bends counts px py cycles steps bx by) (ungluing v) (exit (now (next .exit)) (now (count .exit)) ids kinds starts ends bends counts px py cycles steps bx by) r ⌝ }
+{
+    let n = *count;
+    let id = *next;
+    let mut at = [false; 512];
+    let mut groups = [0u32; 512];
+    let g = group_ends(
+        id,
+        n,
+        ids,
+        kinds,
+        starts,
+        ends,
+        bends,
+        counts,
+        px,
+        py,
+        cycles,
+        steps,
+        bx,
+        by,
+        t,
+        v,
+        &mut at,
+        &mut groups,
+    );
+    let lone = copies::count_uses(Use::Lone, cycles, t.cycles, steps, v);
+    let parts = store::wide(g) + lone;
+    if parts < 2 {
+        return lent::line_of(6);
+    }
+    let more = parts - 1;
+    let no = unglue::late_copies(id, t, 0, more);
+    if no != 0 {
+        return lent::line_of(no);
+    }
+    let row = store::find(ids, n, v);
+    part_ends(
+        id,
+        n,
+        ids,
+        kinds,
+        starts,
+        ends,
+        bends,
+        counts,
+        px,
+        py,
+        cycles,
+        steps,
+        bx,
+        by,
+        t,
+        v,
+        g,
+        &at,
+        &groups,
+    );
+    kernel_copies::put_copies(
+        id,
+        n,
+        ids,
+        kinds,
+        starts,
+        ends,
+        bends,
+        counts,
+        px,
+        py,
+        cycles,
+        steps,
+        bx,
+        by,
+        t.bends,
+        row,
+        more,
+    );
+    let new = more as u32;
+    *count = n + more;
+    *next = id + new;
+    Line {
+        number: 0,
+        first: id,
+        new,
+        removed: 0,
+    }
+}
