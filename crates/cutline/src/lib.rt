@@ -49,7 +49,7 @@ fn corner_on(
 }
 
 // 1 if cycle c of the spans is a lone vertex, which counts as one step, else 0.
-fn lone_step(cycles: &[u32; 512], t: Spans, c: u32) -> usize
+pub fn lone_step(cycles: &[u32; 512], t: Spans, c: u32) -> usize
     requires { ⌜ t .cycles .first + c < 512 ⌝ }
     ensures { λ r. ⌜ r ≡ loneAt (now (cycles .entry)) t c ⌝ }
 {
@@ -62,7 +62,7 @@ fn lone_step(cycles: &[u32; 512], t: Spans, c: u32) -> usize
 }
 
 // What goes where two cycles become one: a cycle, and a step for each that is a lone vertex.
-fn bridge_less(cycles: &[u32; 512], t: Spans, c1: u32, c2: u32) -> Totals
+pub fn bridge_less(cycles: &[u32; 512], t: Spans, c1: u32, c2: u32) -> Totals
     requires { ⌜ t .cycles .first + c1 < 512 ⌝ }
     requires { ⌜ t .cycles .first + c2 < 512 ⌝ }
     ensures { λ r. ⌜ r ≡ record { cells = 0; cycles = 1; steps = loneAt (now (cycles .entry)) t c1 + loneAt (now (cycles .entry)) t c2; bends = 0 } ⌝ }
@@ -77,7 +77,7 @@ fn bridge_less(cycles: &[u32; 512], t: Spans, c1: u32, c2: u32) -> Totals
 }
 
 // Whether the moved cycles rise strictly below k and are without c1; where c1 and c2 differ, whether there are none.
-fn moved_fit(script: &[u8], place: usize, moved: u32, k: u32, c1: u32, c2: u32) -> bool
+pub fn moved_fit(script: &[u8], place: usize, moved: u32, k: u32, c1: u32, c2: u32) -> bool
     requires { ⌜ Stand readNumber (now script) place moved ⌝ }
     ensures { λ r. ⌜ r ≡ movedFit k c1 c2 (numbersRead (now (script .entry)) place moved) ⌝ }
 {

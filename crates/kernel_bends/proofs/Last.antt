@@ -1,11 +1,12 @@
 -- Places that go to the end of those in use. Assumes nothing.
-use Prim.Native.Nat.{ℕ, zero, suc, _+_, _-_, _≤_}
+use Prim.Native.Nat.{ℕ, zero, suc, _+_, _-_, _<_, _≤_}
 use native.Mathlib.Omega.{arith}
 use mathlib.Core.Path.{_≡_, refl, sym, ap, ap₂, _∙_}
 use mathlib.Core.List.{List, [], _∷_, _++_}
-use lib.ListN.{length, take, drop, length-append, length-drop}
-use lib.Seq.{take-nil, take-add, drop-drop, take-take, length-take-le, take-at, drop-at, take-append-le, slice, length-slice}
+use lib.ListN.{length, take, drop, set, length-append, length-drop, length-set}
+use lib.Seq.{take-nil, take-add, drop-drop, take-take, take-set-le, drop-set-add, length-take-le, take-at, drop-at, take-append-le, slice, length-slice}
 use Rattle.append.specs.Runs.{run}
+use Rattle.append.proofs.RunLists.{run-take, run-drop}
 use Rattle.kernel_bends.specs.Turned.{rotated, movedLast}
 
 zero-more : (r : ℕ) → 0 + r ≡ r
@@ -121,3 +122,65 @@ module _ {A : Type 0} where
         ap₂ (λ (u v : ℕ). run (t - m + i + u) v twice) (sym a) (sym b) ∙ rotated-last (t - m + i) (t - m + j) t once (omega arith) (omega arith) (omega (arith, lo))
         ∙ ap (λ (v : ℕ). run (t - m + i) v once) b ∙ sym (take-take (j - i) (m - i) (drop (t - m + i) once) (omega arith)) ∙ ap (take (j - i)) (from i)
         ∙ take-take (j - i) (m - i) (drop (base + i) l) (omega arith)
+
+  -- ---- runs
+  pub run-add : (n i j : ℕ) (l : List A) → run n (i + j) l ≡ run n i l ++ run (n + i) j l
+  run-add n i j l = take-add i j (drop n l) ∙ ap (λ (x : List A). take i (drop n l) ++ take j x) (drop-drop i n l)
+
+  run-before : (n k i : ℕ) (x : A) (l : List A) → n + k ≤ i → run n k (set l i x) ≡ run n k l
+  run-before n k i x l h =
+      let e : i ≡ n + (i - n) = omega arith in
+      ap (λ (w : ℕ). run n k (set l w x)) e ∙ ap (take k) (drop-set-add n l (i - n) x) ∙ take-set-le k (drop n l) (i - n) x (omega arith)
+
+  run-at : (i : ℕ) (x : A) (l : List A) → i < length l → run i 1 (set l i x) ≡ x ∷ []
+  run-at i x [] h = absurd (omega arith)
+  run-at zero x (y ∷ l) h = refl
+  run-at (suc i) x (y ∷ l) h = run-at i x l (omega arith)
+
+  -- x is put after the first t, and then m places from base on go after it
+  module _ (base m t : ℕ) (x : A) (l : List A) (hb : base + m ≤ t) (hl : t < length l) where
+    abbrev filled : List A
+    filled = set l t x
+
+    abbrev joined : List A
+    joined = rotated base (base + m) (t + 1) (set l t x)
+
+    lj : length filled ≡ length l
+    lj = length-set l t x
+
+    up : run base (t - (base + m) + 1) joined ≡ run (base + m) (t - (base + m) + 1) filled
+    up =
+        let e : t - (base + m) + 1 ≡ t + 1 - (base + m) = omega arith in
+        ap (λ (n : ℕ). run base n joined) e ∙ rotated-next base (base + m) (t + 1) filled (omega arith) (omega arith) (omega (arith, lj))
+        ∙ ap (λ (n : ℕ). run (base + m) n filled) (sym e)
+
+    pub joined-length : length joined ≡ length l
+    joined-length = rotated-length base (base + m) (t + 1) filled (omega arith) (omega arith) (omega (arith, lj)) ∙ lj
+
+    -- those that are not among them
+    pub joined-front : take (t - m) joined ≡ take base l ++ run (base + m) (t - (base + m)) l
+    joined-front =
+        let k = t - (base + m) in
+        let a : t - m ≡ base + (t - (base + m)) = omega arith in
+        ap (λ (n : ℕ). take n joined) a ∙ take-add base k joined
+        ∙ ap₂ _++_ (rotated-front base (base + m) (t + 1) filled (omega arith) (omega arith) (omega (arith, lj)) base (omega arith)
+        ∙ take-set-le base l t x (omega arith))
+        (run-take base (k + 1) k joined (omega arith) ∙ ap (take k) up ∙ sym (run-take (base + m) (k + 1) k filled (omega arith))
+        ∙ run-before (base + m) k t x l (omega arith))
+
+    -- x, and then they
+    pub joined-last : run (t - m) (m + 1) joined ≡ x ∷ run base m l
+    joined-last =
+        let k = t - (base + m) in
+        let a : m + 1 ≡ 1 + m = omega arith in
+        let b : t - m ≡ base + (t - (base + m)) = omega arith in
+        let c : 1 ≡ t - (base + m) + 1 - (t - (base + m)) = omega arith in
+        let e : base + m + (t - (base + m)) ≡ t = omega arith in
+        let g : t - m + 1 ≡ base + (t + 1 - (base + m)) = omega arith in
+        let h : m ≡ base + m - base = omega arith in
+        ap (λ (n : ℕ). run (t - m) n joined) a ∙ run-add (t - m) 1 m joined
+        ∙ ap₂ _++_
+        (ap₂ (λ (u v : ℕ). run u v joined) b c ∙ run-drop base (k + 1) k joined ∙ ap (drop k) up ∙ sym (run-drop (base + m) (k + 1) k filled)
+        ∙ ap₂ (λ (u v : ℕ). run u v filled) e (sym c) ∙ run-at t x l hl)
+        (ap₂ (λ (u v : ℕ). run u v joined) g h ∙ rotated-last base (base + m) (t + 1) filled (omega arith) (omega arith) (omega (arith, lj))
+        ∙ ap (λ (v : ℕ). run base v filled) (sym h) ∙ run-before base m t x l hb)

@@ -1,3 +1,4 @@
 pub mod Turning
 pub mod Last
 pub mod Positions
+pub mod Parts

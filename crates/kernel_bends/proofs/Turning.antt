@@ -6,7 +6,7 @@ use native.Mathlib.Omega.{arith}
 use native.Mathlib.Numerals.{add-one}
 use native.Mathlib.Nat.{le-of-suc-le-suc, not-suc-le-zero}
 use lib.ListN.{length, take, drop, set, getD, length-append, length-set, length-drop, take-append-drop}
-use lib.Seq.{slice, length-slice, length-take-le, take-at, drop-at, getD-at, set-at, append-snoc, take-append-add, drop-append-add, drop-drop}
+use lib.Seq.{slice, slice-empty, length-slice, length-take-le, take-at, drop-at, getD-at, set-at, append-snoc, take-append-add, drop-append-add, drop-drop}
 use Rattle.kernel_bends.specs.Turned.{turned, rotated}
 
 module _ {A : Type 0} where
@@ -124,3 +124,16 @@ module _ {A : Type 0} where
       length-reverse : (q : List A) → length (reverse q) ≡ length q
       length-reverse [] = refl
       length-reverse (x ∷ q) = ap length (reverse-cons x q) ∙ length-append (reverse q) (x ∷ []) ∙ ap (λ (n : ℕ). n + 1) (length-reverse q) ∙ add-one (length q)
+
+  -- nothing moves
+  pub rotated-none : (f m t : ℕ) (l : List A) → m ≡ f → f ≤ t → rotated f m t l ≡ l
+  rotated-none f m t l e h =
+      ap (λ (k : ℕ). rotated f k t l) e
+      ∙ ap (λ (q : List A). take f l ++ (slice f t l ++ (q ++ drop t l))) (slice-empty f l)
+      ∙ sym (split l f t h)
+
+  pub rotated-all : (f m t : ℕ) (l : List A) → m ≡ t → f ≤ t → rotated f m t l ≡ l
+  rotated-all f m t l e h =
+      ap (λ (k : ℕ). rotated f k t l) e
+      ∙ ap (λ (q : List A). take f l ++ (q ++ (slice f t l ++ drop t l))) (slice-empty t l)
+      ∙ sym (split l f t h)

@@ -32,6 +32,12 @@ pub fn rotate(l: &mut [f64], from: usize, mid: usize, to: usize)
     requires { ⌜ to ≤ length (now l) ⌝ }
     ensures { λ _. ⌜ now (l .exit) ≡ rotated from mid to (now (l .entry)) ⌝ }
 {
+    if from == mid {
+        return;
+    }
+    if mid == to {
+        return;
+    }
     reverse(l, from, mid);
     reverse(l, mid, to);
     reverse(l, from, to);

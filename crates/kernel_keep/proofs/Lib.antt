@@ -1,3 +1,5 @@
 pub mod Rows
 pub mod Dead
 pub mod Gone
+pub mod Three
+pub mod ThreeGone

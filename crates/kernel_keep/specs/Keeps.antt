@@ -1,16 +1,18 @@
 -- Cells that go, in lent arrays. Definitions only.
-use Prim.Native.Nat.{ℕ, _-_, _<_, _≤_}
+use Prim.Native.Nat.{ℕ, _+_, _-_, _<_, _≤_}
 use mathlib.Core.Path.{_≡_}
 use mathlib.Core.Bool.{Bool, true, false}
-use mathlib.Core.List.{List}
+use mathlib.Core.List.{List, _∷_}
 use lib.ListN.{length, getD, take, set, replicate}
 use lib.Ieee.{Float}
+use Rattle.coordinate.specs.declared.Position.{Position}
 use Rattle.store.specs.View.{sheetOf, Fits}
 use Rattle.store.specs.Sizes.{Sizes}
 use Rattle.complex.specs.Lists.{total}
 use Rattle.store.specs.Edits.{kept, placesOf, Compacted, PlacesKept, withEntries}
+use Rattle.append.specs.Runs.{run}
 use Rattle.kernel_bends.specs.Turned.{movedLast}
-use Rattle.lent.specs.Arrays.{Arrays, heldBy, normal, Lengths}
+use Rattle.lent.specs.Arrays.{Arrays, positionsIn, heldBy, normal, Lengths}
 
 -- the rows of b, r in number, are those of the first n of a that are not flagged
 pub record RowsKept (flags : List Bool) (n : ℕ) (a b : Arrays) (r : ℕ) : Type 0 where
@@ -52,4 +54,18 @@ pub record RowGone (a : Arrays) (row base m t i j : ℕ) (b : Arrays) : Type 0 w
   pub long : Lengths b
   pub bx : b .bx ≡ movedLast base m i j t (a .bx)
   pub by : b .by ≡ movedLast base m i j t (a .by)
+  pub less : total (placesOf 0) (take (b .count) (b .bends)) ≡ t - m
+
+-- ---- two rows
+-- the row of a cell that has neither bends nor cycles
+pub record BareRow (a : Arrays) (row : ℕ) : Type 0 where
+  pub below : row < a .count
+  pub bends : getD (a .bends) row 0 ≡ 0
+  pub cycles : getD (a .counts) row 0 ≡ 0
+
+-- b is a without both rows, and after the bends in use stand p and those of the edge
+pub record PairGone (a : Arrays) (bare row base m t : ℕ) (p : Position) (b : Arrays) : Type 0 where
+  pub keeps : Keeps (set (set (replicate 256 false) bare true) row true) a b
+  pub long : Lengths b
+  pub bends : run (t - m) (m + 1) (positionsIn (b .bx) (b .by)) ≡ p ∷ run base m (positionsIn (a .bx) (a .by))
   pub less : total (placesOf 0) (take (b .count) (b .bends)) ≡ t - m

@@ -99,7 +99,7 @@ module _ (a : Arrays) (l : Lengths a) (w : T (soundArrays a)) where
     pub end-below : row < 256
     end-below = omega (arith, below, sound-fits d s .cells)
 
-    end-place : positionIn (a .px) (a .py) row ≡ placeOf (getD (heldBy a .cells) row noCell .shape)
+    pub end-place : positionIn (a .px) (a .py) row ≡ placeOf (getD (heldBy a .cells) row noCell .shape)
     end-place =
         let c : getD (heldBy a .cells) row noCell .shape ≡ shapeAt a row = ap (λ (y : Cell). y .shape) (cell-at (shapeAt a) (a .ids) row noCell (omega (arith, end-below, l .ids))) in
         let k : kindOf (shapeAt a row) ≡ 0 =

@@ -1,6 +1,6 @@
 -- A face of lent arrays: where its cycles stand, other cycles in their place, and what is answered where cells came. Assumes nothing.
 use Prim.Native.Nat.{ℕ, _+_, _-_, _<_, _≤_}
-use mathlib.Core.Path.{_≡_, refl, sym, ap, ap₂, subst, _∙_}
+use mathlib.Core.Path.{_≡_, sym, ap, ap₂, subst, _∙_}
 use mathlib.Core.Bool.{Bool, true, cond}
 use mathlib.Core.List.{List, []}
 use native.Mathlib.Omega.{arith}
@@ -24,8 +24,9 @@ use Rattle.outline.proofs.Edits.{room-listed, sheet-listed}
 use Rattle.lent.specs.Arrays.{Arrays, heldBy, rowsBy, totalsOf}
 use Rattle.lent.specs.declared.Line.{Line}
 use Rattle.lent.specs.Replies.{answerBy}
-use Rattle.lent.proofs.Sums.{ready-sizes, ready-rows, ready-cells, ready-summed}
+use Rattle.lent.proofs.Sums.{ready-sizes, ready-rows, ready-cells}
 use Rattle.kernel_cycles.specs.Replacing.{Counted, ReplacesIn, ReplacedIn}
+use Rattle.kernel_cycles.proofs.Ready.{ready-counted}
 use Rattle.kind_cut_face.specs.Cuts.{Cuts}
 
 -- the line of a command that issues k ids and removes nothing
@@ -51,18 +52,7 @@ module _ (a : Arrays) (t : Totals) (f : ℕ) (ks : List Cycle) (new : List Figur
     in-rows = subst (λ (i : ℕ). i < a .count) (sym e) (live (heldBy a) sizes-in (rowsBy a) f (w .named))
 
     pub counted : Counted (a .counts) (a .cycles) row t
-    counted =
-        let m = ready-summed a t (w .ready) in
-        subst (Counted (a .counts) (a .cycles) row) (sym (w .ready .sums))
-        (record {
-          live = in-rows;
-          rows = m .cycleRows;
-          cycleSum = refl;
-          cycleRoom = omega (arith, m .cycleSum, m .cycleRoom);
-          cycleMost = m .cycleSum;
-          stepSum = refl;
-          stepMost = m .stepSum;
-        })
+    counted = ready-counted a t (w .ready) row in-rows
 
     module _ (s : Spans) (es : s ≡ spansOf (a .counts) (t .cells) row (a .cycles)) where
       spans-are : s ≡ spansOf (a .counts) (a .count) row (a .cycles)

@@ -34,12 +34,12 @@ use Rattle.cutface.proofs.Edits.{lone-asks, lone-list, lone-room, lone-done, ve
 use Rattle.lent.specs.Arrays.{Arrays, heldBy, rowsBy}
 use Rattle.lent.specs.Growing.{withVertex}
 use Rattle.lent.specs.declared.Line.{Line}
-use Rattle.lent.specs.Replies.{lineOf, answerBy, Ready, Obeyed}
+use Rattle.lent.specs.Replies.{lineOf, answerBy, Ready, Obeyed, Holds}
 use Rattle.lent.proofs.Held.{held-sizes}
 use Rattle.lent.proofs.Grown.{vertex-long, vertex-normal, vertex-comes}
 use Rattle.lent.proofs.Sums.{ready-sizes, ready-rows, ready-drawing, ready-indexes, ready-totals}
 use Rattle.kernel_cycles.specs.Replacing.{ReplacedIn}
-use Rattle.kind_cut_face.specs.Cuts.{Cuts, Holds}
+use Rattle.kind_cut_face.specs.Cuts.{Cuts}
 use Rattle.kind_cut_face.proofs.Cuts.{newLine, new-outcome, sizes-in, replaced-sheet}
 
 -- ---- the list: two runs copied

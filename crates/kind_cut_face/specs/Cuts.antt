@@ -1,14 +1,12 @@
 -- Cuts of a face in lent arrays. Definitions only.
 use Prim.Native.Nat.{ℕ}
-use mathlib.Core.Path.{_≡_}
-use mathlib.Core.Bool.{true}
 use mathlib.Core.List.{List}
-use Rattle.complex.specs.Cells.{Cycle, Figure, Sheet}
-use Rattle.store.specs.View.{sheetOf, Fits}
+use Rattle.complex.specs.Cells.{Cycle, Figure}
+use Rattle.store.specs.View.{sheetOf}
 use Rattle.append.specs.Appends.{RoomIn}
 use Rattle.answer.specs.declared.Totals.{Totals}
 use Rattle.outline.specs.Faces.{Named, recycled}
-use Rattle.lent.specs.Arrays.{Arrays, heldBy, rowsBy, normal, Lengths}
+use Rattle.lent.specs.Arrays.{Arrays, heldBy, rowsBy}
 use Rattle.lent.specs.Replies.{Ready}
 
 -- f is a face of sound arrays, and there is room for the cycles ks in the place of its own, and for new cells
@@ -16,10 +14,3 @@ pub record Cuts (a : Arrays) (t : Totals) (f : ℕ) (ks : List Cycle) (new : Lis
   pub ready : Ready a t
   pub named : Named (heldBy a) (rowsBy a) f
   pub room : RoomIn (recycled (sheetOf (heldBy a)) f ks) new
-
--- the arrays hold the sheet s
-pub record Holds (s : Sheet) (b : Arrays) : Type 0 where
-  pub sheet : sheetOf (heldBy b) ≡ s
-  pub fits : Fits (heldBy b)
-  pub long : Lengths b
-  pub rows : normal b ≡ true

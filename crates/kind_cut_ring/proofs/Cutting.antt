@@ -4,10 +4,9 @@ use native.Mathlib.Omega.{arith}
 use mathlib.Core.Path.{_≡_, refl, sym, ap, ap₂, _∙_, subst}
 use mathlib.Core.Bool.{true, false, cond}
 use mathlib.Core.List.{List, [], _∷_, _++_}
-use mathlib.Core.Logic.{_⊎_, inl}
+use mathlib.Core.Logic.{_⊎_}
 use lib.Dec.{T, eqb}
-use lib.ListN.{length, set, take, drop, replicate}
-use lib.Seq.{take-add, drop-drop}
+use lib.ListN.{length, set, take, replicate}
 use Rattle.coordinate.specs.declared.Position.{Position}
 use Rattle.complex.specs.Lists.{total}
 use Rattle.complex.specs.Cells.{Figure, vertex, openEdge, Sheet, Halfedge}
@@ -33,8 +32,7 @@ use Rattle.answer.proofs.Asked.{answers}
 use Rattle.dropping.proofs.Dropped.{dropped-row}
 use Rattle.rewire.specs.Swap.{swapHalf, oneFor}
 use Rattle.rewire.specs.declared.Swap.{Swap}
-use Rattle.rewire.proofs.Merging.{real-with, room-with}
-use Rattle.rewire.proofs.Swaps.{one-for, one-some, one-few}
+use Rattle.rewire.proofs.Swaps.{one-for}
 use Rattle.cut.specs.Cuts.{closedRuns}
 use Rattle.cut.proofs.Closed.{half-below, edge-small, loop-room, loop-made}
 use Rattle.lent.specs.Arrays.{Arrays, positionsIn, heldBy, soundArrays, Lengths}
@@ -46,8 +44,9 @@ use Rattle.lent.proofs.Replies.{rows-of, drawing-of}
 use Rattle.lent.proofs.Grown.{vertex-long, vertex-comes, vertex-bends, vertex-normal, open-long, open-normal, open-comes}
 use Rattle.kernel_swap.specs.Swaps.{SwappedIn}
 use Rattle.kernel_swap.proofs.Lent.{withPools}
+use Rattle.kernel_swap.proofs.Asking.{one-asks}
 use Rattle.kernel_bends.specs.Turned.{movedLast}
-use Rattle.kernel_bends.proofs.Last.{twice-second, twice-last}
+use Rattle.kernel_bends.proofs.Last.{run-add, twice-second, twice-last}
 use Rattle.kernel_bends.proofs.Positions.{positions-moved}
 use Rattle.kernel_keep.specs.Keeps.{EdgeRow, RowGone}
 use Rattle.kernel_keep.proofs.Gone.{row-range}
@@ -63,9 +62,6 @@ two-outcome next n k out e f =
     let h : n - k ≡ n + (out .next - next) - out .count = omega (arith, e, f) in
     λ i. record { number = 0; first = cond (eqb (g i) 0) 0 next; new = g i; removed = h i; drawing = out }
 
-run-add : {A : Type 0} (n a b : ℕ) (l : List A) → run n (a + b) l ≡ run n a l ++ run (n + a) b l
-run-add n a b l = take-add a b (drop n l) ∙ ap (λ (x : List _). take a (drop n l) ++ take b x) (drop-drop a n l)
-
 module _ (a : Arrays) (l : Lengths a) (w : T (soundArrays a)) (e q : ℕ) (r : Plan) (g : Goes a e q r) where
   pub place-in : q / 2 < r .m
   place-in = half-below (heldBy a) (held-sizes a l) e (r .row) (r .base) (r .m) q (g .cuts) (g .closed)
@@ -78,30 +74,7 @@ module _ (a : Arrays) (l : Lengths a) (w : T (soundArrays a)) (e q : ℕ) (r : P
       → Fits (heldBy a) × (Lengths a × ((r .cycles ≡ cycleTotal (heldBy a)) × ((t .n ≤ 2) × ((allReal (spread cyclesAt (reshape (rewired sameVertex (swapHalf t)) (sheetOf (heldBy a) .cells))) ≡ true)
       × ((over stepsIn (reshape (rewired sameVertex (swapHalf t)) (sheetOf (heldBy a) .cells)) ≤ 2048) × ((r .steps ≡ stepTotal (heldBy a))
       × (((t .n ≤ 1) × (_≡_ {A = ℕ} 0 0)) ⊎ ((1 ≤ t .n) × (over stepsIn (reshape (rewired sameVertex (swapHalf t)) (sheetOf (heldBy a) .cells)) ≡ 0 + r .steps)))))))))
-  swap-asks t et =
-      let d = heldBy a in
-      let z = held-sizes a l in
-      let f = sound-fits d (drawing-of a w) in
-      let h : swapHalf t ≡ inPlaceOf e (a .next + 1) false = ap swapHalf et ∙ one-for e (a .next + 1) false in
-      let n : t .n ≡ 1 = ap (λ (k : Swap). k .n) et in (
-        f,
-        (
-          l,
-          (
-            g .cycles,
-            (
-              omega (arith, n),
-              (
-                subst (λ (σ : Halfedge → List Halfedge). allReal (spread cyclesAt (reshape (rewired sameVertex σ) (sheetOf d .cells))) ≡ true) (sym h) (real-with d z f _ (one-some e (a .next + 1) false)),
-                (
-                  subst (λ (σ : Halfedge → List Halfedge). over stepsIn (reshape (rewired sameVertex σ) (sheetOf d .cells)) ≤ 2048) (sym h) (room-with d z f _ (one-few e (a .next + 1) false)),
-                  (g .steps, inl (omega (arith, n), refl)),
-                ),
-              ),
-            ),
-          ),
-        ),
-      )
+  swap-asks t et = one-asks a e (a .next + 1) false t et (r .cycles) (r .steps) l (sound-fits (heldBy a) (drawing-of a w)) (g .cycles) (g .steps)
 
   module _ (cy st : List ℕ) (sw : SwappedIn (oneFor e (a .next + 1) false) a (withPools a cy st)) where
     abbrev mid : Arrays

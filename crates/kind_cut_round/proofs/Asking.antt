@@ -24,10 +24,9 @@ use Rattle.cutface.specs.Rounds.{RoundCut, roundNo}
 use Rattle.cutface.proofs.Rounds.{round-new, round-more, round-result, round-cut, round-refuses, round-passes}
 use Rattle.lent.specs.Arrays.{Arrays, heldBy, rowsBy}
 use Rattle.lent.specs.declared.Line.{Line}
-use Rattle.lent.specs.Replies.{lineOf, answerBy, Ready, Obeyed}
+use Rattle.lent.specs.Replies.{lineOf, answerBy, Ready, Obeyed, Holds}
 use Rattle.lent.proofs.Held.{held-sizes}
 use Rattle.lent.proofs.Sums.{ready-sizes, ready-rows, ready-drawing, ready-indexes, ready-totals, ready-no}
-use Rattle.kind_cut_face.specs.Cuts.{Holds}
 use Rattle.kind_cut_face.proofs.Cuts.{newLine, new-outcome}
 
 -- an edge with m bends, a face, and two cycles of one step

@@ -25,17 +25,17 @@ use Rattle.append.specs.Appends.{Room, withCell}
 use Rattle.append.proofs.Bends.{Grew}
 use Rattle.answer.specs.declared.Totals.{Totals}
 use Rattle.lent.specs.Arrays.{Arrays, heldBy, normal, totalsOf, Lengths}
+use Rattle.lent.specs.Replies.{Holds}
 use Rattle.lent.specs.Growing.{withClosed, withFace}
 use Rattle.lent.proofs.Held.{held-sizes}
 use Rattle.lent.proofs.Sums.{bends-held, cycles-held, steps-held}
 use Rattle.lent.proofs.Grown.{closed-long, closed-normal, closed-cycles, face-long, face-held, face-normal}
 use Rattle.kind_create.specs.Comes.{BendsPut}
 use Rattle.kind_create.proofs.Put.{withPlaced, placed-long, closed-grew}
-use Rattle.kind_cut_face.specs.Cuts.{Holds}
 use Rattle.kind_cut_round.specs.Rounds.{HoldsIn, RingRoom, PartRoom}
 
 -- arrays whose parts are equal
-same-arrays : (a b : Arrays) → a .next ≡ b .next → a .count ≡ b .count → a .ids ≡ b .ids → a .kinds ≡ b .kinds → a .starts ≡ b .starts → a .ends ≡ b .ends → a .bends ≡ b .bends
+pub same-arrays : (a b : Arrays) → a .next ≡ b .next → a .count ≡ b .count → a .ids ≡ b .ids → a .kinds ≡ b .kinds → a .starts ≡ b .starts → a .ends ≡ b .ends → a .bends ≡ b .bends
     → a .counts ≡ b .counts → a .px ≡ b .px → a .py ≡ b .py → a .cycles ≡ b .cycles → a .steps ≡ b .steps → a .bx ≡ b .bx → a .by ≡ b .by → a ≡ b
 same-arrays a b e1 e2 e3 e4 e5 e6 e7 e8 e9 e10 e11 e12 e13 e14 =
     λ i.

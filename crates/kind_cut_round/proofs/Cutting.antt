@@ -23,11 +23,11 @@ use Rattle.outline.proofs.Edits.{first-room, second-room, both-done}
 use Rattle.cutface.specs.Rounds.{stayed, left, RoundCut}
 use Rattle.cutface.proofs.Rounds.{round-asks, old-list, new-list}
 use Rattle.lent.specs.Arrays.{Arrays, heldBy, rowsBy}
-use Rattle.lent.specs.Replies.{Ready}
+use Rattle.lent.specs.Replies.{Ready, Holds}
 use Rattle.lent.proofs.Held.{held-sizes}
 use Rattle.lent.proofs.Sums.{ready-sizes}
 use Rattle.kernel_cycles.specs.Replacing.{ReplacedIn, totalsWith}
-use Rattle.kind_cut_face.specs.Cuts.{Cuts, Holds}
+use Rattle.kind_cut_face.specs.Cuts.{Cuts}
 use Rattle.kind_cut_round.specs.Rounds.{HoldsIn, RingRoom, PartRoom}
 
 module _ (a : Arrays) (t : Totals) (y : Ready a t) (script : List ℕ) (f k first moved place : ℕ) (r : RoundCut (heldBy a) (rowsBy a) script f k first moved place) where

@@ -12,7 +12,7 @@ use Rattle.cycles.specs.Building.{Building, built}
 use Rattle.append.specs.Appends.{Room}
 use Rattle.answer.specs.declared.Totals.{Totals}
 use Rattle.lent.specs.Arrays.{Arrays, heldBy, normal, totalsOf, Lengths}
-use Rattle.kind_cut_face.specs.Cuts.{Holds}
+use Rattle.lent.specs.Replies.{Holds}
 
 -- the arrays hold the sheet s, whose cycles are c and whose steps are p
 pub record HoldsIn (s : Sheet) (c p : ℕ) (b : Arrays) : Type 0 where

@@ -17,8 +17,7 @@ ghost use Rattle.command.specs.Lists.{Stand, numbersRead};
 ghost use Rattle.outline.specs.Faces.{Within, cyclesAt};
 ghost use Rattle.cutface.specs.Rounds.{stayed, left, RoundCut};
 ghost use Rattle.lent.specs.Arrays.{heldBy, rowsBy, lent, entry, exit};
-ghost use Rattle.lent.specs.Replies.{Ready, Obeyed};
-ghost use Rattle.kind_cut_face.specs.Cuts.{Holds};
+ghost use Rattle.lent.specs.Replies.{Ready, Obeyed, Holds};
 ghost use Rattle.kind_cut_round.specs.Rounds.{HoldsIn, RingRoom, PartRoom};
 use answer::Totals;
 use cycles::Spans;
@@ -190,7 +189,7 @@ fn add_ring(
 }
 
 // A face comes, with the cycles of a list: c cycles and s steps are in use.
-fn add_part(
+pub fn add_part(
     next: &mut u32,
     count: &mut usize,
     ids: &mut [u32; 256],

@@ -3,9 +3,10 @@ use Prim.Native.Nat.{ℕ}
 use mathlib.Core.Path.{_≡_}
 use mathlib.Core.Bool.{true, cond}
 use lib.Dec.{T}
+use Rattle.complex.specs.Cells.{Sheet}
 use Rattle.complex.specs.Decode.{Command}
 use Rattle.complex.specs.Answer.{Answer as Said, no, asked3}
-use Rattle.store.specs.View.{sheetOf}
+use Rattle.store.specs.View.{sheetOf, Fits}
 use Rattle.store.specs.declared.Drawing.{Drawing}
 use Rattle.answer.specs.declared.Answer.{Answer}
 use Rattle.answer.specs.declared.Totals.{Totals}
@@ -42,4 +43,11 @@ pub record Ready (a : Arrays) (t : Totals) : Type 0 where
 pub record Obeyed (a : Arrays) (c : Command) (b : Arrays) (l : Line) : Type 0 where
   pub answers : Answers (heldBy a) c (answerBy l (heldBy b))
   pub back : (l .number ≡ 0 → ⊥) → b ≡ a
+  pub rows : normal b ≡ true
+
+-- the arrays hold the sheet s
+pub record Holds (s : Sheet) (b : Arrays) : Type 0 where
+  pub sheet : sheetOf (heldBy b) ≡ s
+  pub fits : Fits (heldBy b)
+  pub long : Lengths b
   pub rows : normal b ≡ true

@@ -26,11 +26,11 @@ use Rattle.lent_sound.proofs.Whole.{sound-walk}
 
 -- ---- an answer of 0 or 1
 module _ {A : Type 0} where
-  said-no : (b : Bool) (x : A) → no 1 ≡ cond b (done x) (no 1) → b ≡ false
+  pub said-no : (b : Bool) (x : A) → no 1 ≡ cond b (done x) (no 1) → b ≡ false
   said-no true x e = absurd (not-done 1 x e)
   said-no false x e = refl
 
-  said-done : (b : Bool) (x y : A) → done x ≡ cond b (done y) (no 1) → (b ≡ true) × (x ≡ y)
+  pub said-done : (b : Bool) (x y : A) → done x ≡ cond b (done y) (no 1) → (b ≡ true) × (x ≡ y)
   said-done true x y e = (refl, done-one x y e)
   said-done false x y e = absurd (not-done 1 x (sym e))
 

@@ -34,7 +34,7 @@ pub part-flags : (l : List Bool) (i : ℕ) → take (length l - i) (drop i l) �
 part-flags l i = take-all (length l - i) (drop i l) (omega (arith, length-drop i l))
 
 -- a front about one of its elements
-front-about : {A : Type 0} (l : List A) (z : A) (i k : ℕ) → i < k → k ≤ length l → take k l ≡ take i l ++ (getD l i z ∷ take (k - (i + 1)) (drop (i + 1) l))
+pub front-about : {A : Type 0} (l : List A) (z : A) (i k : ℕ) → i < k → k ≤ length l → take k l ≡ take i l ++ (getD l i z ∷ take (k - (i + 1)) (drop (i + 1) l))
 front-about {A} l z i k h g =
     let lk = length-take-le k l g in
     let r = drop (suc i) (take k l) in

@@ -51,10 +51,10 @@ module _ {steps : List ℕ} {p : Place} {s1 : ℕ} {q : Place} {s2 e : ℕ} (j :
   within2 : q .at + q .m ≤ length steps
   within2 = steps-within steps (j .stepsSize) q (j .end)
 
-  length1 : length arc1 ≡ p .m
+  pub length1 : length arc1 ≡ p .m
   length1 = arc-length steps (p .at) (p .m) s1 (p .m) (j .stepsSize) (omega (arith, within1, j .stepsSize)) (corner-most (p .m) s1 (j .startCorner)) (omega arith)
 
-  length2 : length arc2 ≡ q .m
+  pub length2 : length arc2 ≡ q .m
   length2 = arc-length steps (q .at) (q .m) s2 (q .m) (j .stepsSize) (omega (arith, within2, j .stepsSize)) (corner-most (q .m) s2 (j .endCorner)) (omega arith)
 
   -- what is asked of each copy
@@ -71,7 +71,7 @@ module _ {steps : List ℕ} {p : Place} {s1 : ℕ} {q : Place} {s2 e : ℕ} (j :
       record { stepsSize = j .stepsSize; outSize = z; cycle = omega (arith, j .stepsSize); start = corner-most (q .m) s2 (j .endCorner); least = omega arith; room = omega arith }
 
   -- the steps in memory are those of the cycle
-  joined-steps : map halfedgeOf (((arc1 ++ one (2 * e)) ++ arc2) ++ one (2 * e + 1)) ≡ rotated s1 (stepsOf (cycleAt steps p)) ++ (along e ∷ rotated s2 (stepsOf (cycleAt steps q)) ++ one (against e))
+  pub joined-steps : map halfedgeOf (((arc1 ++ one (2 * e)) ++ arc2) ++ one (2 * e + 1)) ≡ rotated s1 (stepsOf (cycleAt steps p)) ++ (along e ∷ rotated s2 (stepsOf (cycleAt steps q)) ++ one (against e))
   joined-steps =
       let a = arc1 ++ one (2 * e) in
       map-append halfedgeOf (a ++ arc2) (one (2 * e + 1))
@@ -183,7 +183,7 @@ module _ {cycles steps : List ℕ} {t : Spans} {c1 : ℕ} {p : Place} {s1 c2 : �
   room2 : q .at + width (q .m) ≤ 2048
   room2 = cornered-room cycles steps t c2 q s2 (r .end)
 
-  both-steps : stepCount both ≡ p .m + q .m + 2
+  pub both-steps : stepCount both ≡ p .m + q .m + 2
   both-steps =
       let z = r .start .within .stepsSize in
       let a = rotated s1 (stepsOf (cycleAt steps p)) in

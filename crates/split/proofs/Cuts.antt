@@ -128,10 +128,10 @@ module _ {d : Drawing} {ix : Index} {script : List ℕ} {f c s1 s2 bends first m
   both-cells = edge ∷ face far ∷ []
 
   module _ {t : Spans} (s : Spanned d f t) where
-    near-list : nearSide (d .next) c s1 s2 (ms oneCycle) (cyclesAt (d .cycles) (d .steps) t) ≡ near
+    pub near-list : nearSide (d .next) c s1 s2 (ms oneCycle) (cyclesAt (d .cycles) (d .steps) t) ≡ near
     near-list = ap₂ (λ (n : ℕ) (l : List Cycle). nearSide n c s1 s2 (ms oneCycle) l) (sym (next-is d)) (s .list)
 
-    far-list : farSide (d .next) c s1 s2 (ms oneCycle) (cyclesAt (d .cycles) (d .steps) t) ≡ far
+    pub far-list : farSide (d .next) c s1 s2 (ms oneCycle) (cyclesAt (d .cycles) (d .steps) t) ≡ far
     far-list = ap₂ (λ (n : ℕ) (l : List Cycle). farSide n c s1 s2 (ms oneCycle) l) (sym (next-is d)) (s .list)
 
     pub parting : {p : Place} → p ≡ placeOf (d .cycles) t c → Parting (d .cycles) (d .steps) t script moved place c p s1 s2 (d .next)
@@ -203,7 +203,7 @@ module _ {d : Drawing} {ix : Index} {script : List ℕ} {f c1 s1 c2 s2 bends fir
   span = chord (cellAt (sheetOf d)) (own twoCycles) c1 s1 c2 s2 (positionsAt script first bends)
 
   module _ {t : Spans} (s : Spanned d f t) where
-    joint-list : bridge (d .next) c1 s1 c2 s2 (cyclesAt (d .cycles) (d .steps) t) ≡ joint
+    pub joint-list : bridge (d .next) c1 s1 c2 s2 (cyclesAt (d .cycles) (d .steps) t) ≡ joint
     joint-list = ap₂ (λ (n : ℕ) (l : List Cycle). bridge n c1 s1 c2 s2 l) (sym (next-is d)) (s .list)
 
     pub bridging : {p q : Place} → p ≡ placeOf (d .cycles) t c1 → q ≡ placeOf (d .cycles) t c2 → Bridging (d .cycles) (d .steps) t c1 p s1 c2 q s2 (d .next)

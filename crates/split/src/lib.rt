@@ -28,7 +28,7 @@ pub struct Place {
 }
 
 // The place of cycle c of a face.
-fn place_of(cycles: &[u32; 512], t: Spans, c: u32) -> Place
+pub fn place_of(cycles: &[u32; 512], t: Spans, c: u32) -> Place
     requires { ⌜ length (now cycles) ≡ 512 ⌝ }
     requires { ⌜ t .cycles .first + c < 512 ⌝ }
     requires { ⌜ t .steps .first + widthSum (take c (drop (t .cycles .first) (now cycles))) ≤ 2048 ⌝ }
@@ -55,7 +55,7 @@ fn vertex_of(ix: Index, n: usize, steps: &[u32; 2048], p: Place, s: u32) -> u32
 }
 
 // How many steps lead from corner s to corner t of a cycle of m.
-fn between(m: usize, s: usize, t: usize) -> usize
+pub fn between(m: usize, s: usize, t: usize) -> usize
     requires { ⌜ m ≤ 2048 ⌝ }
     requires { ⌜ s ≤ m ⌝ }
     requires { ⌜ t ≤ m ⌝ }

@@ -14,13 +14,13 @@ use uncut_case::AtVertex;
 use uncut_case::Uses;
 
 // What stands at a cell: no vertex and no edge, or the case there.
-enum Case {
+pub enum Case {
     Dead,
     Vertex(AtVertex),
     Edge(AtEdge),
 }
 
-fn edge_case(closed: bool, x: Uses) -> AtEdge
+pub fn edge_case(closed: bool, x: Uses) -> AtEdge
     ensures { λ r. ⌜ EdgeSays r (cond closed (closedCase x) (openCase x)) ⌝ }
 {
     if closed {

@@ -108,7 +108,7 @@ put-few l ks i k h f =
     omega (arith, g .steps)
 
 -- a list and what follows it
-few-after : {ks : List Cycle} {counts : List ℕ} {u : Used} {out : List ℕ} → Built ks counts u out → (xs : List Cycle) → Few (ks ++ xs) → Few (built counts u out ++ xs)
+pub few-after : {ks : List Cycle} {counts : List ℕ} {u : Used} {out : List ℕ} → Built ks counts u out → (xs : List Cycle) → Few (ks ++ xs) → Few (built counts u out ++ xs)
 few-after {ks} {counts} {u} {out} b xs f = subst (λ (l : List Cycle). Few (l ++ xs)) (sym (b .list)) f
 
 -- ---- two stretches in the place of a cycle
@@ -146,21 +146,21 @@ module _ (cycles steps : List ℕ) (p : Place) (l : Lies cycles steps p) (a b : 
 
 -- ---- two faces become one
 module _ (cycles steps : List ℕ) (p : Place) (s : ℕ) (q : Place) (t v : ℕ) (m : Merging cycles steps p s q t v) (a b : Stretch) (ea : a ≡ allBut p s) (eb : b ≡ allBut q t) where
-  abbrev others-of : List Cycle
+  abbrev pub others-of : List Cycle
   others-of = without (one (q .cycle)) 0 (listAt cycles steps q)
 
-  merged-is : set (listAt cycles steps p) (p .cycle) (pathOr v (stretchOf steps a ++ stretchOf steps b)) ++ others-of ≡ mergedList cycles steps p s q t v
+  pub merged-is : set (listAt cycles steps p) (p .cycle) (pathOr v (stretchOf steps a ++ stretchOf steps b)) ++ others-of ≡ mergedList cycles steps p s q t v
   merged-is =
       ap₂ (λ (x y : List Halfedge). set (listAt cycles steps p) (p .cycle) (pathOr v (x ++ y)) ++ others-of)
       (ap (stretchOf steps) ea ∙ all-but-is cycles steps p (m .first) s (m .here)) (ap (stretchOf steps) eb ∙ all-but-is cycles steps q (m .second) t (m .there))
 
-  merged-room : Few (set (listAt cycles steps p) (p .cycle) (pathOr v (stretchOf steps a ++ stretchOf steps b)) ++ others-of)
+  pub merged-room : Few (set (listAt cycles steps p) (p .cycle) (pathOr v (stretchOf steps a ++ stretchOf steps b)) ++ others-of)
   merged-room = subst Few (sym merged-is) (m .room)
 
-  first-in : InCycle a
+  pub first-in : InCycle a
   first-in = subst InCycle (sym ea) (all-but-in cycles steps p (m .first) s (m .here))
 
-  second-in : InCycle b
+  pub second-in : InCycle b
   second-in = subst InCycle (sym eb) (all-but-in cycles steps q (m .second) t (m .there))
 
   module _ {counts₀ : List ℕ} {u₀ : Used} {out₀ : List ℕ} (n : Built [] counts₀ u₀ out₀) where
@@ -189,23 +189,23 @@ module _ (cycles steps : List ℕ) (p : Place) (s t v w : ℕ) (m : Parting cycl
   stretch-is : (i j : ℕ) (c : Stretch) → c ≡ between p i j → stretchOf steps c ++ stretchOf steps none ≡ stretch (suc i) j (stepsAt steps p)
   stretch-is i j c e = append-nil (stretchOf steps c) ∙ ap (stretchOf steps) e ∙ between-is cycles steps p (m .first) i j
 
-  abbrev last-of : List Cycle
+  abbrev pub last-of : List Cycle
   last-of = one (pathOr w (stretchOf steps b ++ stretchOf steps none))
 
-  parted-is : set (listAt cycles steps p) (p .cycle) (pathOr v (stretchOf steps a ++ stretchOf steps none)) ++ last-of ≡ partedList cycles steps p s t v w
+  pub parted-is : set (listAt cycles steps p) (p .cycle) (pathOr v (stretchOf steps a ++ stretchOf steps none)) ++ last-of ≡ partedList cycles steps p s t v w
   parted-is =
       ap₂ (λ (x y : List Halfedge). set (listAt cycles steps p) (p .cycle) (pathOr v x) ++ one (pathOr w y)) (stretch-is s t a ea) (stretch-is t s b eb)
 
-  parted-room : Few (set (listAt cycles steps p) (p .cycle) (pathOr v (stretchOf steps a ++ stretchOf steps none)) ++ last-of)
+  pub parted-room : Few (set (listAt cycles steps p) (p .cycle) (pathOr v (stretchOf steps a ++ stretchOf steps none)) ++ last-of)
   parted-room = subst Few (sym parted-is) (m .room)
 
-  here-in : InCycle a
+  pub here-in : InCycle a
   here-in = subst InCycle (sym ea) (between-in cycles steps p (m .first) s t (m .here) (m .there))
 
-  there-in : InCycle b
+  pub there-in : InCycle b
   there-in = subst InCycle (sym eb) (between-in cycles steps p (m .first) t s (m .there) (m .here))
 
-  nothing-in : InCycle none
+  pub nothing-in : InCycle none
   nothing-in = none-in cycles steps p (m .first)
 
   module _ {counts₀ : List ℕ} {u₀ : Used} {out₀ : List ℕ} (n : Built [] counts₀ u₀ out₀) where

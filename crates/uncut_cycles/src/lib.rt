@@ -78,7 +78,7 @@ fn and_others<'a>(cycles: &'a [u32; 512], steps: &'a [u32; 2048], p: Place, l: L
 }
 
 // What follows the step s of a cycle, round to before it.
-fn following(p: Place, s: usize) -> Stretch
+pub fn following(p: Place, s: usize) -> Stretch
     requires { ⌜ s < p .count ⌝ }
     ensures { λ r. ⌜ r ≡ allBut p s ⌝ }
 {
@@ -103,7 +103,7 @@ fn steps_between(n: usize, s: usize, t: usize) -> usize
 }
 
 // What follows the step s of a cycle, up to its step t.
-fn up_to(p: Place, s: usize, t: usize) -> Stretch
+pub fn up_to(p: Place, s: usize, t: usize) -> Stretch
     requires { ⌜ p .count ≤ 2048 ⌝ }
     requires { ⌜ s < p .count ⌝ }
     requires { ⌜ t < p .count ⌝ }

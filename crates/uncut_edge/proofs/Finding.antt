@@ -39,10 +39,10 @@ module _ (d : Drawing) (ix : Index) (f c : ℕ) (h : Has d ix f c) (t : Spans) (
       let m = ap length (s .list) in
       omega (arith, h .cycle)
 
-  index-in : t .cycles .first + c < 512
+  pub index-in : t .cycles .first + c < 512
   index-in = let b = below in omega (arith, s .within .inCycles)
 
-  place-asks : (length (d .cycles) ≡ 512) × ((t .cycles .first + c ≤ 512) × (t .steps .first + widthSum (take c (drop (t .cycles .first) (d .cycles))) ≤ 2048))
+  pub place-asks : (length (d .cycles) ≡ 512) × ((t .cycles .first + c ≤ 512) × (t .steps .first + widthSum (take c (drop (t .cycles .first) (d .cycles))) ≤ 2048))
   place-asks =
       let w = s .within in
       let b = below in
@@ -63,7 +63,7 @@ module _ (d : Drawing) (ix : Index) (f c : ℕ) (h : Has d ix f c) (t : Spans) (
         in
         some-steps m st (let x = ap (λ (k : Cycle). length (stepsOf k)) e in omega (arith, h .some))
 
-    found : Found d f c (record { spans = t; cycle = c; count = m; at = at })
+    pub found : Found d f c (record { spans = t; cycle = c; count = m; at = at })
     found = record { lies = record { within = s .within; cycle = below; number = sym em; place = sym ea; some = counted }; cycle = refl; list = s .list }
 
 -- ---- of the cycles and the count of a drawing

@@ -25,7 +25,7 @@ pub struct Held {
 }
 
 // Whether the cycle with the number c at a place is v alone.
-fn is_lone(c: u32, steps: &[u32; 2048], from: usize, v: u32) -> bool
+pub fn is_lone(c: u32, steps: &[u32; 2048], from: usize, v: u32) -> bool
     requires { ⌜ length (now steps) ≡ 2048 ⌝ }
     requires { ⌜ from + width c ≤ 2048 ⌝ }
     ensures { λ r. ⌜ r ≡ isLone v (cycleOf c (drop from (now (steps .entry)))) ⌝ }
@@ -37,7 +37,7 @@ fn is_lone(c: u32, steps: &[u32; 2048], from: usize, v: u32) -> bool
 }
 
 // The place of the first lone cycle of v among m cycles, or m.
-fn lone_place<'a>(cycles: &'a [u32; 512], m: usize, steps: &'a [u32; 2048], v: u32) -> usize
+pub fn lone_place<'a>(cycles: &'a [u32; 512], m: usize, steps: &'a [u32; 2048], v: u32) -> usize
     requires { ⌜ length (now cycles) ≡ 512 ⌝ }
     requires { ⌜ length (now steps) ≡ 2048 ⌝ }
     requires { ⌜ m ≤ 512 ⌝ }
@@ -58,7 +58,7 @@ fn lone_place<'a>(cycles: &'a [u32; 512], m: usize, steps: &'a [u32; 2048], v: u
 }
 
 // Which of n rows holds the cycle j, and its place there, by the rows' numbers of cycles.
-fn row_holding(counts: &[u32; 256], n: usize, j: usize) -> Held
+pub fn row_holding(counts: &[u32; 256], n: usize, j: usize) -> Held
     requires { ⌜ length (now counts) ≡ 256 ⌝ }
     requires { ⌜ n ≤ 256 ⌝ }
     ensures { λ r. ⌜ r ≡ holding (take n (now (counts .entry))) j ⌝ }

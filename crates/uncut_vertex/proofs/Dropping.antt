@@ -52,11 +52,11 @@ kept-three cs r i a j b k c n dead en hn ea ha eb hb ec hc ed =
     (marked-at none a m (omega arith) ∙ ap₂ _||_ (ap (λ (q : ℕ). eqb q m) ea ∙ row-only (ids cs) r i m (omega arith) (omega arith)) (getD-replicate 256 m false false (omega arith))))
     ∙ none-of (eqb i (getD (ids cs) m 0)) (eqb j (getD (ids cs) m 0)) (eqb k (getD (ids cs) m 0))
 
--- a drawing whose cells have changed by f, and then three cells go
-pub dropped-three : (d : Drawing) → Sizes d → (i a j b k c : ℕ) → Triple d i a j b k c → (f : ℕ → Figure → Figure) (mid : Drawing) → Sizes mid → Fits mid
-    → sheetOf mid ≡ withEntries (sheetOf d) (reshape f (sheetOf d .cells)) → (dead : List Bool) → dead ≡ set (set (set (replicate 256 false) a true) b true) c true → (out : Drawing)
-    → sheetOf out ≡ withEntries (sheetOf mid) (kept (take (mid .count) dead) (sheetOf mid .cells)) → sheetOf out ≡ remade (noneOf i j k) f (sheetOf d)
-dropped-three d z i a j b k c t f mid zm gm em dead ed out eo =
+-- of cells that have changed by f three go
+pub three-left : (d : Drawing) → Sizes d → (i a j b k c : ℕ) → Triple d i a j b k c → (f : ℕ → Figure → Figure) (mid : Drawing) → Sizes mid → Fits mid
+    → sheetOf mid ≡ withEntries (sheetOf d) (reshape f (sheetOf d .cells)) → (dead : List Bool) → dead ≡ set (set (set (replicate 256 false) a true) b true) c true
+    → withEntries (sheetOf mid) (kept (take (mid .count) dead) (sheetOf mid .cells)) ≡ remade (noneOf i j k) f (sheetOf d)
+three-left d z i a j b k c t f mid zm gm em dead ed =
     let cs = sheetOf d .cells in
     let ds = reshape f cs in
     let p = t .pair in
@@ -70,8 +70,13 @@ dropped-three d z i a j b k c t f mid zm gm em dead ed out eo =
     let ha = p .firstIn in
     let hb = p .secondIn in
     let hc = t .thirdIn in
-    eo
-    ∙ ap (λ (s : Sheet). withEntries s (kept (take (mid .count) dead) (s .cells))) em
+    ap (λ (s : Sheet). withEntries s (kept (take (mid .count) dead) (s .cells))) em
     ∙ ap (withEntries (sheetOf d))
     (kept-three ds r i a j b k c (mid .count) dead ml (gm .cells) (p .first ∙ ap (rowOf i) (sym is)) (omega arith) (p .second ∙ ap (rowOf j) (sym is)) (omega arith) (t .third ∙ ap (rowOf k) (sym is)) (omega arith) ed
     ∙ keep-reshape (noneOf i j k) f cs)
+
+-- a drawing whose cells have changed by f, and then three cells go
+pub dropped-three : (d : Drawing) → Sizes d → (i a j b k c : ℕ) → Triple d i a j b k c → (f : ℕ → Figure → Figure) (mid : Drawing) → Sizes mid → Fits mid
+    → sheetOf mid ≡ withEntries (sheetOf d) (reshape f (sheetOf d .cells)) → (dead : List Bool) → dead ≡ set (set (set (replicate 256 false) a true) b true) c true → (out : Drawing)
+    → sheetOf out ≡ withEntries (sheetOf mid) (kept (take (mid .count) dead) (sheetOf mid .cells)) → sheetOf out ≡ remade (noneOf i j k) f (sheetOf d)
+dropped-three d z i a j b k c t f mid zm gm em dead ed out eo = eo ∙ three-left d z i a j b k c t f mid zm gm em dead ed

@@ -27,8 +27,11 @@ use Rattle.store.proofs.Grow.{real-append}
 use Rattle.rewire.proofs.Asking.{cells-real}
 use Rattle.uncut_case.proofs.Passing.{uncut-passed}
 
--- the vertex and the edge of a loop are live
+-- the vertex and the edge of a loop
 pub record AtLoop (s : Sheet) (v e : ℕ) : Type 0 where
+  pub place : Position
+  pub at : cellAt s v ≡ some (vertex place)
+  pub edgeOpen : T (isOpen (cellAt s e))
   pub vertexLive : isLive (cellAt s v) ≡ true
   pub edgeLive : isLive (cellAt s e) ≡ true
 
@@ -64,7 +67,9 @@ module _ (s : Sheet) (S : Sound s) (v : ℕ) where
 
   told : (k : Uncut) → Holds s v k → Told k
   told k (is-lonely p at e n) = tt
-  told k (is-loop p at x y e n f z) = record { vertexLive = ap isLive at; edgeLive = open-live (cellAt s (x .edge)) (real-ends s S v p at x y e n .0 .0) }
+  told k (is-loop p at x y e n f z) =
+      let o = real-ends s S v p at x y e n .0 .0 in
+      record { place = p; at = at; edgeOpen = o; vertexLive = ap isLive at; edgeLive = open-live (cellAt s (x .edge)) o }
   told k (is-joint p at x y e n a z) = record { place = p; at = at; ends = e; alone = n; apart = a; turnless = z }
   told k (is-two a b bs at u w q f n) = tt
   told k (is-one a b bs at u w p q o f m n) = tt

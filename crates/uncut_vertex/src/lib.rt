@@ -139,7 +139,7 @@ fn place_at(d: Drawing, row: usize) -> Position
 
 // Questions 7 and 8 where a vertex becomes a bend of a new edge, so many cells and steps fewer: the number of the first
 // no, or 0.
-fn bend_no(next: u32, t: Totals, cells: usize, steps: usize) -> u32
+pub fn bend_no(next: u32, t: Totals, cells: usize, steps: usize) -> u32
     requires { ⌜ next ≤ idsEnd ⌝ }
     requires { ⌜ Small t ⌝ }
     requires { ⌜ cells ≤ 4294967296 ⌝ }
@@ -194,7 +194,7 @@ pub struct Side {
     pub count: usize,
 }
 
-fn either(first: bool, a: u32, b: u32) -> u32
+pub fn either(first: bool, a: u32, b: u32) -> u32
     ensures { λ r. ⌜ r ≡ cond first a b ⌝ }
 {
     if first {
@@ -272,7 +272,13 @@ fn join_at(d: Drawing, ix: Index, v: u32, x: u32, back1: bool, y: u32, back2: bo
 }
 
 // Questions 7 and 8 where y is joined to another edge: the steps of y go.
-fn joint_no<'a>(cycles: &'a [u32; 512], steps: &'a [u32; 2048], next: u32, y: u32, t: Totals) -> u32
+pub fn joint_no<'a>(
+    cycles: &'a [u32; 512],
+    steps: &'a [u32; 2048],
+    next: u32,
+    y: u32,
+    t: Totals,
+) -> u32
     requires { ⌜ Counted (now cycles) (now steps) next t ⌝ }
     ensures { λ r. ⌜ r ≡ lateNo next 1 (changedBy (sizesBy t) (moreLess (sized 0 0 0 1) (sized 2 0 (total (stepUse y) (cyclesOf (take (t .cycles) (now (cycles .entry))) (now (steps .entry)))) 0))) ⌝ }
 {

@@ -1,0 +1,2 @@
+pub mod Commanding
+pub mod Demand

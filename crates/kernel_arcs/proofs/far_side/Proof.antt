@@ -1,0 +1,90 @@
+-- `far_side` meets its contract. Assumes nothing.
+use Prim.Native.Nat.{_-_}
+use borrow.Author.Needs.{needs}
+use native.Mathlib.Omega.{arith}
+use lib.ListN.{take}
+use Rattle.store.specs.Edits.{kept}
+use Rattle.outline.specs.Faces.{cyclesAt}
+use Rattle.outline.proofs.Lists.{built-then}
+use Rattle.split.proofs.Arcs.{distance-most}
+use Rattle.split.proofs.Places.{between-asks, arc-asks, far-steps, far-built, kept-asks}
+use Rattle.kernel_arcs.proofs.Sides.{none-used, copy-asks}
+use Rattle.kernel_arcs.proofs.far_side.Statement.{statement}
+use Rattle.kernel_arcs.proofs.far_side.Tie as tie
+
+cast-m : tie.Need-cast-m
+cast-m c = search needs
+
+between-requires : tie.Need-between-requires
+between-requires c κs =
+    let st = c .before in
+    let a = st .args in
+    let g = st .pre in
+    between-asks (a .steps .now) (g .0 .stepsSize) (a .p) (g .1 .0) (a .s1) (a .s2) (g .1 .1 .0) (g .1 .1 .1 .0)
+
+start-requires : tie.Need-start-requires
+start-requires c κs = search needs
+
+sub-and-arc : tie.Need-sub-and-arc
+sub-and-arc c =
+    let y = c .before .before .before in
+    let st = y .before .before in
+    let a = st .args in
+    let g = st .pre in
+    let m = distance-most (a .p .m) (a .s1) (a .s2) (g .1 .1 .0) (g .1 .1 .1 .0) .0 in
+    let e = y .between .ensures in
+    omega arith
+
+mul-and-arc : tie.Need-mul-and-arc
+mul-and-arc c = search needs
+
+and-arc-requires : tie.Need-and-arc-requires
+and-arc-requires c κs =
+    let n = c .before .before in
+    let y = n .before .before .before in
+    let st = y .before .before in
+    let a = st .args in
+    let g = st .pre in
+    let f = far-steps (a .steps .now) (g .0 .stepsSize) (a .p) (g .1 .0) (a .s1) (a .s2) (g .1 .1 .0) (g .1 .1 .1 .0) (a .e) in
+    let h = g .1 .1 .1 .1 .1 .1 .1 in
+    let e = y .between .ensures in
+    arc-asks (a .steps .now) (g .0 .stepsSize) (a .p) (g .1 .0) (a .s2) (a .s1) (g .1 .1 .1 .0) (g .1 .1 .0) (a .p .m - y .between .result) (omega arith)
+    (omega arith) _ (n .start .result) _ (n .start .ensures .building) (none-used (n .start .ensures))
+
+copy-cycles-requires : tie.Need-copy-cycles-requires
+copy-cycles-requires c κs =
+    let q = c .before .before .before .before .before .before .before in
+    let n = q .before .before .before in
+    let y = n .before .before .before in
+    let st = y .before .before in
+    let a = st .args in
+    let g = st .pre in
+    let b = far-built (a .steps .now) (g .0 .stepsSize) (a .p) (g .1 .0) (a .s1) (a .s2) (g .1 .1 .0) (g .1 .1 .1 .0) (a .e) (n .start .ensures)
+    (y .between .result) (y .between .ensures) (q .and-arc .ensures) in
+    copy-asks (kept-asks (a .cycles .now) (a .steps .now) (a .t) (g .0) (a .flags .now) (g .1 .1 .1 .1 .0) _ (g .1 .1 .1 .1 .1 .1 .0)
+    (g .1 .1 .1 .1 .1 .1 .1) b)
+
+returns : tie.Need-returns
+returns c =
+    let q = c .before .before .before .before .before .before .before .before in
+    let n = q .before .before .before in
+    let y = n .before .before .before in
+    let st = y .before .before in
+    let a = st .args in
+    let g = st .pre in
+    built-then (kept (take (a .t .cycles .count) (a .flags .now)) (cyclesAt (a .cycles .now) (a .steps .now) (a .t)))
+    (far-built (a .steps .now) (g .0 .stepsSize) (a .p) (g .1 .0) (a .s1) (a .s2) (g .1 .1 .0) (g .1 .1 .1 .0) (a .e) (n .start .ensures)
+    (y .between .result) (y .between .ensures) (q .and-arc .ensures)) (c .copy-cycles .ensures .0)
+
+pub far-side-spec : {M : Type 1} → statement M
+far-side-spec =
+    tie.close
+    (tie.spec
+    cast-m
+    between-requires
+    start-requires
+    sub-and-arc
+    mul-and-arc
+    and-arc-requires
+    copy-cycles-requires
+    returns)

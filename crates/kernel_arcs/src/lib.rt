@@ -1,0 +1,291 @@
+ghost use mathlib.Core.Path.{_≡_};
+ghost use mathlib.Core.Bool.{false};
+ghost use mathlib.Core.List.{_∷_, [], _++_, map};
+ghost use Prim.Native.Nat.{_+_, _<_, _≤_};
+ghost use lib.ListN.{length, take, getD, set};
+ghost use Rattle.complex.specs.Lists.{total, one};
+ghost use Rattle.complex.specs.Cells.{path};
+ghost use Rattle.complex.specs.Sound.{idsEnd, cyclesMost, stepsMost, stepCount};
+ghost use Rattle.store.specs.View.{halfedgeOf, width};
+ghost use Rattle.store.specs.Edits.{kept};
+ghost use Rattle.cycles.specs.Building.{Building, Built, built, more};
+ghost use Rattle.command.specs.Lists.{numbersRead};
+ghost use Rattle.outline.specs.Faces.{Within, cyclesAt};
+ghost use Rattle.outline.specs.Arcs.{arcOf, ArcRoom};
+ghost use Rattle.split.specs.Along.{nearSide, farSide, bridge};
+ghost use Rattle.split.specs.Parts.{placeOf, cycleAt, nearCycle, farCycle, bridgeCycle, Cornered, Parting, Joining, Bridging};
+ghost use Rattle.kernel_arcs.specs.Lists.{ahead, behind};
+use cycles::Spans;
+use cycles::Used;
+use split::Place;
+
+// ---- lists under construction in lent arrays
+
+// No cycle yet.
+fn start(numbers: &[u32; 512], places: &[u32; 2048]) -> Used
+    ensures { λ r. ⌜ Built [] (now (numbers .entry)) r (now (places .entry)) ⌝ }
+{
+    lengths::cycles_long(numbers);
+    lengths::steps_long(places);
+    Used {
+        cycles: 0,
+        steps: 0,
+    }
+}
+
+// The cycles of a span before cycle c that are not flagged.
+fn ahead(
+    cycles: &[u32; 512],
+    steps: &[u32; 2048],
+    t: Spans,
+    flags: &[bool; 512],
+    c: u32,
+    numbers: &mut [u32; 512],
+    places: &mut [u32; 2048],
+) -> Used
+    requires { ⌜ Within (now cycles) (now steps) t ⌝ }
+    requires { ⌜ c ≤ t .cycles .count ⌝ }
+    requires { ⌜ length (now flags) ≡ 512 ⌝ }
+    requires { ⌜ total stepCount (ahead (now flags) c (cyclesAt (now cycles) (now steps) t)) ≤ stepsMost ⌝ }
+    ensures { λ r. ⌜ Built (ahead (now (flags .entry)) c (cyclesAt (now (cycles .entry)) (now (steps .entry)) t)) (now (numbers .exit)) r (now (places .exit)) ⌝ }
+{
+    let k = t.cycles;
+    let s = t.steps;
+    let none = start(numbers, places);
+    kernel_cycles::copy_cycles(
+        cycles,
+        k.first,
+        c as usize,
+        steps,
+        s.first,
+        flags,
+        numbers,
+        places,
+        none,
+    )
+}
+
+// A list with the cycles of a span after cycle c, which stands at p, that are not flagged.
+fn behind(
+    cycles: &[u32; 512],
+    steps: &[u32; 2048],
+    t: Spans,
+    flags: &[bool],
+    c: u32,
+    p: Place,
+    numbers: &mut [u32; 512],
+    places: &mut [u32; 2048],
+    u: Used,
+) -> Used
+    requires { ⌜ Within (now cycles) (now steps) t ⌝ }
+    requires { ⌜ c < t .cycles .count ⌝ }
+    requires { ⌜ p ≡ placeOf (now cycles) t c ⌝ }
+    requires { ⌜ length (now flags) ≡ 512 ⌝ }
+    requires { ⌜ Building (now numbers) u (now places) ⌝ }
+    requires { ⌜ u .cycles + length (behind (now flags) (t .cycles .count) c (cyclesAt (now cycles) (now steps) t)) ≤ cyclesMost ⌝ }
+    requires { ⌜ u .steps + total stepCount (behind (now flags) (t .cycles .count) c (cyclesAt (now cycles) (now steps) t)) ≤ stepsMost ⌝ }
+    ensures { λ r. ⌜ Built (built (now (numbers .entry)) u (now (places .entry)) ++ behind (now (flags .entry)) (t .cycles .count) c (cyclesAt (now (cycles .entry)) (now (steps .entry)) t)) (now (numbers .exit)) r (now (places .exit)) ⌝ }
+{
+    let k = t.cycles;
+    let next = c as usize + 1;
+    let end = outline::after(p.at, p.m as usize);
+    kernel_cycles::copy_cycles(
+        cycles,
+        k.first + next,
+        k.count - next,
+        steps,
+        end,
+        &flags[next..],
+        numbers,
+        places,
+        u,
+    )
+}
+
+// A list with a cycle more: an arc, and then a step.
+fn and_arc(
+    steps: &[u32; 2048],
+    base: usize,
+    n: usize,
+    from: usize,
+    len: usize,
+    h: u32,
+    numbers: &mut [u32; 512],
+    places: &mut [u32; 2048],
+    u: Used,
+) -> Used
+    requires { ⌜ ArcRoom (now steps) base n from len (now numbers) u (now places) ⌝ }
+    ensures { λ r. ⌜ Built (built (now (numbers .entry)) u (now (places .entry)) ++ one (path (map halfedgeOf (arcOf (now (steps .entry)) base n from len) ++ one (halfedgeOf h)))) (now (numbers .exit)) r (now (places .exit)) ⌝ }
+{
+    let end = outline::copy_arc(steps, base, n, from, len, places, u.steps);
+    cycles::put_step(places, end, h);
+    cycles::close_path(numbers, u, len + 1)
+}
+
+// ---- one cycle in two
+
+// The cycles of a span that are not flagged; in the place of cycle c, the steps from s1 to before s2, and then e
+// backward.
+pub fn near_side(
+    cycles: &[u32; 512],
+    steps: &[u32; 2048],
+    t: Spans,
+    flags: &[bool; 512],
+    c: u32,
+    p: Place,
+    s1: u32,
+    s2: u32,
+    e: u32,
+    numbers: &mut [u32; 512],
+    places: &mut [u32; 2048],
+) -> Used
+    requires { ⌜ Cornered (now cycles) (now steps) t c p s1 ⌝ }
+    requires { ⌜ Cornered (now cycles) (now steps) t c p s2 ⌝ }
+    requires { ⌜ length (now flags) ≡ 512 ⌝ }
+    requires { ⌜ getD (now flags) c false ≡ false ⌝ }
+    requires { ⌜ e ≤ idsEnd ⌝ }
+    requires { ⌜ total stepCount (kept (take (t .cycles .count) (now flags)) (set (cyclesAt (now cycles) (now steps) t) c (nearCycle e s1 s2 (cycleAt (now steps) p)))) ≤ stepsMost ⌝ }
+    ensures { λ r. ⌜ Built (kept (take (t .cycles .count) (now (flags .entry))) (set (cyclesAt (now (cycles .entry)) (now (steps .entry)) t) c (nearCycle e s1 s2 (cycleAt (now (steps .entry)) p)))) (now (numbers .exit)) r (now (places .exit)) ⌝ }
+{
+    let m = p.m as usize;
+    let s = s1 as usize;
+    let len = split::between(m, s, s2 as usize);
+    let a = ahead(cycles, steps, t, flags, c, numbers, places);
+    let b = and_arc(steps, p.at, m, s, len, 2 * e + 1, numbers, places, a);
+    behind(cycles, steps, t, flags, c, p, numbers, places, b)
+}
+
+// The steps of a cycle from s2 to before s1, and then e; then the cycles of a span that are not flagged.
+pub fn far_side(
+    cycles: &[u32; 512],
+    steps: &[u32; 2048],
+    t: Spans,
+    flags: &[bool; 512],
+    p: Place,
+    s1: u32,
+    s2: u32,
+    e: u32,
+    numbers: &mut [u32; 512],
+    places: &mut [u32; 2048],
+) -> Used
+    requires { ⌜ Within (now cycles) (now steps) t ⌝ }
+    requires { ⌜ p .at + width (p .m) ≤ 2048 ⌝ }
+    requires { ⌜ s1 < width (p .m) ⌝ }
+    requires { ⌜ s2 < width (p .m) ⌝ }
+    requires { ⌜ length (now flags) ≡ 512 ⌝ }
+    requires { ⌜ e ≤ idsEnd ⌝ }
+    requires { ⌜ length (farCycle e s1 s2 (cycleAt (now steps) p) ∷ kept (take (t .cycles .count) (now flags)) (cyclesAt (now cycles) (now steps) t)) ≤ cyclesMost ⌝ }
+    requires { ⌜ total stepCount (farCycle e s1 s2 (cycleAt (now steps) p) ∷ kept (take (t .cycles .count) (now flags)) (cyclesAt (now cycles) (now steps) t)) ≤ stepsMost ⌝ }
+    ensures { λ r. ⌜ Built (farCycle e s1 s2 (cycleAt (now (steps .entry)) p) ∷ kept (take (t .cycles .count) (now (flags .entry))) (cyclesAt (now (cycles .entry)) (now (steps .entry)) t)) (now (numbers .exit)) r (now (places .exit)) ⌝ }
+{
+    let m = p.m as usize;
+    let s = s2 as usize;
+    let len = split::between(m, s1 as usize, s);
+    let none = start(numbers, places);
+    let u = and_arc(steps, p.at, m, s, m - len, 2 * e, numbers, places, none);
+    let k = t.cycles;
+    let w = t.steps;
+    kernel_cycles::copy_cycles(
+        cycles,
+        k.first,
+        k.count,
+        steps,
+        w.first,
+        flags,
+        numbers,
+        places,
+        u,
+    )
+}
+
+// How much of two pairs of arrays the lists of two faces take.
+pub struct Parts {
+    pub old: Used,
+    pub new: Used,
+}
+
+// The near side without the moved cycles; the far side, and then the moved cycles.
+pub fn halves(
+    cycles: &[u32; 512],
+    steps: &[u32; 2048],
+    t: Spans,
+    script: &[u8],
+    moved: u32,
+    place: usize,
+    c: u32,
+    p: Place,
+    s1: u32,
+    s2: u32,
+    e: u32,
+    numbers: &mut [u32; 512],
+    places: &mut [u32; 2048],
+    numbers2: &mut [u32; 512],
+    places2: &mut [u32; 2048],
+) -> Parts
+    requires { ⌜ Parting (now cycles) (now steps) t (now script) moved place c p s1 s2 e ⌝ }
+    ensures { λ r. ⌜ Built (nearSide e c s1 s2 (numbersRead (now (script .entry)) place moved) (cyclesAt (now (cycles .entry)) (now (steps .entry)) t)) (now (numbers .exit)) (r .old) (now (places .exit)) ⌝ }
+    ensures { λ r. ⌜ Built (farSide e c s1 s2 (numbersRead (now (script .entry)) place moved) (cyclesAt (now (cycles .entry)) (now (steps .entry)) t)) (now (numbers2 .exit)) (r .new) (now (places2 .exit)) ⌝ }
+{
+    let mut flags = [false; 512];
+    script::mark_moved(script, place, moved, &mut flags);
+    let mut stays = [false; 512];
+    outline::others(&flags, &mut stays);
+    let a = near_side(cycles, steps, t, &flags, c, p, s1, s2, e, numbers, places);
+    let b = far_side(cycles, steps, t, &stays, p, s1, s2, e, numbers2, places2);
+    Parts { old: a, new: b }
+}
+
+// ---- two cycles as one
+
+// A list with a cycle more: a cycle from s1 on, e, another from s2 on, and e backward.
+fn and_joined(
+    steps: &[u32; 2048],
+    p: Place,
+    s1: u32,
+    q: Place,
+    s2: u32,
+    e: u32,
+    numbers: &mut [u32; 512],
+    places: &mut [u32; 2048],
+    u: Used,
+) -> Used
+    requires { ⌜ Joining (now steps) p s1 q s2 e ⌝ }
+    requires { ⌜ Building (now numbers) u (now places) ⌝ }
+    requires { ⌜ u .cycles < cyclesMost ⌝ }
+    requires { ⌜ u .steps + (p .m + q .m + 2) ≤ stepsMost ⌝ }
+    ensures { λ r. ⌜ Built (built (now (numbers .entry)) u (now (places .entry)) ++ one (bridgeCycle e s1 (cycleAt (now (steps .entry)) p) s2 (cycleAt (now (steps .entry)) q))) (now (numbers .exit)) r (now (places .exit)) ⌝ }
+{
+    let m = p.m as usize;
+    let n = q.m as usize;
+    let mid = outline::copy_arc(steps, p.at, m, s1 as usize, m, places, u.steps);
+    let next = cycles::put_step(places, mid, 2 * e);
+    let last = outline::copy_arc(steps, q.at, n, s2 as usize, n, places, next);
+    cycles::put_step(places, last, 2 * e + 1);
+    cycles::close_path(numbers, u, m + n + 2)
+}
+
+// The cycles of a span without c2; in the place of c1, both.
+pub fn bridge_list(
+    cycles: &[u32; 512],
+    steps: &[u32; 2048],
+    t: Spans,
+    c1: u32,
+    p: Place,
+    s1: u32,
+    c2: u32,
+    q: Place,
+    s2: u32,
+    e: u32,
+    numbers: &mut [u32; 512],
+    places: &mut [u32; 2048],
+) -> Used
+    requires { ⌜ Bridging (now cycles) (now steps) t c1 p s1 c2 q s2 e ⌝ }
+    ensures { λ r. ⌜ Built (bridge e c1 s1 c2 s2 (cyclesAt (now (cycles .entry)) (now (steps .entry)) t)) (now (numbers .exit)) r (now (places .exit)) ⌝ }
+{
+    let mut flags = [false; 512];
+    let i = c2 as usize;
+    flags[i] = true;
+    let a = ahead(cycles, steps, t, &flags, c1, numbers, places);
+    let b = and_joined(steps, p, s1, q, s2, e, numbers, places, a);
+    behind(cycles, steps, t, &flags, c1, p, numbers, places, b)
+}

@@ -1,0 +1,80 @@
+-- The cycles that two faces or one cycle become when an edge goes, put together in order. Assumes nothing.
+use Prim.Native.Nat.{ℕ}
+use mathlib.Core.Path.{_≡_}
+use mathlib.Core.List.{List, [], _++_}
+use lib.ListN.{set}
+use Rattle.complex.specs.Lists.{one}
+use Rattle.complex.specs.Cells.{Cycle}
+use Rattle.complex.specs.Uncut.{pathOr}
+use Rattle.cycles.specs.declared.Used.{Used}
+use Rattle.cycles.specs.Building.{Built, built}
+use Rattle.outline.proofs.Lists.{built-as, built-then}
+use Rattle.uncut_cycles.specs.declared.Stretch.{Stretch}
+use Rattle.uncut_cycles.specs.declared.Place.{Place}
+use Rattle.uncut_cycles.specs.Paths.{stretchOf, allBut, between, noSteps, PathRoom, listAt, Besides, mergedList, Merging, partedList, Parting}
+use Rattle.uncut_cycles.proofs.Paths.{few-front}
+use Rattle.uncut_cycles.proofs.Lists.{few-after, others-of, merged-is, merged-room, first-in, second-in}
+use Rattle.uncut_cycles.proofs.Lists.{last-of, parted-is, parted-room, here-in, there-in, nothing-in}
+use Rattle.kernel_paths.specs.Runs.{Puts}
+
+-- ---- two faces become one
+module _ (cycles steps : List ℕ) (p : Place) (s : ℕ) (q : Place) (t v : ℕ) (m : Merging cycles steps p s q t v)
+    (a b : Stretch) (ea : a ≡ allBut p s) (eb : b ≡ allBut q t) {numbers : List ℕ} {u : Used} {places : List ℕ} (n : Built [] numbers u places) where
+  abbrev front : List Cycle
+  front = set (listAt cycles steps p) (p .cycle) (pathOr v (stretchOf steps a ++ stretchOf steps b))
+
+  abbrev rest : List Cycle
+  rest = others-of cycles steps p s q t v m a b ea eb
+
+  pub merged-puts : Puts cycles steps p a b v numbers u places
+  merged-puts =
+      record {
+        lies = m .first;
+        building = n .building;
+        first = first-in cycles steps p s q t v m a b ea eb;
+        second = second-in cycles steps p s q t v m a b ea eb;
+        room = few-after n front (few-front front rest (merged-room cycles steps p s q t v m a b ea eb));
+      }
+
+  module _ {numbers₁ : List ℕ} {u₁ : Used} {places₁ : List ℕ} (x : Built (built numbers u places ++ front) numbers₁ u₁ places₁) where
+    pub merged-others : Besides cycles steps q numbers₁ u₁ places₁
+    merged-others =
+        record { lies = m .second; building = x .building; room = few-after (built-then front n x) rest (merged-room cycles steps p s q t v m a b ea eb) }
+
+    pub merged-done : {numbers₂ : List ℕ} {u₂ : Used} {places₂ : List ℕ} → Built (built numbers₁ u₁ places₁ ++ rest) numbers₂ u₂ places₂
+        → Built (mergedList cycles steps p s q t v) numbers₂ u₂ places₂
+    merged-done {numbers₂} {u₂} {places₂} y = built-as (merged-is cycles steps p s q t v m a b ea eb) (built-then rest (built-then front n x) y)
+
+-- ---- a cycle becomes two
+module _ (cycles steps : List ℕ) (p : Place) (s t v w : ℕ) (m : Parting cycles steps p s t v w)
+    (a b : Stretch) (ea : a ≡ between p s t) (eb : b ≡ between p t s) {numbers : List ℕ} {u : Used} {places : List ℕ} (n : Built [] numbers u places) where
+  abbrev fore : List Cycle
+  fore = set (listAt cycles steps p) (p .cycle) (pathOr v (stretchOf steps a ++ stretchOf steps (noSteps p)))
+
+  abbrev last : List Cycle
+  last = last-of cycles steps p s t v w m a b ea eb
+
+  pub parted-puts : Puts cycles steps p a (noSteps p) v numbers u places
+  parted-puts =
+      record {
+        lies = m .first;
+        building = n .building;
+        first = here-in cycles steps p s t v w m a b ea eb;
+        second = nothing-in cycles steps p s t v w m a b ea eb;
+        room = few-after n fore (few-front fore last (parted-room cycles steps p s t v w m a b ea eb));
+      }
+
+  module _ {numbers₁ : List ℕ} {u₁ : Used} {places₁ : List ℕ} (x : Built (built numbers u places ++ fore) numbers₁ u₁ places₁) where
+    pub parted-path : PathRoom steps b (noSteps p) w numbers₁ u₁ places₁
+    parted-path =
+        record {
+          building = x .building;
+          stepsSize = m .first .within .stepsSize;
+          first = there-in cycles steps p s t v w m a b ea eb;
+          second = nothing-in cycles steps p s t v w m a b ea eb;
+          room = few-after (built-then fore n x) last (parted-room cycles steps p s t v w m a b ea eb);
+        }
+
+    pub parted-done : {numbers₂ : List ℕ} {u₂ : Used} {places₂ : List ℕ} → Built (built numbers₁ u₁ places₁ ++ last) numbers₂ u₂ places₂
+        → Built (partedList cycles steps p s t v w) numbers₂ u₂ places₂
+    parted-done {numbers₂} {u₂} {places₂} y = built-as (parted-is cycles steps p s t v w m a b ea eb) (built-then last (built-then fore n x) y)

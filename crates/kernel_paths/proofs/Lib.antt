@@ -1,0 +1,3 @@
+pub mod Runs
+pub mod Around
+pub mod Becoming

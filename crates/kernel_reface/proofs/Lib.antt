@@ -1,0 +1,2 @@
+pub mod Refaced
+pub mod Left

@@ -1,0 +1,5 @@
+pub mod Bridging
+pub mod Splitting
+pub mod Asking
+pub mod Opening
+pub mod Ready

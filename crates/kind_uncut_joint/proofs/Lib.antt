@@ -1,0 +1,4 @@
+pub mod Merging
+pub mod Bends
+pub mod Joining
+pub mod Answering

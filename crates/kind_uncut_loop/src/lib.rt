@@ -1,0 +1,191 @@
+ghost use mathlib.Core.Path.{_≡_};
+ghost use Rattle.complex.specs.Decode.{uncut};
+ghost use Rattle.complex.specs.Uncut.{loop, uncutCase};
+ghost use Rattle.store.specs.View.{sheetOf};
+ghost use Rattle.lent.specs.Arrays.{heldBy, lent, entry, exit};
+ghost use Rattle.lent.specs.Replies.{Ready, Obeyed};
+ghost use Rattle.kind_uncut_loop.specs.Uncutting.{Planned};
+use answer::Totals;
+use coordinate::Position;
+use lent::Line;
+
+// What is found before a loop's vertex goes: the number of the question that says no, or the rows of the vertex and of the edge,
+// where the edge's bends stand, and where the vertex lies.
+pub struct Plan {
+    pub no: u32,
+    pub vertex: usize,
+    pub row: usize,
+    pub base: usize,
+    pub m: usize,
+    pub p: Position,
+}
+
+// Questions 7 and 8 of 0E at a vertex with both ends of the edge e.
+fn loop_plan(
+    next: u32,
+    count: usize,
+    ids: &[u32; 256],
+    kinds: &[u32; 256],
+    starts: &[u32; 256],
+    ends: &[u32; 256],
+    bends: &[u32; 256],
+    counts: &[u32; 256],
+    px: &[f64; 256],
+    py: &[f64; 256],
+    cycles: &[u32; 512],
+    steps: &[u32; 2048],
+    bx: &[f64; 2048],
+    by: &[f64; 2048],
+    t: Totals,
+    v: u32,
+    e: u32,
+) -> Plan
+    requires { ⌜ Ready (lent next count ids kinds starts ends bends counts px py cycles steps bx by) t ⌝ }
+    requires { ⌜ uncutCase (sheetOf (heldBy (lent next count ids kinds starts ends bends counts px py cycles steps bx by))) v ≡ loop e ⌝ }
+    ensures { λ r. ⌜ Planned (entry next count ids kinds starts ends bends counts px py cycles steps bx by) t v e r ⌝ }
+{
+    let no = uncut_vertex::bend_no(next, t, 1, 0);
+    if no != 0 {
+        return Plan {
+            no,
+            vertex: 0,
+            row: 0,
+            base: 0,
+            m: 0,
+            p: Position { x: 0.0, y: 0.0 },
+        };
+    }
+    let vertex = store::find(ids, count, v);
+    let row = store::find(ids, count, e);
+    let p = lent::vertex_at(px, py, vertex);
+    let base = cycles::bend_start(bends, row);
+    let m = store::wide(bends[row]);
+    Plan {
+        no: 0,
+        vertex,
+        row,
+        base,
+        m,
+        p,
+    }
+}
+
+// 0E at a vertex with both ends of the edge e: the vertex becomes the first bend of a closed edge, e's bends follow it, and e's
+// halfedges become those of the new edge.
+pub fn looped(
+    next: &mut u32,
+    count: &mut usize,
+    ids: &mut [u32; 256],
+    kinds: &mut [u32; 256],
+    starts: &mut [u32; 256],
+    ends: &mut [u32; 256],
+    bends: &mut [u32; 256],
+    counts: &mut [u32; 256],
+    px: &mut [f64; 256],
+    py: &mut [f64; 256],
+    cycles: &mut [u32; 512],
+    steps: &mut [u32; 2048],
+    bx: &mut [f64; 2048],
+    by: &mut [f64; 2048],
+    t: Totals,
+    v: u32,
+    e: u32,
+) -> Line
+    requires { ⌜ Ready (lent (now next) (now count) ids kinds starts ends bends counts px py cycles steps bx by) t ⌝ }
+    requires { ⌜ uncutCase (sheetOf (heldBy (lent (now next) (now count) ids kinds starts ends bends counts px py cycles steps bx by))) v ≡ loop e ⌝ }
+    ensures { λ r. ⌜ Obeyed (entry (now (next .entry)) (now (count .entry)) ids kinds starts ends bends counts px py cycles steps bx by) (uncut v) (exit (now (next .exit)) (now (count .exit)) ids kinds starts ends bends counts px py cycles steps bx by) r ⌝ }
+{
+    let n = *count;
+    let id = *next;
+    let c = loop_plan(
+        id,
+        n,
+        ids,
+        kinds,
+        starts,
+        ends,
+        bends,
+        counts,
+        px,
+        py,
+        cycles,
+        steps,
+        bx,
+        by,
+        t,
+        v,
+        e,
+    );
+    let no = c.no;
+    if no != 0 {
+        return lent::line_of(no);
+    }
+    let w = rewire::one_for(e, id, false);
+    kernel_swap::swap_steps(
+        id,
+        n,
+        ids,
+        kinds,
+        starts,
+        ends,
+        bends,
+        counts,
+        px,
+        py,
+        cycles,
+        steps,
+        bx,
+        by,
+        t.cycles,
+        t.steps,
+        0,
+        w,
+    );
+    let m = c.m;
+    let k = kernel_keep::drop_pair(
+        id,
+        n,
+        ids,
+        kinds,
+        starts,
+        ends,
+        bends,
+        counts,
+        px,
+        py,
+        cycles,
+        steps,
+        bx,
+        by,
+        c.vertex,
+        c.row,
+        c.base,
+        m,
+        t.bends,
+        c.p,
+    );
+    lent::put_row(
+        ids,
+        kinds,
+        starts,
+        ends,
+        bends,
+        counts,
+        k,
+        id,
+        2,
+        0,
+        0,
+        (m + 1) as u32,
+        0,
+    );
+    *count = k + 1;
+    *next = id + 1;
+    let removed = (n - k) as u32;
+    Line {
+        number: 0,
+        first: id,
+        new: 1,
+        removed,
+    }
+}
