@@ -1,14 +1,9 @@
 ghost use mathlib.Core.Path.{_≡_};
-ghost use mathlib.Core.Bool.{cond};
 ghost use Prim.Native.Nat.{_+_, _-_, _≤_};
-ghost use lib.Dec.{eqb};
 ghost use Rattle.answer.specs.Sizes.{sizesFit, moreLess, changedBy};
-ghost use Rattle.store.specs.Edits.{placesOf};
-ghost use Rattle.complex.specs.Lists.{total};
 ghost use Rattle.complex.specs.Sound.{idsEnd};
-ghost use lib.ListN.{take, length};
-ghost use Rattle.answer.specs.Answers.{refusal, outcome, Counts};
-ghost use Rattle.answer.specs.Late.{sizesBy, lateNo, Small, Summed};
+ghost use Rattle.answer.specs.Answers.{refusal};
+ghost use Rattle.answer.specs.Late.{sizesBy, lateNo, Small};
 use store::Drawing;
 
 const IDS_END: u32 = 65536;
@@ -44,59 +39,12 @@ pub fn refused(d: Drawing, n: u32) -> Answer
     }
 }
 
-// The answer of a command that made `out` of a drawing with this next id and so many cells.
-pub fn done(next: u32, count: usize, out: Drawing) -> Answer
-    requires { ⌜ Counts next count out ⌝ }
-    ensures { λ r. ⌜ r ≡ outcome next count out ⌝ }
-{
-    let new = out.next - next;
-    let more = new as usize;
-    let gone = count + more - out.count;
-    if new == 0 {
-        return Answer {
-            number: 0,
-            first: 0,
-            new: 0,
-            removed: gone as u32,
-            drawing: out,
-        };
-    }
-    Answer {
-        number: 0,
-        first: next,
-        new: new,
-        removed: gone as u32,
-        drawing: out,
-    }
-}
-
 // How many cells, cycles, steps and bends there are, a lone vertex counted as one step.
 pub struct Totals {
     pub cells: usize,
     pub cycles: usize,
     pub steps: usize,
     pub bends: usize,
-}
-
-// Those of a drawing, from the rows of its index and its cycles.
-pub fn totals_of<'a>(
-    bends: &'a [u32; 256],
-    counts: &'a [u32; 256],
-    n: usize,
-    cycles: &[u32; 512],
-) -> Totals
-    requires { ⌜ Summed (now bends) (now counts) n (now cycles) ⌝ }
-    ensures { λ r. ⌜ r ≡ record { cells = n; cycles = total (placesOf 0) (take n (now (counts .entry))); steps = total (placesOf 1) (take (total (placesOf 0) (take n (now (counts .entry)))) (now (cycles .entry))); bends = total (placesOf 0) (take n (now (bends .entry))) } ⌝ }
-{
-    let b = cycles::place_sum(0, bends, 0, n);
-    let c = cycles::place_sum(0, counts, 0, n);
-    let s = cycles::place_sum(1, cycles, 0, c);
-    Totals {
-        cells: n,
-        cycles: c,
-        steps: s,
-        bends: b,
-    }
 }
 
 // Whether sizes keep the ceilings after a change: first more, then less.

@@ -19,7 +19,7 @@ use writer::Place;
 use writer::Written;
 
 // The cell in a row.
-fn cell_at(
+pub fn cell_at(
     ids: &[u32; 256],
     kinds: &[u32; 256],
     starts: &[u32; 256],

@@ -1,18 +1,13 @@
 ghost use mathlib.Core.Path.{_≡_};
-ghost use lib.Dec.{T};
 ghost use Prim.Native.Nat.{_+_, _<_, _≤_};
 ghost use lib.ListN.{take, drop, length};
-ghost use Rattle.complex.specs.Lists.{total, rising};
+ghost use Rattle.complex.specs.Lists.{total};
 ghost use Rattle.complex.specs.Cells.{ids};
-ghost use Rattle.complex.specs.Edits.{reshape};
-ghost use Rattle.complex.specs.Uses.{stepUse, ringUse, loneUse, counting, onUses};
+ghost use Rattle.complex.specs.Uses.{stepUse, ringUse, loneUse, counting};
 ghost use Rattle.complex.specs.Unglue.{copyOf, newLone};
 ghost use Rattle.complex.specs.Sound.{idsEnd};
-ghost use Rattle.store.specs.View.{width, widthSum, cycleOf, cyclesOf, cycleTotal, sheetOf, Fits};
-ghost use Rattle.store.specs.Edits.{withEntries};
-ghost use Rattle.store.specs.Pools.{dealt};
+ghost use Rattle.store.specs.View.{width, widthSum, cycleOf, cyclesOf};
 ghost use Rattle.copies.specs.Copying.{usesIn, copied, wordUse, copiedWord, moved, copiedRun, copiedPath, copiedVertex, Changed};
-use store::Drawing;
 
 // What is copied with a use: a step of an open edge, a cycle of a closed edge, a lone cycle of a vertex.
 pub enum Use {
@@ -115,14 +110,6 @@ pub fn count_steps(cycles: &[u32], n: usize, steps: &[u32], e: u32) -> usize
     ensures { λ r. ⌜ r ≡ total (stepUse e) (cyclesOf (take n (now (cycles .entry))) (now (steps .entry))) ⌝ }
 {
     count_uses(Use::Step, cycles, n, steps, e)
-}
-
-pub fn count_rings(cycles: &[u32], n: usize, steps: &[u32], e: u32) -> usize
-    requires { ⌜ n ≤ length (now cycles) ⌝ }
-    requires { ⌜ widthSum (take n (now cycles)) ≤ length (now steps) ⌝ }
-    ensures { λ r. ⌜ r ≡ total (ringUse e) (cyclesOf (take n (now (cycles .entry))) (now (steps .entry))) ⌝ }
-{
-    count_uses(Use::Ring, cycles, n, steps, e)
 }
 
 pub fn count_lone(cycles: &[u32], n: usize, steps: &[u32], v: u32) -> usize
@@ -263,33 +250,4 @@ pub fn copy_cycles(
         from = from + store::places(1, c);
         j = j + 1;
     }
-}
-
-// The same cells and the same lengths of cycles, with other steps.
-pub fn with_steps(d: Drawing, steps: &[u32; 2048]) -> Drawing
-    requires { ⌜ Fits d ⌝ }
-    requires { ⌜ length (now steps) ≡ 2048 ⌝ }
-    ensures { λ r. ⌜ sheetOf r ≡ withEntries (sheetOf d) (dealt (cyclesOf (take (cycleTotal d) (d .cycles)) (now (steps .entry))) (sheetOf d .cells)) ⌝ }
-    ensures { λ r. ⌜ Fits r ⌝ }
-{
-    let s = *steps;
-    let mut out = d;
-    out.steps = s;
-    out
-}
-
-// Every use of i but the first, counted from k0, gets a copy of its own.
-pub fn copy_uses(u: Use, d: Drawing, i: u32, next: u32, k0: usize) -> Drawing
-    requires { ⌜ Fits d ⌝ }
-    requires { ⌜ T (rising 0 (ids (sheetOf d .cells)) (sheetOf d .next)) ⌝ }
-    requires { ⌜ next ≤ idsEnd ⌝ }
-    requires { ⌜ k0 ≤ 4096 ⌝ }
-    ensures { λ r. ⌜ sheetOf r ≡ withEntries (sheetOf d) (reshape (onUses (usesIn u i) (copied u i next) k0 (sheetOf d .cells)) (sheetOf d .cells)) ⌝ }
-    ensures { λ r. ⌜ Fits r ⌝ }
-{
-    let n = store::cycle_total(d);
-    let cy = d.cycles;
-    let mut st = d.steps;
-    copy_cycles(u, &cy, n, &mut st, i, next, k0);
-    with_steps(d, &st)
 }

@@ -1,18 +1,13 @@
 ghost use mathlib.Core.Path.{_≡_};
-ghost use mathlib.Core.Bool.{cond};
 ghost use mathlib.Core.List.{_∷_, [], _++_};
 ghost use Prim.Native.Nat.{_+_, _<_, _≤_};
 ghost use lib.ListN.{take, drop, set, length};
 ghost use lib.Seq.{paste};
-ghost use Rattle.complex.specs.Cells.{lone, face};
+ghost use Rattle.complex.specs.Cells.{lone};
 ghost use Rattle.complex.specs.Lists.{total};
-ghost use Rattle.store.specs.View.{width, widthSum, cycleOf, cyclesOf, sheetOf, Fits};
-ghost use Rattle.store.specs.Edits.{kept, placesOf};
-ghost use Rattle.cycles.specs.Runs.{spanOf, spansOf, cycleCounts, Spliced, Replaces, withRow};
+ghost use Rattle.store.specs.Edits.{placesOf};
+ghost use Rattle.cycles.specs.Runs.{spanOf, spansOf};
 ghost use Rattle.cycles.specs.Building.{Building, Built, built, more, Closes};
-use store::Cell;
-use store::Drawing;
-use store::Shape;
 
 // A run of places: where it begins, how many it has, and how many follow.
 pub struct Span {
@@ -37,15 +32,6 @@ pub fn place_sum(z: usize, counts: &[u32], from: usize, n: usize) -> usize
     sum
 }
 
-// Where the cycles of the cell in a row begin, if counts are the cells' numbers of cycles.
-pub fn cycle_start(counts: &[u32], row: usize) -> usize
-    requires { ⌜ row ≤ length (now counts) ⌝ }
-    requires { ⌜ total (placesOf 0) (take row (now counts)) ≤ 2048 ⌝ }
-    ensures { λ r. ⌜ r ≡ total (placesOf 0) (take row (now (counts .entry))) ⌝ }
-{
-    place_sum(0, counts, 0, row)
-}
-
 // Where the bends of the cell in a row begin, if counts are the cells' numbers of bends.
 pub fn bend_start(counts: &[u32], row: usize) -> usize
     requires { ⌜ row ≤ length (now counts) ⌝ }
@@ -53,15 +39,6 @@ pub fn bend_start(counts: &[u32], row: usize) -> usize
     ensures { λ r. ⌜ r ≡ total (placesOf 0) (take row (now (counts .entry))) ⌝ }
 {
     place_sum(0, counts, 0, row)
-}
-
-// Where the steps of cycle c begin.
-pub fn step_start(cycles: &[u32], c: usize) -> usize
-    requires { ⌜ c ≤ length (now cycles) ⌝ }
-    requires { ⌜ total (placesOf 1) (take c (now cycles)) ≤ 2048 ⌝ }
-    ensures { λ r. ⌜ r ≡ total (placesOf 1) (take c (now (cycles .entry))) ⌝ }
-{
-    place_sum(1, cycles, 0, c)
 }
 
 // The places that a run of counts stands for, among those of all counts.
@@ -123,74 +100,6 @@ pub fn copy_run(src: &[u32], from: usize, n: usize, out: &mut [u32], at: usize) 
     at + n
 }
 
-// The numbers of old, with the first n of new for the run s.
-fn splice(old: &[u32], s: Span, new: &[u32], n: usize, out: &mut [u32])
-    requires { ⌜ s .first + s .count + s .rest ≤ length (now old) ⌝ }
-    requires { ⌜ n ≤ length (now new) ⌝ }
-    requires { ⌜ s .first + n + s .rest ≤ length (now out) ⌝ }
-    ensures { λ r. ⌜ Spliced (now (old .entry)) s (now (new .entry)) n (now (out .exit)) ⌝ }
-{
-    let a = copy_run(old, 0, s.first, out, 0);
-    let b = copy_run(new, 0, n, out, a);
-    copy_run(old, s.first + s.count, s.rest, out, b);
-}
-
-// The face in a row gets the cycles that number arrays hold; at has the cells' numbers of cycles.
-pub fn replace_at(
-    d: Drawing,
-    at: &[u32; 256],
-    row: usize,
-    counts: &[u32; 512],
-    n: usize,
-    steps: &[u32; 2048],
-    m: usize,
-) -> Drawing
-    requires { ⌜ length (now at) ≡ 256 ⌝ }
-    requires { ⌜ take (d .count) (now at) ≡ cycleCounts d ⌝ }
-    requires { ⌜ Replaces d row (now counts) n (now steps) m ⌝ }
-    ensures { λ r. ⌜ sheetOf r ≡ withRow (sheetOf d) row (face (cyclesOf (take n (now (counts .entry))) (now (steps .entry)))) ⌝ }
-    ensures { λ r. ⌜ Fits r ⌝ }
-{
-    let own_cycles = d.cycles;
-    let own_steps = d.steps;
-    let cells = d.cells;
-    let t = spans_of(at, d.count, row, &own_cycles);
-    let c = t.cycles;
-    let s = t.steps;
-    let mut cy = d.cycles;
-    let mut st = d.steps;
-    splice(&own_cycles, c, counts, n, &mut cy);
-    splice(&own_steps, s, steps, m, &mut st);
-    let was = cells[row];
-    let made = Cell {
-        id: was.id,
-        shape: Shape::Face { cycles: n as u32 },
-    };
-    let mut out = d;
-    out.cells[row] = made;
-    out.cycles = cy;
-    out.steps = st;
-    out
-}
-
-// The same, for a caller that has no index at hand.
-pub fn replace_cycles(
-    d: Drawing,
-    row: usize,
-    counts: &[u32; 512],
-    n: usize,
-    steps: &[u32; 2048],
-    m: usize,
-) -> Drawing
-    requires { ⌜ Replaces d row (now counts) n (now steps) m ⌝ }
-    ensures { λ r. ⌜ sheetOf r ≡ withRow (sheetOf d) row (face (cyclesOf (take n (now (counts .entry))) (now (steps .entry)))) ⌝ }
-    ensures { λ r. ⌜ Fits r ⌝ }
-{
-    let ix = store::index_of(d);
-    let at = ix.cycles;
-    replace_at(d, &at, row, counts, n, steps, m)
-}
-
 // How much of two number arrays a list of cycles under construction takes.
 pub struct Used {
     pub cycles: usize,
@@ -241,69 +150,4 @@ pub fn close_path(counts: &mut [u32; 512], u: Used, m: usize) -> Used
         cycles: i + 1,
         steps: u.steps + m,
     }
-}
-
-// A cycle with the number c, copied unless it is skipped.
-fn copy_cycle(
-    c: u32,
-    src: &[u32],
-    from: usize,
-    skip: bool,
-    counts: &mut [u32; 512],
-    steps: &mut [u32; 2048],
-    u: Used,
-) -> Used
-    requires { ⌜ Building (now counts) u (now steps) ⌝ }
-    requires { ⌜ from + width c ≤ length (now src) ⌝ }
-    requires { ⌜ u .cycles + length (cond skip [] (c ∷ [])) ≤ 512 ⌝ }
-    requires { ⌜ u .steps + widthSum (cond skip [] (c ∷ [])) ≤ 2048 ⌝ }
-    ensures { λ r. ⌜ r ≡ record { cycles = u .cycles + length (cond skip [] (c ∷ [])); steps = u .steps + widthSum (cond skip [] (c ∷ [])) } ⌝ }
-    ensures { λ r. ⌜ Built (built (now (counts .entry)) u (now (steps .entry)) ++ cond skip [] (cycleOf c (drop from (now (src .entry))) ∷ [])) (now (counts .exit)) r (now (steps .exit)) ⌝ }
-{
-    if skip {
-        return u;
-    }
-    let i = u.cycles;
-    let j = u.steps;
-    let w = store::places(1, c);
-    counts[i] = c;
-    let e = copy_run(src, from, w, steps, j);
-    Used {
-        cycles: i + 1,
-        steps: e,
-    }
-}
-
-// The list with k cycles more, from a given one on, without those that are skipped. One lifetime, so that both arrays may be
-// fields of one drawing.
-pub fn copy_cycles<'a>(
-    cycles: &'a [u32],
-    from: usize,
-    k: usize,
-    src: &'a [u32],
-    step: usize,
-    skip: &[bool],
-    counts: &mut [u32; 512],
-    steps: &mut [u32; 2048],
-    u: Used,
-) -> Used
-    requires { ⌜ Building (now counts) u (now steps) ⌝ }
-    requires { ⌜ from + k ≤ length (now cycles) ⌝ }
-    requires { ⌜ step + widthSum (take k (drop from (now cycles))) ≤ length (now src) ⌝ }
-    requires { ⌜ k ≤ length (now skip) ⌝ }
-    requires { ⌜ u .cycles + length (kept (take k (now skip)) (take k (drop from (now cycles)))) ≤ 512 ⌝ }
-    requires { ⌜ u .steps + widthSum (kept (take k (now skip)) (take k (drop from (now cycles)))) ≤ 2048 ⌝ }
-    ensures { λ r. ⌜ Built (built (now (counts .entry)) u (now (steps .entry)) ++ kept (take k (now (skip .entry))) (cyclesOf (take k (drop from (now (cycles .entry)))) (drop step (now (src .entry))))) (now (counts .exit)) r (now (steps .exit)) ⌝ }
-    ensures { λ r. ⌜ r ≡ record { cycles = u .cycles + length (kept (take k (now (skip .entry))) (take k (drop from (now (cycles .entry))))); steps = u .steps + widthSum (kept (take k (now (skip .entry))) (take k (drop from (now (cycles .entry))))) } ⌝ }
-{
-    let mut out = u;
-    let mut at = step;
-    let mut i: usize = 0;
-    while i < k {
-        let c = cycles[from + i];
-        out = copy_cycle(c, src, at, skip[i], counts, steps, out);
-        at = at + store::places(1, c);
-        i = i + 1;
-    }
-    out
 }

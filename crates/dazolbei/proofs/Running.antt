@@ -21,9 +21,10 @@ use Rattle.reader.specs.Outcome.{FileRead}
 use Rattle.writer.specs.declared.Written.{Written}
 use Rattle.writer.specs.Writes.{answered, writeOf}
 use Rattle.writer.proofs.Filing.{write-sound}
+use Rattle.entry_run.specs.Told.{Told, lineWidth, toldOf, lengthsEnd, front}
 use Rattle.dazolbei.specs.Calls.{isFile, drawn}
 use Rattle.dazolbei.specs.declared.Reached.{Reached}
-use Rattle.dazolbei.specs.Runs.{Told, lineWidth, toldOf, fileMost, lengthsEnd, roomFor, RunAnswer, runAs, front, runDone, runAt}
+use Rattle.dazolbei.specs.Runs.{fileMost, roomFor, RunAnswer, runAs, runDone, runAt}
 use Rattle.dazolbei.specs.Reaches.{Reaches}
 use Rattle.dazolbei.proofs.Opening.{no-file, is-file, short}
 

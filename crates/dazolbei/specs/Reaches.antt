@@ -7,8 +7,8 @@ use lib.ListN.{length}
 use Rattle.store.specs.declared.Drawing.{Drawing}
 use Rattle.store.specs.View.{sheetOf}
 use Rattle.sound.specs.Soundness.{soundDrawing}
+use Rattle.entry_run.specs.Told.{toldOf, front}
 use Rattle.dazolbei.specs.declared.Reached.{Reached}
-use Rattle.dazolbei.specs.Runs.{toldOf, front}
 
 -- r is the run over a script from the drawing d: what it tells stands in the first places of the lines
 pub record Reaches (d : Drawing) (script entry exit : List ℕ) (r : Reached) : Type 0 where

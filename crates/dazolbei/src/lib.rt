@@ -1,11 +1,9 @@
 // The calls for programs in C and Rust. A drawing crosses as its file, a slice as a pointer and a length, a second result
 // through a pointer. A no gives its number, 0 for all else save what 9 gives, and leaves the lent buffers as they were.
 ghost use mathlib.Core.Path.{_≡_};
-ghost use mathlib.Core.List.{_∷_, []};
-ghost use Prim.Native.Nat.{_+_, _*_, _≤_, _<_};
+ghost use Prim.Native.Nat.{_*_, _≤_, _<_};
 ghost use lib.Dec.{T};
 ghost use lib.ListN.{length};
-ghost use lib.Seq.{sets};
 ghost use Rattle.complex.specs.File.{readFile};
 ghost use Rattle.complex.specs.Sound.{cellsMost};
 ghost use Rattle.query.specs.Calls.{starOf, eulerOf};
@@ -13,8 +11,9 @@ ghost use Rattle.writer.specs.Writes.{writeOf};
 ghost use Rattle.core.specs.Entries.{commandOn};
 ghost use Rattle.sound.specs.Soundness.{soundDrawing};
 ghost use Rattle.files.specs.Again.{again};
+ghost use Rattle.entry_run.specs.Told.{lineWidth, lengthsEnd};
 ghost use Rattle.dazolbei.specs.Calls.{filledAs, starAt, eulerAs, eulerAt};
-ghost use Rattle.dazolbei.specs.Runs.{lineWidth, fileMost, lengthsEnd, roomFor, runAs, runAt};
+ghost use Rattle.dazolbei.specs.Runs.{fileMost, roomFor, runAs, runAt};
 ghost use Rattle.dazolbei.specs.Reaches.{Reaches};
 ghost use Rattle.dazolbei.specs.Rounds.{lastOf, blank, repeatAt};
 use command::Decoded;
@@ -87,26 +86,6 @@ pub extern "C" fn dz_write(file: &[u8], buffer: &mut [u8], count: &mut u32) -> u
     w.number
 }
 
-// The five numbers of a command, from a place on.
-fn put_line(
-    number: u32,
-    first: u32,
-    new: u32,
-    removed: u32,
-    left: u32,
-    lines: &mut [u32],
-    at: usize,
-)
-    requires { ⌜ at + lineWidth ≤ length (now lines) ⌝ }
-    ensures { λ r. ⌜ now (lines .exit) ≡ sets (now (lines .entry)) at (number ∷ first ∷ new ∷ removed ∷ left ∷ []) ⌝ }
-{
-    lines[at] = number;
-    lines[at + 1] = first;
-    lines[at + 2] = new;
-    lines[at + 3] = removed;
-    lines[at + 4] = left;
-}
-
 // The drawing after a script's commands, and how many there were, one that is not read among them.
 struct Reached {
     drawing: Drawing,
@@ -126,7 +105,7 @@ fn run_script(start: Drawing, script: &[u8], lines: &mut [u32]) -> Reached
     while at < script.len() {
         let left = &script[at..];
         let Decoded::Whole(c, next) = command::decode(left) else {
-            put_line(2, 0, 0, 0, left.len() as u32, lines, LINE_WIDTH * commands);
+            entry_run::put_line(2, 0, 0, 0, left.len() as u32, lines, LINE_WIDTH * commands);
             return Reached {
                 drawing: d,
                 commands: commands + 1,
@@ -134,7 +113,7 @@ fn run_script(start: Drawing, script: &[u8], lines: &mut [u32]) -> Reached
         };
         let a = obey::obey(d, left, c);
         at = at + next;
-        put_line(
+        entry_run::put_line(
             a.number,
             a.first,
             a.new,

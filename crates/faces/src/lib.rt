@@ -1,4 +1,4 @@
-ghost use lib.Dec.{T, eqb};
+ghost use lib.Dec.{eqb};
 ghost use lib.ListN.{take, length, getD};
 ghost use mathlib.Core.Path.{_≡_};
 ghost use mathlib.Core.Bool.{_||_};
@@ -6,19 +6,13 @@ ghost use Prim.Native.Nat.{_/_, _≤_};
 ghost use Rattle.number.specs.Numbers.{readNumber};
 ghost use Rattle.complex.specs.Lists.{all};
 ghost use Rattle.complex.specs.Cells.{face};
-ghost use Rattle.complex.specs.Decode.{create, readCycle};
+ghost use Rattle.complex.specs.Decode.{readCycle};
 ghost use Rattle.store.specs.Index.{rowOf};
-ghost use Rattle.store.specs.View.{sheetOf, Fits};
-ghost use Rattle.store.specs.Edits.{appended};
-ghost use Rattle.sound.specs.Soundness.{soundDrawing};
 ghost use Rattle.sound.specs.Rows.{rowsOf, isVertexIn, sideAt, goesOn, leadsIn, joinsIn};
 ghost use Rattle.command.specs.Lists.{numbersRead, cyclesRead, Stand};
-ghost use Rattle.answer.specs.Answers.{Answers};
-ghost use Rattle.faces.specs.Walks.{Valued, Rowed, stepNamed, passesIn, faceNo, FaceRead};
-use answer::Answer;
+ghost use Rattle.faces.specs.Walks.{Valued, Rowed, stepNamed, passesIn, faceNo};
 use command::Skip;
 use number::Number;
-use store::Drawing;
 
 // ---- steps
 
@@ -279,42 +273,4 @@ pub fn face_no(
         return 6;
     }
     0
-}
-
-// The face whose k cycles stand in a script, put at the end.
-fn put_face(d: Drawing, script: &[u8], first: usize, k: u32) -> Drawing
-    requires { ⌜ FaceRead d (now script) first k ⌝ }
-    ensures { λ r. ⌜ sheetOf r ≡ appended (sheetOf d) (face (cyclesRead (now (script .entry)) first k)) ⌝ }
-    ensures { λ r. ⌜ Fits r ⌝ }
-{
-    let mut counts = [0u32; 512];
-    let mut steps = [0u32; 2048];
-    let used = script::load_cycles(script, first, k, &mut counts, &mut steps);
-    append::append_face(d, &counts, store::wide(k), &steps, used)
-}
-
-pub fn add_face(d: Drawing, script: &[u8], k: u32, first: usize) -> Answer
-    requires { ⌜ T (soundDrawing d) ⌝ }
-    requires { ⌜ Stand readCycle (now script) first k ⌝ }
-    ensures { λ r. ⌜ Answers d (create (face (cyclesRead (now (script .entry)) first k))) r ⌝ }
-{
-    let ix = store::index_of(d);
-    let n = d.count;
-    let next = d.next;
-    let ids = ix.ids;
-    let kinds = ix.kinds;
-    let starts = ix.starts;
-    let ends = ix.ends;
-    let asked = face_no(script, first, k, &ids, &kinds, &starts, &ends, n);
-    if asked != 0 {
-        return answer::refused(d, asked);
-    }
-    let cy = d.cycles;
-    let t = answer::totals_of(&ix.bends, &ix.cycles, n, &cy);
-    let m = script::count_cycle_steps(script, first, k, 2048);
-    let no = cells::cell_no(next, t, store::wide(k), m, 0);
-    if no != 0 {
-        return answer::refused(d, no);
-    }
-    answer::done(next, n, put_face(d, script, first, k))
 }

@@ -1,14 +1,9 @@
 ghost use mathlib.Core.Path.{_≡_};
 ghost use mathlib.Core.Bool.{_||_};
-ghost use lib.Dec.{T, eqb};
+ghost use lib.Dec.{eqb};
 ghost use lib.ListN.{take};
-ghost use Rattle.complex.specs.Decode.{glueVertices, glueEdges};
 ghost use Rattle.store.specs.Index.{valueAt};
-ghost use Rattle.sound.specs.Soundness.{soundDrawing};
-ghost use Rattle.answer.specs.Answers.{Answers};
 ghost use Rattle.glue.specs.Questions.{Rows, verticesNo, endsMeet, mayGlueBy, edgesNo};
-use answer::Answer;
-use store::Drawing;
 
 // Questions 4 and 6 of 07: the number of the first no, or 0.
 pub fn vertices_no(ids: &[u32; 256], kinds: &[u32; 256], n: usize, a: u32, b: u32) -> u32
@@ -25,25 +20,6 @@ pub fn vertices_no(ids: &[u32; 256], kinds: &[u32; 256], n: usize, a: u32, b: u3
         return 6;
     }
     0
-}
-
-// 07
-pub fn glue_vertices(d: Drawing, a: u32, b: u32) -> Answer
-    requires { ⌜ T (soundDrawing d) ⌝ }
-    ensures { λ r. ⌜ Answers d (glueVertices a b) r ⌝ }
-{
-    let ix = store::index_of(d);
-    let n = d.count;
-    let next = d.next;
-    let ids = ix.ids;
-    let kinds = ix.kinds;
-    let no = vertices_no(&ids, &kinds, n, a, b);
-    if no != 0 {
-        return answer::refused(d, no);
-    }
-    let row = store::find(&ids, n, b);
-    let dead = dropping::dead_row(row);
-    answer::done(next, n, keep::keep(rewire::rename_vertex(d, a, b), dead))
 }
 
 fn is_edge(k: u32) -> bool
@@ -128,32 +104,4 @@ pub fn edges_no(ka: u32, kb: u32, same: bool, flag: u32, meet: bool) -> u32
         return 0;
     }
     6
-}
-
-// 08
-pub fn glue_edges(d: Drawing, a: u32, b: u32, flag: u32) -> Answer
-    requires { ⌜ T (soundDrawing d) ⌝ }
-    ensures { λ r. ⌜ Answers d (glueEdges a b flag) r ⌝ }
-{
-    let ix = store::index_of(d);
-    let n = d.count;
-    let next = d.next;
-    let ids = ix.ids;
-    let kinds = ix.kinds;
-    let starts = ix.starts;
-    let ends = ix.ends;
-    let ka = store::value_at(4, &ids, &kinds, n, a);
-    let kb = store::value_at(4, &ids, &kinds, n, b);
-    let meet = ends_of(&ids, &starts, &ends, n, a, b, flag);
-    let no = edges_no(ka, kb, a == b, flag, meet);
-    if no != 0 {
-        return answer::refused(d, no);
-    }
-    let row = store::find(&ids, n, b);
-    let dead = dropping::dead_row(row);
-    answer::done(
-        next,
-        n,
-        keep::keep(rewire::swap_edge(d, b, a, flag == 1), dead),
-    )
 }

@@ -44,7 +44,8 @@ module _ (a : Arrays) (t : Totals) (y : Ready a t) (q : Command) (r : ℕ) (k : 
         rows = ready-rows a t y;
       }
 
-  late-obeyed : r ≡ 0 → (n : ℕ) → 1 ≤ n → (s : Sheet) → s ≡ result (sheetOf (heldBy a)) q → (o : Arrays) → o .next ≡ a .next + n → o .count ≡ a .count + n → Holds s o → (l : Line) → l ≡ newLine (a .next) n → Obeyed a q o l
+  late-obeyed : r ≡ 0 → (n : ℕ) → 1 ≤ n → (s : Sheet) → s ≡ result (sheetOf (heldBy a)) q → (o : Arrays) → o .next ≡ a .next + n → o .count ≡ a .count + n →
+      Holds s o → (l : Line) → l ≡ newLine (a .next) n → Obeyed a q o l
   late-obeyed z n h s es o en ec w l el =
       record {
         answers =
@@ -55,55 +56,74 @@ module _ (a : Arrays) (t : Totals) (y : Ready a t) (q : Command) (r : ℕ) (k : 
       }
 
 -- ---- one cycle
-module _ (a : Arrays) (t : Totals) (script : List ℕ) (f : ℕ) (s : Spans) (c s1 s2 k first moved place : ℕ) (x : Asks a t script f s c s1 c s2 k first moved place) where
+module _ (a : Arrays) (t : Totals) (script : List ℕ) (f : ℕ) (s : Spans) (c s1 s2 k first moved place : ℕ)
+    (x : Asks a t script f s c s1 c s2 k first moved place) where
   abbrev oneCut : Command
   oneCut = cutFaceOpen f c s1 c s2 (positionsAt script first k) (numbersRead script place moved)
 
-  module _ (b : ℕ) (eb : b ≡ k) (n : ℕ) (en : n ≡ loneAt (a .cycles) s c) (r : ℕ) (er : r ≡ lateNo (a .next) 2 (changedBy (sizesBy t) (moreLess (sized 2 1 2 b) (sized 0 0 n 0)))) where
+  module _ (b : ℕ) (eb : b ≡ k) (n : ℕ) (en : n ≡ loneAt (a .cycles) s c) (r : ℕ)
+      (er : r ≡ lateNo (a .next) 2 (changedBy (sizesBy t) (moreLess (sized 2 1 2 b) (sized 0 0 n 0)))) where
     asked1 : Asked (heldBy a) (cutFaceOpen f c s1 c s2 (positionsAt script first k) (numbersRead script place moved)) r
     asked1 =
-        one-asked (heldBy a) (ready-sizes a t (x .ready)) (rowsBy a) script f c s1 c s2 k first moved place (x .along) (x .bounds) t (x .ready .sums) b eb r (eq-eqb c c refl) n
-        (lone-told (heldBy a) (ready-sizes a t (x .ready)) (rowsBy a) f (x .along .named) s (ends.span a t (x .ready) script f s c s1 c s2 k first moved place (x .spans) (x .along)) c (in-first (x .along)) n en) er
+        one-asked (heldBy a) (ready-sizes a t (x .ready)) (rowsBy a) script f c s1 c s2 k first moved place (x .along) (x .bounds) t (x .ready .sums) b eb r
+        (eq-eqb c c refl) n
+        (lone-told (heldBy a) (ready-sizes a t (x .ready)) (rowsBy a) f (x .along .named) s
+        (ends.span a t (x .ready) script f s c s1 c s2 k first moved place (x .spans) (x .along)) c (in-first (x .along)) n en) er
 
-    pub one-refused : (r ≡ 0 → ⊥) → (l : Line) → l ≡ lineOf r → Obeyed a (cutFaceOpen f c s1 c s2 (positionsAt script first k) (numbersRead script place moved)) a l
+    pub one-refused : (r ≡ 0 → ⊥) → (l : Line) → l ≡ lineOf r → Obeyed a
+        (cutFaceOpen f c s1 c s2 (positionsAt script first k) (numbersRead script place moved)) a l
     one-refused = late-refused a t (x .ready) oneCut r asked1
 
     pub one-splits : r ≡ 0 → Splits a t script f s c s1 s2 k first moved place
     one-splits z =
-        record { ready = x .ready; spans = x .spans; asked = halves (heldBy a) (ready-sizes a t (x .ready)) (rowsBy a) script f k first moved place c s1 s2 (x .along) r asked1 z }
+        record {
+          ready = x .ready;
+          spans = x .spans;
+          asked = halves (heldBy a) (ready-sizes a t (x .ready)) (rowsBy a) script f k first moved place c s1 s2
+              (x .along) r asked1 z;
+        }
 
     pub one-obeyed : r ≡ 0 → (o : Arrays) → o .next ≡ a .next + 2 → o .count ≡ a .count + 2
-        → Holds (faceCutAlong (sheetOf (heldBy a)) f c s1 c s2 (positionsAt script first k) (numbersRead script place moved)) o → (l : Line) → l ≡ newLine (a .next) 2
+        → Holds (faceCutAlong (sheetOf (heldBy a)) f c s1 c s2 (positionsAt script first k) (numbersRead script place moved)) o → (l : Line) → l ≡ newLine
+        (a .next) 2
         → Obeyed a (cutFaceOpen f c s1 c s2 (positionsAt script first k) (numbersRead script place moved)) o l
     one-obeyed z =
-        late-obeyed a t (x .ready) oneCut r asked1 z 2 (omega arith) (faceCutAlong (sheetOf (heldBy a)) f c s1 c s2 (positionsAt script first k) (numbersRead script place moved))
+        late-obeyed a t (x .ready) oneCut r asked1 z 2 (omega arith)
+        (faceCutAlong (sheetOf (heldBy a)) f c s1 c s2 (positionsAt script first k) (numbersRead script place moved))
         (cut-is (sheetOf (heldBy a)) f c s1 c s2 (positionsAt script first k) (numbersRead script place moved) _ refl)
 
 -- ---- two cycles
-module _ (a : Arrays) (t : Totals) (script : List ℕ) (f : ℕ) (s : Spans) (c1 s1 c2 s2 k first moved place : ℕ) (x : Asks a t script f s c1 s1 c2 s2 k first moved place) (apart : eqb c1 c2 ≡ false) where
+module _ (a : Arrays) (t : Totals) (script : List ℕ) (f : ℕ) (s : Spans) (c1 s1 c2 s2 k first moved place : ℕ)
+    (x : Asks a t script f s c1 s1 c2 s2 k first moved place) (apart : eqb c1 c2 ≡ false) where
   abbrev twoCut : Command
   twoCut = cutFaceOpen f c1 s1 c2 s2 (positionsAt script first k) (numbersRead script place moved)
 
   span : Spanned (heldBy a) f s
   span = ends.span a t (x .ready) script f s c1 s1 c2 s2 k first moved place (x .spans) (x .along)
 
-  bridged-is : bridgedBy (sheetOf (heldBy a)) f c1 s1 c2 s2 (positionsAt script first k) ≡ faceCutAlong (sheetOf (heldBy a)) f c1 s1 c2 s2 (positionsAt script first k) (numbersRead script place moved)
+  bridged-is : bridgedBy (sheetOf (heldBy a)) f c1 s1 c2 s2 (positionsAt script first k) ≡ faceCutAlong (sheetOf (heldBy a)) f c1 s1 c2 s2
+      (positionsAt script first k) (numbersRead script place moved)
   unfolding faceCutAlong
   bridged-is =
       let ks = cyclesOf (cellAt (sheetOf (heldBy a)) f) in
       rw apart
-      (appended-one (recycled (sheetOf (heldBy a)) f (bridge (sheetOf (heldBy a) .next) c1 s1 c2 s2 ks)) (chord (cellAt (sheetOf (heldBy a))) ks c1 s1 c2 s2 (positionsAt script first k)))
+      (appended-one (recycled (sheetOf (heldBy a)) f (bridge (sheetOf (heldBy a) .next) c1 s1 c2 s2 ks))
+      (chord (cellAt (sheetOf (heldBy a))) ks c1 s1 c2 s2 (positionsAt script first k)))
 
-  module _ (b : ℕ) (eb : b ≡ k) (less : Totals) (el : less ≡ record { cells = 0; cycles = 1; steps = loneAt (a .cycles) s c1 + loneAt (a .cycles) s c2; bends = 0 }) (r : ℕ)
+  module _ (b : ℕ) (eb : b ≡ k) (less : Totals) (el : less ≡ record
+      { cells = 0; cycles = 1; steps = loneAt (a .cycles) s c1 + loneAt (a .cycles) s c2; bends = 0 }) (r : ℕ)
       (er : r ≡ lateNo (a .next) 1 (changedBy (sizesBy t) (moreLess (sized 1 0 2 b) (sizesBy less)))) where
     asked2 : Asked (heldBy a) (cutFaceOpen f c1 s1 c2 s2 (positionsAt script first k) (numbersRead script place moved)) r
     asked2 =
         let told = lone-told (heldBy a) (ready-sizes a t (x .ready)) (rowsBy a) f (x .along .named) s span in
-        two-asked (heldBy a) (ready-sizes a t (x .ready)) (rowsBy a) script f c1 s1 c2 s2 k first moved place (x .along) (x .bounds) t (x .ready .sums) b eb r apart
-        (loneAt (a .cycles) s c1) (loneAt (a .cycles) s c2) (told c1 (in-first (x .along)) (loneAt (a .cycles) s c1) refl) (told c2 (in-second (x .along)) (loneAt (a .cycles) s c2) refl)
+        two-asked (heldBy a) (ready-sizes a t (x .ready)) (rowsBy a) script f c1 s1 c2 s2 k first moved place (x .along) (x .bounds) t (x .ready .sums) b eb
+        r apart
+        (loneAt (a .cycles) s c1) (loneAt (a .cycles) s c2) (told c1 (in-first (x .along)) (loneAt (a .cycles) s c1) refl)
+        (told c2 (in-second (x .along)) (loneAt (a .cycles) s c2) refl)
         (er ∙ ap (λ (l : Totals). lateNo (a .next) 1 (changedBy (sizesBy t) (moreLess (sized 1 0 2 b) (sizesBy l)))) el)
 
-    pub two-refused : (r ≡ 0 → ⊥) → (l : Line) → l ≡ lineOf r → Obeyed a (cutFaceOpen f c1 s1 c2 s2 (positionsAt script first k) (numbersRead script place moved)) a l
+    pub two-refused : (r ≡ 0 → ⊥) → (l : Line) → l ≡ lineOf r → Obeyed a
+        (cutFaceOpen f c1 s1 c2 s2 (positionsAt script first k) (numbersRead script place moved)) a l
     two-refused = late-refused a t (x .ready) twoCut r asked2
 
     pub two-bridges : r ≡ 0 → Bridges a t script f s c1 s1 c2 s2 k first

@@ -47,7 +47,8 @@ module _ (a : Arrays) (t : Totals) (script : List ℕ) (f : ℕ) (s : Spans) (c1
       cuts.bridging (ready-sizes a t (x .ready)) (x .asked)
       (ends.span a t (x .ready) script f s c1 s1 c2 s2 k first (x .moved) (x .place) (x .spans) (x .asked .asked)) e g
 
-  module _ (row : ℕ) (e : row ≡ rowOf f (take (a .count) (a .ids))) (v w : ℕ) (ev : v ≡ corner (cellAt (sheetOf (heldBy a))) (getD own c1 noCycle) s1) (ew : w ≡ corner (cellAt (sheetOf (heldBy a))) (getD own c2 noCycle) s2)
+  module _ (row : ℕ) (e : row ≡ rowOf f (take (a .count) (a .ids))) (v w : ℕ) (ev : v ≡ corner (cellAt (sheetOf (heldBy a))) (getD own c1 noCycle) s1)
+      (ew : w ≡ corner (cellAt (sheetOf (heldBy a))) (getD own c2 noCycle) s2)
       (numbers : List ℕ) (u : Used) (places : List ℕ) (b : Built (bridge (a .next) c1 s1 c2 s2 (cyclesAt (a .cycles) (a .steps) s)) numbers u places) where
     edge-is : openEdge v w (positionsAt script first k) ≡ edge
     edge-is = ap₂ (λ (i j : ℕ). openEdge i j (positionsAt script first k)) ev ew
@@ -60,14 +61,17 @@ module _ (a : Arrays) (t : Totals) (script : List ℕ) (f : ℕ) (s : Spans) (c1
 
     pub room-asks : ChordRoom a row s numbers u places (t .bends) script v w k first
     room-asks =
-        chord-room a t f joint (edge ∷ []) cut row e numbers u places list-is s (x .spans ∙ ap (λ (r : ℕ). spansOf (a .counts) (t .cells) r (a .cycles)) (sym e)) (b .building)
+        chord-room a t f joint (edge ∷ []) cut row e numbers u places list-is s
+        (x .spans ∙ ap (λ (r : ℕ). spansOf (a .counts) (t .cells) r (a .cycles)) (sym e)) (b .building)
         edge [] refl edge-is (x .asked .asked .bytes)
 
-    pub bridge-holds : (n m : ℕ) (o : Arrays) → HoldsIn (appended (withRow (sheetOf (heldBy a)) row (face (built numbers u places))) (openEdge v w (positionsAt script first k))) n m o
+    pub bridge-holds : (n m : ℕ) (o : Arrays) → HoldsIn (appended (withRow (sheetOf (heldBy a)) row (face (built numbers u places)))
+        (openEdge v w (positionsAt script first k))) n m o
         → Holds (bridgedBy (sheetOf (heldBy a)) f c1 s1 c2 s2 (positionsAt script first k)) o
     bridge-holds n m o h =
         record {
-          sheet = chord-sheet a t f joint (edge ∷ []) cut row e numbers u places list-is (openEdge v w (positionsAt script first k)) edge edge-is (sheetOf (heldBy o)) (h .holds .sheet);
+          sheet = chord-sheet a t f joint (edge ∷ []) cut row e numbers u places list-is (openEdge v w (positionsAt script first k)) edge edge-is
+              (sheetOf (heldBy o)) (h .holds .sheet);
           fits = h .holds .fits;
           long = h .holds .long;
           rows = h .holds .rows;

@@ -2,4 +2,3 @@ pub mod Bridging
 pub mod Splitting
 pub mod Asking
 pub mod Opening
-pub mod Ready

@@ -31,12 +31,13 @@ use Rattle.lent.specs.declared.Line.{Line}
 use Rattle.lent.specs.Replies.{lineOf, Ready, Obeyed}
 use Rattle.lent.proofs.Sums.{ready-sizes, ready-drawing, ready-indexes, ready-cells, ready-no}
 use Rattle.kernel_cycles.specs.Replacing.{Counted}
-use Rattle.kind_cut_along.proofs.Ready.{ready-counted}
+use Rattle.kernel_cycles.proofs.Ready.{ready-counted}
 use Rattle.kind_cut_chord.specs.Chords.{cornersBy}
 use Rattle.kind_cut_along.specs.Cuts.{Asks}
 
 -- what was found of the two corners, and of the moved cycles among n, is question 5
-corners-are : (look : Look) (ks : List Cycle) (c1 s1 c2 s2 : ℕ) (ms : List ℕ) (n : ℕ) → n ≡ length ks → (x y : Bool) → x ≡ cornerOn look ks c1 s1 → y ≡ cornerOn look ks c2 s2
+corners-are : (look : Look) (ks : List Cycle) (c1 s1 c2 s2 : ℕ) (ms : List ℕ) (n : ℕ) → n ≡ length ks → (x y : Bool) → x ≡ cornerOn look ks c1 s1 → y ≡
+    cornerOn look ks c2 s2
     → (x && (y && movedFit n c1 c2 ms)) ≡ cutCorners look ks c1 s1 c2 s2 ms
 corners-are look ks c1 s1 c2 s2 ms n en false y ex ey = first-missing look ks c1 s1 c2 s2 ms false ex refl
 corners-are look ks c1 s1 c2 s2 ms n en true false ex ey = second-missing look ks c1 s1 c2 s2 ms true ex refl false ey refl
@@ -47,65 +48,75 @@ module _ (a : Arrays) (t : Totals) (y : Ready a t) (script : List ℕ) (f c1 s1 
   cut = cutFaceOpen f c1 s1 c2 s2 (positionsAt script first k) (numbersRead script place moved)
 
   -- 3
-  pub bends-no : all within (positionsAt script first k) ≡ false → (l : Line) → l ≡ lineOf 3 → Obeyed a (cutFaceOpen f c1 s1 c2 s2 (positionsAt script first k) (numbersRead script place moved)) a l
+  pub bends-no : all within (positionsAt script first k) ≡ false → (l : Line) → l ≡ lineOf 3 → Obeyed a
+      (cutFaceOpen f c1 s1 c2 s2 (positionsAt script first k) (numbersRead script place moved)) a l
   bends-no q l el = ready-no a t y cut 3 l el (outside (sheetOf (heldBy a)) f c1 s1 c2 s2 (positionsAt script first k) (numbersRead script place moved) q)
 
-  module _ (q : all within (positionsAt script first k) ≡ true) (kind : ℕ) (ek : kind ≡ valueAt 4 (take (a .count) (a .ids)) (take (a .count) (a .kinds)) f) where
-    -- 4
-    pub face-no : (kind ≡ 3 → ⊥) → (l : Line) → l ≡ lineOf 4 → Obeyed a (cutFaceOpen f c1 s1 c2 s2 (positionsAt script first k) (numbersRead script place moved)) a l
-    face-no ne l el =
-        ready-no a t y cut 4 l el
-        (no-face (sheetOf (heldBy a)) f c1 s1 c2 s2 (positionsAt script first k) (numbersRead script place moved) q
-        (face-told (heldBy a) (ready-sizes a t y) (ready-drawing a t y) (rowsBy a) (ready-indexes a t y) f (eqb kind 3) (ap (λ (n : ℕ). eqb n 3) ek) ∙ ne-eqb kind 3 ne))
+  module _ (q : all within (positionsAt script first k) ≡ true) (kind : ℕ) (ek : kind ≡ valueAt 4 (take (a .count) (a .ids)) (take (a .count) (a .kinds)) f)
+    where
+      -- 4
+      pub face-no : (kind ≡ 3 → ⊥) → (l : Line) → l ≡ lineOf 4 → Obeyed a
+          (cutFaceOpen f c1 s1 c2 s2 (positionsAt script first k) (numbersRead script place moved)) a l
+      face-no ne l el =
+          ready-no a t y cut 4 l el
+          (no-face (sheetOf (heldBy a)) f c1 s1 c2 s2 (positionsAt script first k) (numbersRead script place moved) q
+          (face-told (heldBy a) (ready-sizes a t y) (ready-drawing a t y) (rowsBy a) (ready-indexes a t y) f (eqb kind 3) (ap (λ (n : ℕ). eqb n 3) ek) ∙ ne-eqb
+          kind 3 ne))
 
-    module _ (e3 : kind ≡ 3) where
-      named : Named (heldBy a) (rowsBy a) f
-      named =
-          named-in (heldBy a) (ready-sizes a t y) (ready-drawing a t y) (rowsBy a) (ready-indexes a t y) f
-          (face-told (heldBy a) (ready-sizes a t y) (ready-drawing a t y) (rowsBy a) (ready-indexes a t y) f (eqb kind 3) (ap (λ (n : ℕ). eqb n 3) ek) ∙ eq-eqb kind 3 e3)
+      module _ (e3 : kind ≡ 3) where
+        named : Named (heldBy a) (rowsBy a) f
+        named =
+            named-in (heldBy a) (ready-sizes a t y) (ready-drawing a t y) (rowsBy a) (ready-indexes a t y) f
+            (face-told (heldBy a) (ready-sizes a t y) (ready-drawing a t y) (rowsBy a) (ready-indexes a t y) f (eqb kind 3) (ap (λ (n : ℕ). eqb n 3) ek) ∙
+            eq-eqb kind 3 e3)
 
-      pub find-asks : (a .count ≤ 256) × ((length (a .ids) ≡ 256) × Rising (take (a .count) (a .ids)))
-      find-asks = finding (heldBy a) (ready-sizes a t y) (rowsBy a) f named
+        pub find-asks : (a .count ≤ 256) × ((length (a .ids) ≡ 256) × Rising (take (a .count) (a .ids)))
+        find-asks = finding (heldBy a) (ready-sizes a t y) (rowsBy a) f named
 
-      module _ (row : ℕ) (er : row ≡ rowOf f (take (a .count) (a .ids))) where
-        pub counted : Counted (a .counts) (a .cycles) row t
-        counted = ready-counted a t y row (subst (λ (i : ℕ). i < a .count) (sym er) (live (heldBy a) (ready-sizes a t y) (rowsBy a) f named))
+        module _ (row : ℕ) (er : row ≡ rowOf f (take (a .count) (a .ids))) where
+          pub counted : Counted (a .counts) (a .cycles) row t
+          counted = ready-counted a t y row (subst (λ (i : ℕ). i < a .count) (sym er) (live (heldBy a) (ready-sizes a t y) (rowsBy a) f named))
 
-        module _ (s : Spans) (es : s ≡ spansOf (a .counts) (t .cells) row (a .cycles)) where
-          span : Spanned (heldBy a) f s
-          span =
-              spanned (heldBy a) (ready-sizes a t y) (rowsBy a) f named row s er
-              (es ∙ ap (λ (n : ℕ). spansOf (a .counts) n row (a .cycles)) (ready-cells a t y))
+          module _ (s : Spans) (es : s ≡ spansOf (a .counts) (t .cells) row (a .cycles)) where
+            span : Spanned (heldBy a) f s
+            span =
+                spanned (heldBy a) (ready-sizes a t y) (rowsBy a) f named row s er
+                (es ∙ ap (λ (n : ℕ). spansOf (a .counts) n row (a .cycles)) (ready-cells a t y))
 
-          pub corners-ask : Stand readNumber script place moved → (a .count ≤ 256) × ((length (a .ids) ≡ 256) × ((length (a .kinds) ≡ 256) × (Rising (take (a .count) (a .ids))
-              × (Within (a .cycles) (a .steps) s × Stand readNumber script place moved))))
-          corners-ask w = let g = find-asks in (g .0, (g .1 .0, (y .long .kinds, (g .1 .1, (span .within, w)))))
+            pub corners-ask : Stand readNumber script place moved → (a .count ≤ 256) ×
+                ((length (a .ids) ≡ 256) × ((length (a .kinds) ≡ 256) × (Rising (take (a .count) (a .ids))
+                × (Within (a .cycles) (a .steps) s × Stand readNumber script place moved))))
+            corners-ask w = let g = find-asks in (g .0, (g .1 .0, (y .long .kinds, (g .1 .1, (span .within, w)))))
 
-          -- b is what question 5 says
-          module _ (b : Bool) (eb : b ≡ cornersBy (a .ids) (a .kinds) (a .count) (a .cycles) (a .steps) s c1 s1 c2 s2 (numbersRead script place moved)) where
-            told : cutCorners (cellAt (sheetOf (heldBy a))) (cyclesOf (cellAt (sheetOf (heldBy a)) f)) c1 s1 c2 s2 (numbersRead script place moved) ≡ b
-            told =
-                sym
-                (eb
-                ∙ corners-are (cellAt (sheetOf (heldBy a))) (cyclesOf (cellAt (sheetOf (heldBy a)) f)) c1 s1 c2 s2 (numbersRead script place moved) (s .cycles .count)
-                (cycles-count (ready-sizes a t y) (ready-drawing a t y) named span) _ _
-                (corner-told (heldBy a) (ready-sizes a t y) (rowsBy a) f named s span c1 s1 _ refl)
-                (corner-told (heldBy a) (ready-sizes a t y) (rowsBy a) f named s span c2 s2 _ refl))
+            -- b is what question 5 says
+            module _ (b : Bool) (eb : b ≡ cornersBy (a .ids) (a .kinds) (a .count) (a .cycles) (a .steps) s c1 s1 c2 s2 (numbersRead script place moved)) where
+              told : cutCorners (cellAt (sheetOf (heldBy a))) (cyclesOf (cellAt (sheetOf (heldBy a)) f)) c1 s1 c2 s2 (numbersRead script place moved) ≡ b
+              told =
+                  sym
+                  (eb
+                  ∙ corners-are (cellAt (sheetOf (heldBy a))) (cyclesOf (cellAt (sheetOf (heldBy a)) f)) c1 s1 c2 s2 (numbersRead script place moved)
+                  (s .cycles .count)
+                  (cycles-count (ready-sizes a t y) (ready-drawing a t y) named span) _ _
+                  (corner-told (heldBy a) (ready-sizes a t y) (rowsBy a) f named s span c1 s1 _ refl)
+                  (corner-told (heldBy a) (ready-sizes a t y) (rowsBy a) f named s span c2 s2 _ refl))
 
-            -- 5
-            pub corners-no : not b ≡ true → (l : Line) → l ≡ lineOf 5 → Obeyed a (cutFaceOpen f c1 s1 c2 s2 (positionsAt script first k) (numbersRead script place moved)) a l
-            corners-no nb l el =
-                ready-no a t y cut 5 l el
-                (no-corner (sheetOf (heldBy a)) f c1 s1 c2 s2 (positionsAt script first k) (numbersRead script place moved) q (named .face) (told ∙ not-true b nb))
+              -- 5
+              pub corners-no : not b ≡ true → (l : Line) → l ≡ lineOf 5 → Obeyed a
+                  (cutFaceOpen f c1 s1 c2 s2 (positionsAt script first k) (numbersRead script place moved)) a l
+              corners-no nb l el =
+                  ready-no a t y cut 5 l el
+                  (no-corner (sheetOf (heldBy a)) f c1 s1 c2 s2 (positionsAt script first k) (numbersRead script place moved) q (named .face)
+                  (told ∙ not-true b nb))
 
-            pub asks : not b ≡ false → first + 16 * k ≤ length script → Stand readNumber script place moved → Asks a t script f s c1 s1 c2 s2 k first moved place
-            asks nb h w =
-                record {
-                  ready = y;
-                  spans = es ∙ ap (λ (r : ℕ). spansOf (a .counts) (t .cells) r (a .cycles)) er;
-                  bounds = q;
-                  along = record { sound = ready-drawing a t y; named = named; bytes = h; stand = w; corners = told ∙ not-false b nb };
-                }
+              pub asks : not b ≡ false → first + 16 * k ≤ length script → Stand readNumber script place moved → Asks a t script f s c1 s1 c2 s2 k first moved
+                  place
+              asks nb h w =
+                  record {
+                    ready = y;
+                    spans = es ∙ ap (λ (r : ℕ). spansOf (a .counts) (t .cells) r (a .cycles)) er;
+                    bounds = q;
+                    along = record { sound = ready-drawing a t y; named = named; bytes = h; stand = w; corners = told ∙ not-false b nb };
+                  }
 
 -- ---- where the two cycles are one
 module _ (a : Arrays) (t : Totals) (script : List ℕ) (f : ℕ) (s : Spans) (c1 s1 c2 s2 k first moved place : ℕ) (e : c1 ≡ c2) where

@@ -37,7 +37,8 @@ use Rattle.kind_cut_chord.proofs.Chords.{chord-room, chord-sheet}
 use Rattle.kind_cut_chord.proofs.Ends as ends
 use Rattle.kind_cut_along.specs.Cuts.{Splits, nearBy, farBy}
 
-module _ (a : Arrays) (t : Totals) (script : List ℕ) (f : ℕ) (s : Spans) (c s1 s2 k first moved place : ℕ) (x : Splits a t script f s c s1 s2 k first moved place) where
+module _ (a : Arrays) (t : Totals) (script : List ℕ) (f : ℕ) (s : Spans) (c s1 s2 k first moved place : ℕ)
+    (x : Splits a t script f s c s1 s2 k first moved place) where
   abbrev own : List Cycle
   own = cyclesOf (cellAt (sheetOf (heldBy a)) f)
 
@@ -60,8 +61,10 @@ module _ (a : Arrays) (t : Totals) (script : List ℕ) (f : ℕ) (s : Spans) (c 
   halves-ask p e = cuts.parting (ready-sizes a t (x .ready)) (x .asked) span e
 
   -- the near side in one list
-  module _ (row : ℕ) (e : row ≡ rowOf f (take (a .count) (a .ids))) (v w : ℕ) (ev : v ≡ corner (cellAt (sheetOf (heldBy a))) (getD own c noCycle) s1) (ew : w ≡ corner (cellAt (sheetOf (heldBy a))) (getD own c noCycle) s2)
-      (numbers : List ℕ) (u : Used) (places : List ℕ) (b : Built (nearSide (a .next) c s1 s2 (numbersRead script place moved) (cyclesAt (a .cycles) (a .steps) s)) numbers u places) where
+  module _ (row : ℕ) (e : row ≡ rowOf f (take (a .count) (a .ids))) (v w : ℕ) (ev : v ≡ corner (cellAt (sheetOf (heldBy a))) (getD own c noCycle) s1)
+      (ew : w ≡ corner (cellAt (sheetOf (heldBy a))) (getD own c noCycle) s2)
+      (numbers : List ℕ) (u : Used) (places : List ℕ) (b : Built (nearSide (a .next) c s1 s2 (numbersRead script place moved)
+      (cyclesAt (a .cycles) (a .steps) s)) numbers u places) where
     edge-is : openEdge v w (positionsAt script first k) ≡ edge
     edge-is = ap₂ (λ (i j : ℕ). openEdge i j (positionsAt script first k)) ev ew
 
@@ -70,16 +73,19 @@ module _ (a : Arrays) (t : Totals) (script : List ℕ) (f : ℕ) (s : Spans) (c 
 
     pub room-asks : ChordRoom a row s numbers u places (t .bends) script v w k first
     room-asks =
-        chord-room a t f near (edge ∷ face far ∷ []) cut row e numbers u places list-is s (x .spans ∙ ap (λ (r : ℕ). spansOf (a .counts) (t .cells) r (a .cycles)) (sym e)) (b .building)
+        chord-room a t f near (edge ∷ face far ∷ []) cut row e numbers u places list-is s
+        (x .spans ∙ ap (λ (r : ℕ). spansOf (a .counts) (t .cells) r (a .cycles)) (sym e)) (b .building)
         edge (face far ∷ []) refl edge-is (x .asked .asked .bytes)
 
-    pub near-holds : (n m : ℕ) (o : Arrays) → HoldsIn (appended (withRow (sheetOf (heldBy a)) row (face (built numbers u places))) (openEdge v w (positionsAt script first k))) n m o
+    pub near-holds : (n m : ℕ) (o : Arrays) → HoldsIn (appended (withRow (sheetOf (heldBy a)) row (face (built numbers u places)))
+        (openEdge v w (positionsAt script first k))) n m o
         → HoldsIn (nearBy (sheetOf (heldBy a)) f c s1 s2 (positionsAt script first k) (numbersRead script place moved)) n m o
     near-holds n m o h =
         record {
           holds =
               record {
-                sheet = chord-sheet a t f near (edge ∷ face far ∷ []) cut row e numbers u places list-is (openEdge v w (positionsAt script first k)) edge edge-is (sheetOf (heldBy o)) (h .holds .sheet);
+                sheet = chord-sheet a t f near (edge ∷ face far ∷ []) cut row e numbers u places list-is (openEdge v w (positionsAt script first k)) edge
+                    edge-is (sheetOf (heldBy o)) (h .holds .sheet);
                 fits = h .holds .fits;
                 long = h .holds .long;
                 rows = h .holds .rows;
@@ -89,37 +95,43 @@ module _ (a : Arrays) (t : Totals) (script : List ℕ) (f : ℕ) (s : Spans) (c 
         }
 
   -- the far side in another list
-  pub far-built : (numbers : List ℕ) (u : Used) (places : List ℕ) → Built (farSide (a .next) c s1 s2 (numbersRead script place moved) (cyclesAt (a .cycles) (a .steps) s)) numbers u places
+  pub far-built : (numbers : List ℕ) (u : Used) (places : List ℕ) → Built
+      (farSide (a .next) c s1 s2 (numbersRead script place moved) (cyclesAt (a .cycles) (a .steps) s)) numbers u places
       → Built (farBy (sheetOf (heldBy a)) f c s1 s2 (numbersRead script place moved)) numbers u places
   far-built numbers u places b = built-as (cuts.far-list (ready-sizes a t (x .ready)) (x .asked) span) b
 
   -- o have the near side and the edge, n cycles and m steps
-  module _ (n m : ℕ) (o : Arrays) (h : HoldsIn (nearBy (sheetOf (heldBy a)) f c s1 s2 (positionsAt script first k) (numbersRead script place moved)) n m o) where
-    pub sums-fit : (n ≤ 512) × (m ≤ 2048)
-    sums-fit = (omega (arith, h .cycles, h .holds .fits .cycles), omega (arith, h .steps, h .holds .fits .steps))
+  module _ (n m : ℕ) (o : Arrays) (h : HoldsIn (nearBy (sheetOf (heldBy a)) f c s1 s2 (positionsAt script first k) (numbersRead script place moved)) n m o)
+    where
+      pub sums-fit : (n ≤ 512) × (m ≤ 2048)
+      sums-fit = (omega (arith, h .cycles, h .holds .fits .cycles), omega (arith, h .steps, h .holds .fits .steps))
 
-    module _ (numbers : List ℕ) (u : Used) (places : List ℕ) (b : Built (farBy (sheetOf (heldBy a)) f c s1 s2 (numbersRead script place moved)) numbers u places) where
-      pub part-asks : PartRoom o n m numbers u places
-      part-asks =
-          record {
-            long = h .holds .long;
-            rows = h .holds .rows;
-            cycles = sym (h .cycles);
-            steps = sym (h .steps);
-            building = b .building;
-            room =
-                subst (λ (l : List Cycle). Room (heldBy o) (face l)) (sym (b .list))
-                (room-first (heldBy o) (held-sizes o (h .holds .long)) (h .holds .fits) (face far) []
-                (subst (λ (q : Sheet). RoomIn q (face far ∷ [])) (sym (h .holds .sheet)) (room-next edge (face far ∷ []) (recycled (sheetOf (heldBy a)) f near) (x .asked .room))));
-          }
+      module _ (numbers : List ℕ) (u : Used) (places : List ℕ) (b : Built (farBy (sheetOf (heldBy a)) f c s1 s2 (numbersRead script place moved)) numbers u
+          places) where
+        pub part-asks : PartRoom o n m numbers u places
+        part-asks =
+            record {
+              long = h .holds .long;
+              rows = h .holds .rows;
+              cycles = sym (h .cycles);
+              steps = sym (h .steps);
+              building = b .building;
+              room =
+                  subst (λ (l : List Cycle). Room (heldBy o) (face l)) (sym (b .list))
+                  (room-first (heldBy o) (held-sizes o (h .holds .long)) (h .holds .fits) (face far) []
+                  (subst (λ (q : Sheet). RoomIn q (face far ∷ [])) (sym (h .holds .sheet))
+                  (room-next edge (face far ∷ []) (recycled (sheetOf (heldBy a)) f near) (x .asked .room))));
+            }
 
-      done : (q : Sheet) → q ≡ appended (sheetOf (heldBy o)) (face (built numbers u places)) → q ≡ faceCutAlong (sheetOf (heldBy a)) f c s1 c s2 (positionsAt script first k) (numbersRead script place moved)
-      unfolding faceCutAlong
-      done q g =
-          rw (eq-eqb c c refl)
-          (g ∙ ap₂ (λ (z : Sheet) (l : List Cycle). appended z (face l)) (h .holds .sheet) (b .list)
-          ∙ appended-one (appended (recycled (sheetOf (heldBy a)) f near) edge) (face far) ∙ sym (appended-next edge (face far ∷ []) (recycled (sheetOf (heldBy a)) f near)))
+        done : (q : Sheet) → q ≡ appended (sheetOf (heldBy o)) (face (built numbers u places)) → q ≡ faceCutAlong (sheetOf (heldBy a)) f c s1 c s2
+            (positionsAt script first k) (numbersRead script place moved)
+        unfolding faceCutAlong
+        done q g =
+            rw (eq-eqb c c refl)
+            (g ∙ ap₂ (λ (z : Sheet) (l : List Cycle). appended z (face l)) (h .holds .sheet) (b .list)
+            ∙ appended-one (appended (recycled (sheetOf (heldBy a)) f near) edge) (face far) ∙ sym
+            (appended-next edge (face far ∷ []) (recycled (sheetOf (heldBy a)) f near)))
 
-      pub split-holds : (r : Arrays) → Holds (appended (sheetOf (heldBy o)) (face (built numbers u places))) r
-          → Holds (faceCutAlong (sheetOf (heldBy a)) f c s1 c s2 (positionsAt script first k) (numbersRead script place moved)) r
-      split-holds r q = record { sheet = done (sheetOf (heldBy r)) (q .sheet); fits = q .fits; long = q .long; rows = q .rows }
+        pub split-holds : (r : Arrays) → Holds (appended (sheetOf (heldBy o)) (face (built numbers u places))) r
+            → Holds (faceCutAlong (sheetOf (heldBy a)) f c s1 c s2 (positionsAt script first k) (numbersRead script place moved)) r
+        split-holds r q = record { sheet = done (sheetOf (heldBy r)) (q .sheet); fits = q .fits; long = q .long; rows = q .rows }

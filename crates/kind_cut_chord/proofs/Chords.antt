@@ -36,7 +36,8 @@ use Rattle.kind_cut_round.proofs.Coming.{same-arrays}
 use Rattle.kind_cut_chord.specs.Chords.{ChordRoom}
 
 -- ---- the edge, where b have the cycles of the list
-module _ (a : Arrays) (row : ℕ) (s : Spans) (numbers : List ℕ) (u : Used) (places : List ℕ) (at : ℕ) (script : List ℕ) (v w k first : ℕ) (x : ChordRoom a row s numbers u places at script v w k first) (b : Arrays)
+module _ (a : Arrays) (row : ℕ) (s : Spans) (numbers : List ℕ) (u : Used) (places : List ℕ) (at : ℕ) (script : List ℕ) (v w k first : ℕ)
+    (x : ChordRoom a row s numbers u places at script v w k first) (b : Arrays)
     (q : ReplacedIn a row s (u .cycles) (u .steps) (built numbers u places) b) where
   abbrev bs : List Position
   bs = positionsAt script first k
@@ -45,7 +46,8 @@ module _ (a : Arrays) (row : ℕ) (s : Spans) (numbers : List ℕ) (u : Used) (p
   edge = openEdge v w (positionsAt script first k)
 
   pub chord-comes : Room (heldBy b) (openEdge v w (positionsAt script first k))
-  chord-comes = room-first (heldBy b) (held-sizes b (q .long)) (q .fits) edge (x .others) (subst (λ (t : Sheet). RoomIn t (edge ∷ x .others)) (sym (q .sheet)) (x .room))
+  chord-comes = room-first (heldBy b) (held-sizes b (q .long)) (q .fits) edge (x .others)
+      (subst (λ (t : Sheet). RoomIn t (edge ∷ x .others)) (sym (q .sheet)) (x .room))
 
   bends-are : at ≡ bendTotal (heldBy b)
   bends-are = x .inUse ∙ sym (ap (λ (t : Totals). t .bends) (q .sums)) ∙ bends-held b (q .long) (q .rows)
@@ -61,21 +63,25 @@ module _ (a : Arrays) (row : ℕ) (s : Spans) (numbers : List ℕ) (u : Used) (p
     long = placed-long b (q .long) bs k at (positions-length script first k) bends-are us vs p
 
     cycles-stay : cycleTotal (heldBy chorded) ≡ s .cycles .first + u .cycles + s .cycles .rest
-    cycles-stay = open-cycles (withPlaced b us vs) long v w k (chord-comes .cells) ∙ sym (cycles-held b (q .long) (q .rows)) ∙ ap (λ (t : Totals). t .cycles) (q .sums)
+    cycles-stay = open-cycles (withPlaced b us vs) long v w k (chord-comes .cells) ∙ sym (cycles-held b (q .long) (q .rows)) ∙ ap (λ (t : Totals). t .cycles)
+        (q .sums)
 
     steps-stay : stepTotal (heldBy chorded) ≡ s .steps .first + u .steps + s .steps .rest
     steps-stay =
         ap (λ (n : ℕ). widthSum (take n (b .cycles))) (open-cycles (withPlaced b us vs) long v w k (chord-comes .cells))
         ∙ sym (steps-held b (q .long) (q .rows)) ∙ ap (λ (t : Totals). t .steps) (q .sums)
 
-    pub chord-holds : (o : Arrays) → o .next ≡ chorded .next → o .count ≡ chorded .count → o .ids ≡ chorded .ids → o .kinds ≡ chorded .kinds → o .starts ≡ chorded .starts → o .ends ≡ chorded .ends
-        → o .bends ≡ chorded .bends → o .counts ≡ chorded .counts → o .px ≡ b .px → o .py ≡ b .py → o .cycles ≡ b .cycles → o .steps ≡ b .steps → o .bx ≡ us → o .by ≡ vs
+    pub chord-holds : (o : Arrays) → o .next ≡ chorded .next → o .count ≡ chorded .count → o .ids ≡ chorded .ids → o .kinds ≡ chorded .kinds → o .starts ≡
+        chorded .starts → o .ends ≡ chorded .ends
+        → o .bends ≡ chorded .bends → o .counts ≡ chorded .counts → o .px ≡ b .px → o .py ≡ b .py → o .cycles ≡ b .cycles → o .steps ≡ b .steps → o .bx ≡ us
+        → o .by ≡ vs
         → HoldsIn (appended (withRow (sheetOf (heldBy a)) row (face (built numbers u places))) (openEdge v w (positionsAt script first k)))
         (s .cycles .first + u .cycles + s .cycles .rest) (s .steps .first + u .steps + s .steps .rest) o
     chord-holds o e1 e2 e3 e4 e5 e6 e7 e8 e9 e10 e11 e12 e13 e14 =
         let g = open-grew b (q .long) bs k at (positions-length script first k) bends-are us vs p v w chord-comes in
         subst
-        (HoldsIn (appended (withRow (sheetOf (heldBy a)) row (face (built numbers u places))) edge) (s .cycles .first + u .cycles + s .cycles .rest) (s .steps .first + u .steps + s .steps .rest))
+        (HoldsIn (appended (withRow (sheetOf (heldBy a)) row (face (built numbers u places))) edge) (s .cycles .first + u .cycles + s .cycles .rest)
+        (s .steps .first + u .steps + s .steps .rest))
         (sym (same-arrays o chorded e1 e2 e3 e4 e5 e6 e7 e8 e9 e10 e11 e12 e13 e14))
         (record {
           holds =
@@ -90,14 +96,16 @@ module _ (a : Arrays) (row : ℕ) (s : Spans) (numbers : List ℕ) (u : Used) (p
         })
 
 -- ---- of a face whose list and whose edge are those of a cut
-module _ (a : Arrays) (t : Totals) (f : ℕ) (ks : List Cycle) (new : List Figure) (c : Cuts a t f ks new) (row : ℕ) (e : row ≡ rowOf f (take (a .count) (a .ids))) (numbers : List ℕ) (u : Used) (places : List ℕ)
+module _ (a : Arrays) (t : Totals) (f : ℕ) (ks : List Cycle) (new : List Figure) (c : Cuts a t f ks new) (row : ℕ)
+    (e : row ≡ rowOf f (take (a .count) (a .ids))) (numbers : List ℕ) (u : Used) (places : List ℕ)
     (ek : built numbers u places ≡ ks) where
   row-sheet : withRow (sheetOf (heldBy a)) row (face (built numbers u places)) ≡ recycled (sheetOf (heldBy a)) f ks
   row-sheet =
       replaced-with (heldBy a) (sizes-in a t f ks new c) (rowsBy a) f (c .named) numbers u places row e _ refl
       ∙ ap (recycled (sheetOf (heldBy a)) f) ek
 
-  pub chord-room : (s : Spans) → s ≡ spansOf (a .counts) (t .cells) row (a .cycles) → Building numbers u places → {script : List ℕ} {v w k first : ℕ} (x : Figure) (others : List Figure) → new ≡ x ∷ others
+  pub chord-room : (s : Spans) → s ≡ spansOf (a .counts) (t .cells) row (a .cycles) → Building numbers u places → {script : List ℕ} {v w k first : ℕ}
+      (x : Figure) (others : List Figure) → new ≡ x ∷ others
       → openEdge v w (positionsAt script first k) ≡ x → first + 16 * k ≤ length script → ChordRoom a row s numbers u places (t .bends) script v w k first
   chord-room s es b {script} {v} {w} {k} {first} x others en ex h =
       record {
@@ -111,5 +119,6 @@ module _ (a : Arrays) (t : Totals) (f : ℕ) (ks : List Cycle) (new : List Figur
       }
 
   -- the sheet with the edge
-  pub chord-sheet : (x y : Figure) → x ≡ y → (q : Sheet) → q ≡ appended (withRow (sheetOf (heldBy a)) row (face (built numbers u places))) x → q ≡ appended (recycled (sheetOf (heldBy a)) f ks) y
+  pub chord-sheet : (x y : Figure) → x ≡ y → (q : Sheet) → q ≡ appended (withRow (sheetOf (heldBy a)) row (face (built numbers u places))) x → q ≡ appended
+      (recycled (sheetOf (heldBy a)) f ks) y
   chord-sheet x y ex q eq = eq ∙ ap₂ appended row-sheet ex

@@ -43,11 +43,13 @@ cornerAsks a p k =
     (a .count ≤ 256) × ((length (a .ids) ≡ 256) × ((length (a .starts) ≡ 256) × ((length (a .ends) ≡ 256)
     × (Rising (take (a .count) (a .ids)) × ((length (a .steps) ≡ 2048) × ((p .at + width (p .m) ≤ 2048) × (k < width (p .m))))))))
 
-rows-ask : (a : Arrays) (p : Place) (k : ℕ) → Rows (rowsBy a) (a .count) × ((length (a .steps) ≡ 2048) × ((p .at + width (p .m) ≤ 2048) × (k < width (p .m)))) → cornerAsks a p k
+rows-ask : (a : Arrays) (p : Place) (k : ℕ) → Rows (rowsBy a) (a .count) ×
+    ((length (a .steps) ≡ 2048) × ((p .at + width (p .m) ≤ 2048) × (k < width (p .m)))) → cornerAsks a p k
 rows-ask a p k r = let w = r .0 in (w .few, (w .ids, (w .starts, (w .ends, (w .rising, r .1)))))
 
 module _ (a : Arrays) (t : Totals) (y : Ready a t) (script : List ℕ) (f : ℕ) (s : Spans) (c1 s1 c2 s2 k first moved place : ℕ)
-    (es : s ≡ spansOf (a .counts) (t .cells) (rowOf f (take (a .count) (a .ids))) (a .cycles)) (g : Along (heldBy a) (rowsBy a) script f c1 s1 c2 s2 k first moved place) where
+    (es : s ≡ spansOf (a .counts) (t .cells) (rowOf f (take (a .count) (a .ids))) (a .cycles))
+    (g : Along (heldBy a) (rowsBy a) script f c1 s1 c2 s2 k first moved place) where
   abbrev ks : List Cycle
   ks = cyclesOf (cellAt (sheetOf (heldBy a)) f)
 
@@ -62,22 +64,26 @@ module _ (a : Arrays) (t : Totals) (y : Ready a t) (script : List ℕ) (f : ℕ)
       spanned (heldBy a) sizes (rowsBy a) f (g .named) (rowOf f (take (a .count) (a .ids))) s refl
       (es ∙ ap (λ (n : ℕ). spansOf (a .counts) n (rowOf f (take (a .count) (a .ids))) (a .cycles)) (ready-cells a t y))
 
-  pub first-place : (length (a .cycles) ≡ 512) × ((s .cycles .first + c1 < 512) × (s .steps .first + widthSum (take c1 (drop (s .cycles .first) (a .cycles))) ≤ 2048))
+  pub first-place : (length (a .cycles) ≡ 512) × ((s .cycles .first + c1 < 512) ×
+      (s .steps .first + widthSum (take c1 (drop (s .cycles .first) (a .cycles))) ≤ 2048))
   first-place = place-asks sizes (g .sound) (g .named) span c1 (in-first g)
 
-  pub second-place : (length (a .cycles) ≡ 512) × ((s .cycles .first + c2 < 512) × (s .steps .first + widthSum (take c2 (drop (s .cycles .first) (a .cycles))) ≤ 2048))
+  pub second-place : (length (a .cycles) ≡ 512) × ((s .cycles .first + c2 < 512) ×
+      (s .steps .first + widthSum (take c2 (drop (s .cycles .first) (a .cycles))) ≤ 2048))
   second-place = place-asks sizes (g .sound) (g .named) span c2 (in-second g)
 
   module _ (p : Place) (e : p ≡ placeOf (a .cycles) s c1) where
     pub first-asks : cornerAsks a p s1
     first-asks = rows-ask a p s1 (vertex-asks sizes (g .sound) (g .named) span c1 (in-first g) s1 (at-first g) e)
 
-    pub first-vertex : (v : ℕ) → v ≡ vertexIn (a .ids) (a .starts) (a .ends) (a .count) (a .steps) p s1 → v ≡ corner (cellAt (sheetOf (heldBy a))) (getD ks c1 noCycle) s1
+    pub first-vertex : (v : ℕ) → v ≡ vertexIn (a .ids) (a .starts) (a .ends) (a .count) (a .steps) p s1 → v ≡ corner (cellAt (sheetOf (heldBy a)))
+        (getD ks c1 noCycle) s1
     first-vertex = vertex-is sizes (g .sound) (g .named) span c1 (in-first g) s1 (at-first g) e
 
   module _ (p : Place) (e : p ≡ placeOf (a .cycles) s c2) where
     pub second-asks : cornerAsks a p s2
     second-asks = rows-ask a p s2 (vertex-asks sizes (g .sound) (g .named) span c2 (in-second g) s2 (at-second g) e)
 
-    pub second-vertex : (v : ℕ) → v ≡ vertexIn (a .ids) (a .starts) (a .ends) (a .count) (a .steps) p s2 → v ≡ corner (cellAt (sheetOf (heldBy a))) (getD ks c2 noCycle) s2
+    pub second-vertex : (v : ℕ) → v ≡ vertexIn (a .ids) (a .starts) (a .ends) (a .count) (a .steps) p s2 → v ≡ corner (cellAt (sheetOf (heldBy a)))
+        (getD ks c2 noCycle) s2
     second-vertex = vertex-is sizes (g .sound) (g .named) span c2 (in-second g) s2 (at-second g) e

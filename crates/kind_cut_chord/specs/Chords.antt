@@ -1,4 +1,4 @@
--- A face of lent arrays cut along a new open edge: its corners and their vertices, and the edge with the cycles that it bounds. Definitions only.
+-- A face of lent arrays cut along a new open edge: the corners and their vertices, and room for the edge. Definitions only.
 use Prim.Native.Nat.{ℕ, _+_, _*_, _≤_}
 use mathlib.Core.Path.{_≡_}
 use mathlib.Core.Bool.{Bool, _&&_}

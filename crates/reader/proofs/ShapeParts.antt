@@ -16,7 +16,7 @@ use Rattle.store.specs.View.{bendCount, cycleCount}
 use Rattle.reader.specs.declared.Used.{Used}
 use Rattle.reader.specs.declared.Loaded.{Loaded}
 use Rattle.reader.specs.declared.Loaded.the-variants.{Next, Refused}
-use Rattle.reader.specs.Filling.{Added, spotsFrom, withBends, CyclesLoaded, PartsOver, PartsLoaded}
+use Rattle.reader.specs.Filling.{Added, spotsFrom, withBends, CyclesOver, CyclesLoaded, PartsOver, PartsLoaded}
 
 module _ (s : List ℕ) (first : ℕ) (x : Shape) (used : Used) where
   pub too-many-bends : (b : ℕ) → b ≡ bendCount x → 2048 < used .bends + b → PartsOver s first x used
@@ -24,6 +24,12 @@ module _ (s : List ℕ) (first : ℕ) (x : Shape) (used : Used) where
 
   pub too-few-bytes : (b : ℕ) → b ≡ bendCount x → first ≤ length s → length s < first + 16 * b → PartsOver s first x used
   too-few-bytes b e l h bs ks t u f g i j k = not-bad bs t (sym (positions-short s first (bendCount x) l (omega arith)) ∙ f)
+
+  -- where there is no room for the cycles after the bends, there is none for the parts
+  pub cycles-over : first + 16 * bendCount x ≤ length s → CyclesOver (times readCycle (cycleCount x) (drop (first + 16 * bendCount x) s)) (withBends used (bendCount x)) → PartsOver s first x used
+  cycles-over h over bs ks t u f g i j k =
+      let m : t ≡ drop (first + 16 * bendCount x) s = got-rest bs (positionsAt s first (bendCount x)) t (drop (first + 16 * bendCount x) s) (sym f ∙ positions-long s first (bendCount x) h) in
+      over ks u (ap (times readCycle (cycleCount x)) (sym m) ∙ g) j k
 
   module _ (spots counts steps spots′ counts′ steps′ : List ℕ) (r : Loaded) where
     abbrev Loads : ℕ → ℕ → Type 0
@@ -33,12 +39,7 @@ module _ (s : List ℕ) (first : ℕ) (x : Shape) (used : Used) where
 
   shape-loaded : (spots counts steps spots′ counts′ steps′ : List ℕ) (r : Loaded) → Loads spots counts steps spots′ counts′ steps′ r (bendCount x) (cycleCount x)
   shape-loaded spots counts steps spots′ counts′ steps′ (Next next used′) h a c = record { inside = h; spotted = a; filled = c }
-  shape-loaded spots counts steps spots′ counts′ steps′ Refused h a c = (
-    refl,
-    λ bs ks t u f g i j k.
-        let m : t ≡ drop (first + 16 * bendCount x) s = got-rest bs (positionsAt s first (bendCount x)) t (drop (first + 16 * bendCount x) s) (sym f ∙ positions-long s first (bendCount x) h) in
-        c .1 ks u (ap (times readCycle (cycleCount x)) (sym m) ∙ g) j k,
-  )
+  shape-loaded spots counts steps spots′ counts′ steps′ Refused h a c = (refl, cycles-over h (c .1))
 
   pub parts-loaded : (spots counts steps spots′ counts′ steps′ : List ℕ) (r : Loaded) (b k : ℕ) → b ≡ bendCount x → k ≡ cycleCount x → Loads spots counts steps spots′ counts′ steps′ r b k
   parts-loaded spots counts steps spots′ counts′ steps′ r b k e f =

@@ -87,7 +87,7 @@ sound-room s t =
     (record { bends = omega (arith, all-bends cs); cycles = omega (arith, all-cycles cs); steps = omega (arith, all-steps cs) }, leb→le (length cs) cellsMost (a .0))
 
 -- ---- refused
-abbrev accepted : Sheet → Judgement
+abbrev pub accepted : Sheet → Judgement
 accepted x = record { number = 0; sheet = x }
 
 refused-if : (q : Read Sheet) → ((x : Sheet) → q ≡ got x [] → T (sound x) → ⊥) → judged q ≡ refused

@@ -39,7 +39,7 @@ enum ShapeFound {
 }
 
 // A cell and the place after its counts, or no cell.
-enum CellFound {
+pub enum CellFound {
     Begun(Cell, usize),
     NoCell,
 }
@@ -51,15 +51,15 @@ enum Put {
 }
 
 // How many places of each array are in use.
-struct Used {
-    bends: usize,
-    cycles: usize,
-    steps: usize,
+pub struct Used {
+    pub bends: usize,
+    pub cycles: usize,
+    pub steps: usize,
 }
 
 // The place after what was read and what is in use with it, or it is nothing that a sound drawing's
 // file has there.
-enum Loaded {
+pub enum Loaded {
     Next(usize, Used),
     Refused,
 }
@@ -119,7 +119,7 @@ fn shape_at(s: &[u8], at: usize, kind: u32) -> ShapeFound
 }
 
 // A cell up to its bends or cycles.
-fn head_at(s: &[u8], at: usize) -> CellFound
+pub fn head_at(s: &[u8], at: usize) -> CellFound
     ensures { λ r. ⌜ HeadRead (now (s .entry)) at r ⌝ }
 {
     let Number::Value(id, a) = number::read_number(s, at) else {
@@ -186,7 +186,7 @@ fn load_cycle(s: &[u8], at: usize, cycles: &mut [u32], steps: &mut [u32], used: 
 }
 
 // The n cycles from a place on.
-fn load_cycles(
+pub fn load_cycles(
     s: &[u8],
     at: usize,
     n: usize,

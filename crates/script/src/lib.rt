@@ -1,5 +1,3 @@
-// Walks along the lists that a command leaves in its script: the moved cycles of a cut, and the
-// cycles of a face.
 ghost use mathlib.Core.Path.{_≡_};
 ghost use mathlib.Core.Bool.{true};
 ghost use mathlib.Core.List.{map};
@@ -12,11 +10,12 @@ ghost use Rattle.complex.specs.Lists.{total, holds, places};
 ghost use Rattle.complex.specs.Sound.{stepCount};
 ghost use Rattle.complex.specs.Decode.{readCycle};
 ghost use Rattle.store.specs.Places.{numOf, stepsIn};
-ghost use Rattle.store.specs.Pools.{Held};
 ghost use Rattle.command.specs.Lists.{numbersRead, cyclesRead, Stand};
 ghost use Rattle.script.specs.Walks.{below, Marks, Copied, Room, Loaded};
 use command::Skip;
 use number::Number;
+// Walks along the lists that a command leaves in its script: the moved cycles of a cut, and the
+// cycles of a face.
 
 // ---- moved cycles
 
@@ -188,23 +187,4 @@ pub fn put_cycles(
         left -= 1;
     }
     used
-}
-
-// The cycles of a face go to the front of lent arrays; the count of steps comes back.
-pub fn load_cycles(
-    script: &[u8],
-    first: usize,
-    count: u32,
-    counts: &mut [u32; 512],
-    steps: &mut [u32; 2048],
-) -> usize
-    requires { ⌜ Room (now script) first count (now counts) 0 (now steps) 0 ⌝ }
-    requires { ⌜ length (now counts) ≡ 512 ⌝ }
-    requires { ⌜ length (now steps) ≡ 2048 ⌝ }
-    ensures { λ r. ⌜ r ≡ total stepCount (cyclesRead (now (script .entry)) first count) ⌝ }
-    ensures { λ r. ⌜ Held (cyclesRead (now (script .entry)) first count) (now (counts .exit)) count (now (steps .exit)) r ⌝ }
-    ensures { λ _. ⌜ length (now (counts .exit)) ≡ 512 ⌝ }
-    ensures { λ _. ⌜ length (now (steps .exit)) ≡ 2048 ⌝ }
-{
-    put_cycles(script, first, count, counts, 0, steps, 0)
 }

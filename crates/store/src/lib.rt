@@ -3,7 +3,7 @@ ghost use Prim.Native.Nat.{_+_, _<_, _≤_};
 ghost use lib.ListN.{take, length, replicate};
 ghost use lib.Seq.{paste};
 ghost use Rattle.complex.specs.Lists.{total};
-ghost use Rattle.store.specs.View.{Fits, bendCount, cycleCount, bendSum, cycleSum, bendTotal, cycleTotal};
+ghost use Rattle.store.specs.View.{bendCount, cycleCount};
 ghost use Rattle.store.specs.Index.{kindOf, startOf, endOf, CellRows, Indexes, Rising, rowOf, valueAt};
 ghost use Rattle.store.specs.Edits.{placesOf, spreadFlags};
 use coordinate::Position;
@@ -53,33 +53,6 @@ pub fn wide(x: u32) -> usize
     ensures { λ r. ⌜ r ≡ x ⌝ }
 {
     x as usize
-}
-
-// The bends of the first n cells.
-fn bend_sum(cells: [Cell; 256], n: usize) -> usize
-    requires { ⌜ n ≤ 256 ⌝ }
-    requires { ⌜ bendSum (take n cells) ≤ 2048 ⌝ }
-    ensures { λ r. ⌜ r ≡ bendSum (take n cells) ⌝ }
-{
-    let mut sum: usize = 0;
-    let mut i: usize = 0;
-    while i < n {
-        let c = cells[i];
-        let s = c.shape;
-        let k = wide(bend_count(s));
-        sum = sum + k;
-        i = i + 1;
-    }
-    sum
-}
-
-// The places of `bends` that are in use.
-pub fn bend_total(d: Drawing) -> usize
-    requires { ⌜ Fits d ⌝ }
-    ensures { λ r. ⌜ r ≡ bendTotal d ⌝ }
-{
-    let cells = d.cells;
-    bend_sum(cells, d.count)
 }
 
 // How many cycles a cell has.
@@ -190,33 +163,6 @@ pub fn spread_flags(flags: &[bool], counts: &[u32], n: usize, z: usize, out: &mu
         i = i + 1;
     }
     at
-}
-
-// The cycles of the first n cells.
-fn cycle_sum(cells: [Cell; 256], n: usize) -> usize
-    requires { ⌜ n ≤ 256 ⌝ }
-    requires { ⌜ cycleSum (take n cells) ≤ 512 ⌝ }
-    ensures { λ r. ⌜ r ≡ cycleSum (take n cells) ⌝ }
-{
-    let mut sum: usize = 0;
-    let mut i: usize = 0;
-    while i < n {
-        let c = cells[i];
-        let s = c.shape;
-        let k = wide(cycle_count(s));
-        sum = sum + k;
-        i = i + 1;
-    }
-    sum
-}
-
-// The cycles that are in use.
-pub fn cycle_total(d: Drawing) -> usize
-    requires { ⌜ Fits d ⌝ }
-    ensures { λ r. ⌜ r ≡ cycleTotal d ⌝ }
-{
-    let cells = d.cells;
-    cycle_sum(cells, d.count)
 }
 
 // The row of an id among the first n, which rise; n if it is not there.

@@ -1,22 +1,10 @@
 ghost use mathlib.Core.Path.{_≡_};
 ghost use Prim.Native.Nat.{_+_, _<_, _≤_};
-ghost use lib.Dec.{T};
 ghost use lib.ListN.{length, take, drop};
-ghost use Rattle.complex.specs.Lists.{one, without};
-ghost use Rattle.complex.specs.Decode.{uncut};
-ghost use Rattle.complex.specs.Uncut.{isLone, lonely, uncutCase, uncutResult};
-ghost use Rattle.store.specs.Index.{Indexes};
-ghost use Rattle.store.specs.View.{width, widthSum, cycleOf, cyclesOf, sheetOf, Fits};
-ghost use Rattle.sound.specs.Soundness.{soundDrawing};
-ghost use Rattle.cycles.specs.Building.{Built};
-ghost use Rattle.answer.specs.Answers.{Answers};
-ghost use Rattle.outline.specs.Faces.{Within, cyclesAt};
+ghost use Rattle.complex.specs.Lists.{one};
+ghost use Rattle.complex.specs.Uncut.{isLone};
+ghost use Rattle.store.specs.View.{width, widthSum, cycleOf, cyclesOf};
 ghost use Rattle.uncut_lone.specs.Lone.{lonePlace, holding};
-use answer::Answer;
-use cycles::Spans;
-use outline::Listed;
-use store::Drawing;
-use store::Index;
 
 // The row of a cell, and the place of one of its cycles.
 pub struct Held {
@@ -80,61 +68,4 @@ pub fn row_holding(counts: &[u32; 256], n: usize, j: usize) -> Held
         row: i,
         place: place,
     }
-}
-
-// The cycles of a span but cycle c.
-fn all_but<'a>(cycles: &'a [u32; 512], steps: &'a [u32; 2048], t: Spans, c: usize) -> Listed
-    requires { ⌜ Within (now cycles) (now steps) t ⌝ }
-    requires { ⌜ c < t .cycles .count ⌝ }
-    ensures { λ r. ⌜ Built (without (one c) 0 (cyclesAt (now (cycles .entry)) (now (steps .entry)) t)) (r .counts) (r .used) (r .steps) ⌝ }
-{
-    let mut skip = [false; 512];
-    skip[c] = true;
-    let k = t.cycles;
-    let s = t.steps;
-    outline::and_cycles(
-        cycles,
-        steps,
-        k.first,
-        k.count,
-        s.first,
-        &skip,
-        outline::no_cycles(),
-    )
-}
-
-// The drawing without the vertex v and its lone cycle.
-fn without_lone(d: Drawing, ix: Index, v: u32) -> Drawing
-    requires { ⌜ T (soundDrawing d) ⌝ }
-    requires { ⌜ Indexes d ix ⌝ }
-    requires { ⌜ uncutCase (sheetOf d) v ≡ lonely ⌝ }
-    ensures { λ r. ⌜ sheetOf r ≡ uncutResult (sheetOf d) v lonely ⌝ }
-    ensures { λ r. ⌜ Fits r ⌝ }
-{
-    let cy = d.cycles;
-    let st = d.steps;
-    let n = d.count;
-    let ids = ix.ids;
-    let counts = ix.cycles;
-    let m = cycles::place_sum(0, &counts, 0, n);
-    let j = lone_place(&cy, m, &st, v);
-    let h = row_holding(&counts, n, j);
-    let row = h.row;
-    let f = ids[row];
-    let t = outline::face_spans(&cy, n, ix, f);
-    let l = all_but(&cy, &st, t, h.place);
-    let a = store::find(&ids, n, v);
-    reface::reface(d, v, a, v, a, f, l)
-}
-
-// 0E, a vertex with no edge end and one lone cycle.
-pub fn lonely(d: Drawing, v: u32) -> Answer
-    requires { ⌜ T (soundDrawing d) ⌝ }
-    requires { ⌜ uncutCase (sheetOf d) v ≡ lonely ⌝ }
-    ensures { λ r. ⌜ Answers d (uncut v) r ⌝ }
-{
-    let ix = store::index_of(d);
-    let n = d.count;
-    let next = d.next;
-    answer::done(next, n, without_lone(d, ix, v))
 }

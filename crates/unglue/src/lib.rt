@@ -2,40 +2,18 @@ ghost use mathlib.Core.Path.{_≡_};
 ghost use Prim.Native.Nat.{_+_, _*_, _≤_, _<_};
 ghost use mathlib.Core.Bool.{false, _&&_};
 ghost use mathlib.Core.List.{map};
-ghost use lib.Dec.{T};
 ghost use lib.ListN.{length, take, getD};
-ghost use Rattle.complex.specs.Lists.{one, total};
-ghost use Rattle.complex.specs.Cells.{cellAt, stepsOf, isVertex};
-ghost use Rattle.complex.specs.Decode.{unglue as ungluing};
+ghost use Rattle.complex.specs.Lists.{one};
+ghost use Rattle.complex.specs.Cells.{stepsOf};
 ghost use Rattle.complex.specs.Uses.{passage, passages};
-ghost use Rattle.complex.specs.Unglue.{ungluing as ungluingOf};
 ghost use Rattle.answer.specs.Sizes.{sized, nothing, moreLess, changedBy};
-ghost use Rattle.store.specs.View.{sheetOf, Fits, halfedgeOf, width, widthSum, cycleOf, cyclesOf, cycleTotal};
-ghost use Rattle.complex.specs.Edits.{reshape};
+ghost use Rattle.store.specs.View.{halfedgeOf, width, widthSum, cycleOf, cyclesOf};
 ghost use Rattle.complex.specs.Sound.{idsEnd, bendsMost};
-ghost use Rattle.store.specs.Index.{rowOf, Indexes};
-ghost use Rattle.store.specs.Edits.{withEntries};
-ghost use Rattle.sound.specs.Soundness.{soundDrawing};
-ghost use Rattle.answer.specs.Answers.{Answers};
+ghost use Rattle.store.specs.Index.{rowOf};
 ghost use Rattle.answer.specs.Late.{sizesBy, lateNo, Small};
-ghost use Rattle.copies.specs.Copying.{usesIn};
-ghost use Rattle.unglue.specs.Unglues.{hasUses};
 ghost use Rattle.unglue.specs.Search.{differs as differ, Links, FirstSplit, Reached, Ready, Sorting};
-ghost use Rattle.unglue.specs.Places.{Rows, turnsOf, Paired, Put, nextStep, endMark, EndMarks, endOf, EndRows, NewEnds, GroupedEnds, Fresh};
-use answer::Answer;
+ghost use Rattle.unglue.specs.Places.{Rows, turnsOf, Paired, Put, nextStep, endMark, EndMarks, endOf, EndRows, NewEnds};
 use answer::Totals;
-use copies::Use;
-use store::Drawing;
-use store::Index;
-
-// How often m cycles use the cell i.
-fn count_all<'a>(u: Use, cycles: &'a [u32; 512], m: usize, steps: &'a [u32; 2048], i: u32) -> usize
-    requires { ⌜ m ≤ length (now cycles) ⌝ }
-    requires { ⌜ widthSum (take m (now cycles)) ≤ length (now steps) ⌝ }
-    ensures { λ r. ⌜ r ≡ total (usesIn u i) (cyclesOf (take m (now (cycles .entry))) (now (steps .entry))) ⌝ }
-{
-    copies::count_uses(u, cycles, m, steps, i)
-}
 
 // Questions 7 and 8, of n new copies of a cell with b bends.
 pub fn late_copies(next: u32, t: Totals, b: usize, n: usize) -> u32
@@ -58,34 +36,6 @@ pub fn late_copies(next: u32, t: Totals, b: usize, n: usize) -> u32
         bends: 0,
     };
     answer::late_no(next, n, t, more, less)
-}
-
-// 09, of an open edge by its steps or of a closed edge by its cycles
-pub fn unglue_edge(u: Use, d: Drawing, ix: Index, e: u32) -> Answer
-    requires { ⌜ T (soundDrawing d) ⌝ }
-    requires { ⌜ Indexes d ix ⌝ }
-    requires { ⌜ T (hasUses u (cellAt (sheetOf d) e)) ⌝ }
-    ensures { λ r. ⌜ Answers d (ungluing e) r ⌝ }
-{
-    let n = d.count;
-    let next = d.next;
-    let cy = d.cycles;
-    let st = d.steps;
-    let t = answer::totals_of(&ix.bends, &ix.cycles, n, &cy);
-    let parts = count_all(u, &cy, t.cycles, &st, e);
-    if parts < 2 {
-        return answer::refused(d, 6);
-    }
-    let ids = ix.ids;
-    let bends = ix.bends;
-    let b = store::wide(store::value_at(0, &ids, &bends, n, e));
-    let no = late_copies(next, t, b, parts - 1);
-    if no != 0 {
-        return answer::refused(d, no);
-    }
-    let row = store::find(&ids, n, e);
-    let mid = copies::copy_uses(u, d, e, next, 0);
-    answer::done(next, n, append::append_copies(mid, row, parts - 1))
 }
 
 // Whether one of two numbers is g and the other not.
@@ -387,100 +337,4 @@ pub fn new_ends(
         ends[j] = new_end(at[p], groups[p], ends[j], v, next);
         j = j + 1;
     }
-}
-
-// The groups of the ends at vertex v, and how many there are.
-fn group_ends(d: Drawing, ix: Index, m: usize, v: u32, at: &mut [bool], groups: &mut [u32]) -> u32
-    requires { ⌜ T (soundDrawing d) ⌝ }
-    requires { ⌜ T (isVertex (cellAt (sheetOf d) v)) ⌝ }
-    requires { ⌜ Indexes d ix ⌝ }
-    requires { ⌜ m ≡ cycleTotal d ⌝ }
-    requires { ⌜ Fresh (now at) (now groups) ⌝ }
-    ensures { λ r. ⌜ GroupedEnds d ix v r (now (at .exit)) (now (groups .exit)) ⌝ }
-    ensures { λ r. ⌜ r ≤ 512 ⌝ }
-{
-    let n = d.count;
-    let kinds = ix.kinds;
-    let starts = ix.starts;
-    let ends = ix.ends;
-    mark_ends(&kinds, &starts, &ends, n, v, at);
-    let ids = ix.ids;
-    let cy = d.cycles;
-    let st = d.steps;
-    let mut xs = [0u32; 2048];
-    let mut ys = [0u32; 2048];
-    let k = find_links(&ids, n, at, &cy, m, &st, &mut xs, &mut ys);
-    find_groups(groups, at, &xs, &ys, k)
-}
-
-// The ends at v and the lone cycles of v become its copies.
-fn part_ends(d: Drawing, ix: Index, v: u32, g: u32, at: &[bool], groups: &[u32]) -> Drawing
-    requires { ⌜ T (soundDrawing d) ⌝ }
-    requires { ⌜ T (isVertex (cellAt (sheetOf d) v)) ⌝ }
-    requires { ⌜ Indexes d ix ⌝ }
-    requires { ⌜ GroupedEnds d ix v g (now at) (now groups) ⌝ }
-    requires { ⌜ (g ≤ 512) × (length (now at) ≡ 512) × (length (now groups) ≡ 512) ⌝ }
-    ensures { λ r. ⌜ sheetOf r ≡ withEntries (sheetOf d) (reshape (ungluingOf (sheetOf d) v (cellAt (sheetOf d) v)) (sheetOf d .cells)) ⌝ }
-    ensures { λ r. ⌜ Fits r ⌝ }
-{
-    let n = d.count;
-    let next = d.next;
-    let mut starts = ix.starts;
-    let mut ends = ix.ends;
-    new_ends(0, at, groups, n, v, next, &mut starts);
-    new_ends(1, at, groups, n, v, next, &mut ends);
-    let mid = rewire::set_ends(d, &starts, &ends);
-    copies::copy_uses(Use::Lone, mid, v, next, store::wide(g))
-}
-
-// 09, of a vertex by the groups of its ends and its lone cycles
-fn unglue_vertex(d: Drawing, ix: Index, v: u32) -> Answer
-    requires { ⌜ T (soundDrawing d) ⌝ }
-    requires { ⌜ Indexes d ix ⌝ }
-    requires { ⌜ T (isVertex (cellAt (sheetOf d) v)) ⌝ }
-    ensures { λ r. ⌜ Answers d (ungluing v) r ⌝ }
-{
-    let n = d.count;
-    let next = d.next;
-    let cy = d.cycles;
-    let st = d.steps;
-    let t = answer::totals_of(&ix.bends, &ix.cycles, n, &cy);
-    let mut at = [false; 512];
-    let mut groups = [0u32; 512];
-    let g = group_ends(d, ix, t.cycles, v, &mut at, &mut groups);
-    let lone = count_all(Use::Lone, &cy, t.cycles, &st, v);
-    let parts = store::wide(g) + lone;
-    if parts < 2 {
-        return answer::refused(d, 6);
-    }
-    let no = late_copies(next, t, 0, parts - 1);
-    if no != 0 {
-        return answer::refused(d, no);
-    }
-    let ids = ix.ids;
-    let row = store::find(&ids, n, v);
-    let mid = part_ends(d, ix, v, g, &at, &groups);
-    answer::done(next, n, append::append_copies(mid, row, parts - 1))
-}
-
-// 09
-pub fn unglue(d: Drawing, i: u32) -> Answer
-    requires { ⌜ T (soundDrawing d) ⌝ }
-    ensures { λ r. ⌜ Answers d (ungluing i) r ⌝ }
-{
-    let ix = store::index_of(d);
-    let n = d.count;
-    let ids = ix.ids;
-    let kinds = ix.kinds;
-    let k = store::value_at(4, &ids, &kinds, n, i);
-    if k == 0 {
-        return unglue_vertex(d, ix, i);
-    }
-    if k == 1 {
-        return unglue_edge(Use::Step, d, ix, i);
-    }
-    if k == 2 {
-        return unglue_edge(Use::Ring, d, ix, i);
-    }
-    answer::refused(d, 4)
 }

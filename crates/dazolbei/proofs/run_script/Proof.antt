@@ -9,13 +9,14 @@ use lib.ListN.{length, take, drop}
 use Rattle.store.specs.View.{sheetOf}
 use Rattle.store.proofs.Lists.{all-left}
 use Rattle.command.proofs.Laws.{begins, unread}
-use Rattle.dazolbei.specs.Runs.{lineWidth}
-use Rattle.dazolbei.proofs.Going.{Going, start, same-size, line-room, left-fits, ahead-fits, turn, reached-end, reached-unread}
+use Rattle.entry_run.specs.Told.{lineWidth}
+use Rattle.entry_run.proofs.Going.{same-size, line-room, left-fits, ahead-fits}
+use Rattle.dazolbei.proofs.Going.{Come, come-start, come-turn, reached-end, reached-unread}
 use Rattle.dazolbei.proofs.run_script.Statement.{statement}
 use Rattle.dazolbei.proofs.run_script.Tie as tie
 
 abbrev Inv-loop : tie.InvT-loop
-Inv-loop script lines₀ d₀ at₀ commands₀ lines d at commands = Going d₀ script lines₀ lines d at commands
+Inv-loop script lines₀ d₀ at₀ commands₀ lines d at commands = Come d₀ script lines₀ lines d at commands
 
 abbrev μ-loop : tie.MeasureT-loop
 μ-loop script lines₀ d₀ at₀ commands₀ lines d at commands = length script - at
@@ -29,12 +30,12 @@ left-is i = all-left (i .before .loop .at) (text i)
 
 -- the commands so far are fewer than the script's bytes, whose length is a u32
 small : (i : tie.In-loop Inv-loop μ-loop) → i .before .loop .commands + 1 < 4294967297
-small i = let f = i .before .loop .inv .few in let t = i .loop-test .taken in let g = i .before .before .before .before .pre .1 .0 in omega arith
+small i = let f = i .before .loop .inv .going .few in let t = i .loop-test .taken in let g = i .before .before .before .before .pre .1 .0 in omega arith
 
 loop-holds : tie.Need-loop-holds Inv-loop μ-loop
 loop-holds c =
     let s = c .before .before in
-    start (now (s .args .script)) (now (s .args .lines)) (s .args .start) (s .pre .0)
+    come-start (now (s .args .script)) (now (s .args .lines)) (s .args .start) (s .pre .0)
 
 sub-left : tie.Need-sub-left Inv-loop μ-loop
 sub-left c = omega arith
@@ -57,7 +58,7 @@ enum-told c = search needs
 cast-put-line : tie.Need-cast-put-line Inv-loop μ-loop
 cast-put-line c =
     let i = c .before .before .before .before in
-    let h = left-fits (i .before .loop .inv) (i .loop-test .taken) (left-is i) in
+    let h = left-fits (text i) (i .before .loop .at) (i .loop-test .taken) (left-is i) in
     let g = i .before .before .before .before .pre .1 .0 in
     record { fits = omega arith }
 
@@ -69,7 +70,7 @@ mul-put-line c =
 put-line-requires : tie.Need-put-line-requires Inv-loop μ-loop
 put-line-requires c κs =
     let i = c .before .before .before .before .before in
-    line-room (i .before .loop .inv) (i .loop-test .taken) (i .before .before .before .before .pre .1 .1)
+    line-room (i .before .loop .inv .going) (i .loop-test .taken) (i .before .before .before .before .pre .1 .1)
 
 add-t17 : tie.Need-add-t17 Inv-loop μ-loop
 add-t17 c =
@@ -79,7 +80,7 @@ add-t17 c =
 same-length : tie.Need-same-length Inv-loop μ-loop
 same-length c =
     let p = c .before .before in
-    p .put-line .kept .1 .1 .1 .1 .1 .0 ∙ same-size (p .before .before .before .before .before .before .before .loop .inv)
+    p .put-line .kept .1 .1 .1 .1 .1 .0 ∙ same-size (p .before .before .before .before .before .before .before .loop .inv .going)
 
 returns : tie.Need-returns Inv-loop μ-loop
 returns c =
@@ -99,7 +100,8 @@ add-at c =
     let w = c .before .before in
     let k = w .before .before in
     let i = k .before .before in
-    let h = ahead-fits (i .before .loop .inv) (i .loop-test .taken) (left-is i) (begins (k .decode .ensures .0) (k .decode .ensures .1) (w .c .given .1)) in
+    let b = begins (k .decode .ensures .0) (k .decode .ensures .1) (w .c .given .1) in
+    let h = ahead-fits (text i) (i .before .loop .at) (i .loop-test .taken) (left-is i) b in
     let g = i .before .before .before .before .pre .1 .0 in
     record { fits = omega arith }
 
@@ -108,7 +110,8 @@ sub-put-line c =
     let w = c .before .before in
     let k = w .before .before in
     let i = k .before .before in
-    let h = ahead-fits (i .before .loop .inv) (i .loop-test .taken) (left-is i) (begins (k .decode .ensures .0) (k .decode .ensures .1) (w .c .given .1)) in
+    let b = begins (k .decode .ensures .0) (k .decode .ensures .1) (w .c .given .1) in
+    let h = ahead-fits (text i) (i .before .loop .at) (i .loop-test .taken) (left-is i) b in
     let g = i .before .before .before .before .pre .1 .0 in
     omega arith
 
@@ -117,7 +120,8 @@ cast-put-line-2 c =
     let w = c .before .before in
     let k = w .before .before in
     let i = k .before .before in
-    let h = ahead-fits (i .before .loop .inv) (i .loop-test .taken) (left-is i) (begins (k .decode .ensures .0) (k .decode .ensures .1) (w .c .given .1)) in
+    let b = begins (k .decode .ensures .0) (k .decode .ensures .1) (w .c .given .1) in
+    let h = ahead-fits (text i) (i .before .loop .at) (i .loop-test .taken) (left-is i) b in
     let g = i .before .before .before .before .pre .1 .0 in
     record { fits = omega arith }
 
@@ -129,7 +133,7 @@ mul-put-line-2 c =
 put-line-requires-2 : tie.Need-put-line-requires-2 Inv-loop μ-loop
 put-line-requires-2 c κs =
     let i = c .before .before .before .before .before .before .before in
-    line-room (i .before .loop .inv) (i .loop-test .taken) (i .before .before .before .before .pre .1 .1)
+    line-room (i .before .loop .inv .going) (i .loop-test .taken) (i .before .before .before .before .pre .1 .1)
 
 add-commands : tie.Need-add-commands Inv-loop μ-loop
 add-commands c =
@@ -142,7 +146,7 @@ loop-less c =
     let k = w .before .before in
     let i = k .before .before in
     let b = begins (k .decode .ensures .0) (k .decode .ensures .1) (w .c .given .1) in
-    let h = ahead-fits (i .before .loop .inv) (i .loop-test .taken) (left-is i) b in
+    let h = ahead-fits (text i) (i .before .loop .at) (i .loop-test .taken) (left-is i) b in
     let o = b .some in
     omega (arith, i .loop-test)
 
@@ -154,11 +158,11 @@ loop-again c =
     let k = w .before .before in
     let i = k .before .before in
     let b = begins (k .decode .ensures .0) (k .decode .ensures .1) (w .c .given .1) in
-    turn (i .before .loop .inv) (i .loop-test .taken) (left-is i) b (o .obey .result) (o .obey .ensures) _ (p .put-line2 .ensures)
+    come-turn (i .before .loop .inv) (i .loop-test .taken) (left-is i) b (o .obey .result) (o .obey .ensures) _ (p .put-line2 .ensures)
 
 same-length-2 : tie.Need-same-length-2 Inv-loop μ-loop
 same-length-2 c =
-    same-size (c .before .loop .inv)
+    same-size (c .before .loop .inv .going)
 
 returns-2 : tie.Need-returns-2 Inv-loop μ-loop
 returns-2 c =

@@ -17,7 +17,8 @@ use Rattle.kind_cut_along.proofs.cut_two_cycles.Tie as tie
 abbrev arrays : (c : tie.Start) → Arrays
 arrays c =
     let a = c .args in
-    lent (now (a .next)) (now (a .count)) (a .ids) (a .kinds) (a .starts) (a .ends) (a .bends) (a .counts) (a .px) (a .py) (a .cycles) (a .steps) (a .bx) (a .by)
+    lent (now (a .next)) (now (a .count)) (a .ids) (a .kinds) (a .starts) (a .ends) (a .bends) (a .counts) (a .px) (a .py) (a .cycles) (a .steps) (a .bx)
+    (a .by)
 
 wide-requires : tie.Need-wide-requires
 wide-requires c κs = search needs
@@ -25,9 +26,11 @@ wide-requires c κs = search needs
 bridge-less-requires : tie.Need-bridge-less-requires
 bridge-less-requires c κs =
     let s = c .before .before .before .before in
-    let x = ends.first-place (arrays s) (s .args .t) (s .pre .0 .ready) (now (s .args .script)) (s .args .f) (s .args .spans) (s .args .c1) (s .args .s1) (s .args .c2) (s .args .s2)
+    let x = ends.first-place (arrays s) (s .args .t) (s .pre .0 .ready) (now (s .args .script)) (s .args .f) (s .args .spans) (s .args .c1) (s .args .s1)
+    (s .args .c2) (s .args .s2)
     (s .args .k) (s .args .first) (s .args .moved) (s .args .place) (s .pre .0 .spans) (s .pre .0 .along) in
-    let y = ends.second-place (arrays s) (s .args .t) (s .pre .0 .ready) (now (s .args .script)) (s .args .f) (s .args .spans) (s .args .c1) (s .args .s1) (s .args .c2) (s .args .s2)
+    let y = ends.second-place (arrays s) (s .args .t) (s .pre .0 .ready) (now (s .args .script)) (s .args .f) (s .args .spans) (s .args .c1) (s .args .s1)
+    (s .args .c2) (s .args .s2)
     (s .args .k) (s .args .first) (s .args .moved) (s .args .place) (s .pre .0 .spans) (s .pre .0 .along) in
     (x .1 .0, y .1 .0)
 
@@ -60,28 +63,34 @@ returns c =
     let s = c .before .before .before .before .before .before .before .before in
     two-refused (arrays s) (s .args .t) (now (s .args .script)) (s .args .f) (s .args .spans) (s .args .c1) (s .args .s1) (s .args .c2) (s .args .s2)
     (s .args .k) (s .args .first) (s .args .moved) (s .args .place) (s .pre .0) (s .pre .1)
-    (v .wide .result) (v .wide .ensures) (o .bridge-less .result) (o .bridge-less .ensures) (l .late-no .result) (l .late-no .ensures) (c .before .if1 .taken) _ (c .line-of .ensures)
+    (v .wide .result) (v .wide .ensures) (o .bridge-less .result) (o .bridge-less .ensures) (l .late-no .result) (l .late-no .ensures)
+    (c .before .if1 .taken) _ (c .line-of .ensures)
 
 bridge-cycles-requires : tie.Need-bridge-cycles-requires
 bridge-cycles-requires c κs =
     let l = c .before .before .before .before .before .before .before .before .before .before .before .before .before in
     let o = c .before .before .before .before .before .before .before .before .before .before .before .before .before .before in
     let v = c .before .before .before .before .before .before .before .before .before .before .before .before .before .before .before .before in
-    let s = c .before .before .before .before .before .before .before .before .before .before .before .before .before .before .before .before .before .before .before in
+    let s = c .before .before .before .before .before .before .before .before .before .before .before .before .before .before .before .before .before .before
+    .before in
     two-bridges (arrays s) (s .args .t) (now (s .args .script)) (s .args .f) (s .args .spans) (s .args .c1) (s .args .s1) (s .args .c2) (s .args .s2)
     (s .args .k) (s .args .first) (s .args .moved) (s .args .place) (s .pre .0) (s .pre .1)
-    (v .wide .result) (v .wide .ensures) (o .bridge-less .result) (o .bridge-less .ensures) (l .late-no .result) (l .late-no .ensures) (c .before .before .before .before .before .before .before .before .before .before .before .before .if1 .left)
+    (v .wide .result) (v .wide .ensures) (o .bridge-less .result) (o .bridge-less .ensures) (l .late-no .result) (l .late-no .ensures)
+    (c .before .before .before .before .before .before .before .before .before .before .before .before .if1 .left)
 
 returns-2 : tie.Need-returns-2
 returns-2 c =
     let l = c .before .before .before .before .before .before .before .before .before .before .before .before .before .before in
     let o = c .before .before .before .before .before .before .before .before .before .before .before .before .before .before .before in
     let v = c .before .before .before .before .before .before .before .before .before .before .before .before .before .before .before .before .before in
-    let s = c .before .before .before .before .before .before .before .before .before .before .before .before .before .before .before .before .before .before .before .before in
+    let s = c .before .before .before .before .before .before .before .before .before .before .before .before .before .before .before .before .before .before
+    .before .before in
     let g = c .bridge-cycles .ensures in
     two-obeyed (arrays s) (s .args .t) (now (s .args .script)) (s .args .f) (s .args .spans) (s .args .c1) (s .args .s1) (s .args .c2) (s .args .s2)
     (s .args .k) (s .args .first) (s .args .moved) (s .args .place) (s .pre .0) (s .pre .1)
-    (v .wide .result) (v .wide .ensures) (o .bridge-less .result) (o .bridge-less .ensures) (l .late-no .result) (l .late-no .ensures) (c .before .before .before .before .before .before .before .before .before .before .before .before .before .if1 .left) _ (g .0) (g .1 .0) (g .1 .1) _ refl
+    (v .wide .result) (v .wide .ensures) (o .bridge-less .result) (o .bridge-less .ensures) (l .late-no .result) (l .late-no .ensures)
+    (c .before .before .before .before .before .before .before .before .before .before .before .before .before .if1 .left) _ (g .0) (g .1 .0) (g .1 .1) _
+    refl
 
 pub cut-two-cycles-spec : {M : Type 1} → statement M
 cut-two-cycles-spec =

@@ -10,14 +10,17 @@ use Rattle.kind_cut_along.proofs.split_cycle.Tie as tie
 abbrev arrays : (c : tie.Start) → Arrays
 arrays c =
     let a = c .args in
-    lent (now (a .next)) (now (a .count)) (a .ids) (a .kinds) (a .starts) (a .ends) (a .bends) (a .counts) (a .px) (a .py) (a .cycles) (a .steps) (a .bx) (a .by)
+    lent (now (a .next)) (now (a .count)) (a .ids) (a .kinds) (a .starts) (a .ends) (a .bends) (a .counts) (a .px) (a .py) (a .cycles) (a .steps) (a .bx)
+    (a .by)
 
 split-near-requires : tie.Need-split-near-requires
 split-near-requires c κs = c .before .before .before .before .before .before .before .before .before .before .before .before .before .before .before .pre
 
 -- the cycles and the steps in use fit
-in-use : (n : tie.After-split-near) → let s = n .before .before .before .before .before .before .before .before .before .before .before .before .before .before .before .before in let u = n .split-near .result .old in
-    (s .args .spans .cycles .first + u .cycles + s .args .spans .cycles .rest ≤ 512) × (s .args .spans .steps .first + u .steps + s .args .spans .steps .rest ≤ 2048)
+in-use : (n : tie.After-split-near) → let s = n .before .before .before .before .before .before .before .before .before .before .before .before .before
+    .before .before .before in let u = n .split-near .result .old in
+    (s .args .spans .cycles .first + u .cycles + s .args .spans .cycles .rest ≤ 512) ×
+    (s .args .spans .steps .first + u .steps + s .args .spans .steps .rest ≤ 2048)
 in-use n =
     let s = n .before .before .before .before .before .before .before .before .before .before .before .before .before .before .before .before in
     sums-fit (arrays s) (s .args .t) (now (s .args .script)) (s .args .f) (s .args .spans) (s .args .c) (s .args .s1) (s .args .s2)
@@ -25,21 +28,40 @@ in-use n =
     _ _ _ (n .split-near .ensures .1 .1 .0)
 
 add-add-part : tie.Need-add-add-part
-add-add-part c = omega (arith, in-use (c .before .before .before .before .before .before .before .before .before .before .before .before .before .before .before .before .before) .0)
+add-add-part c = omega (
+  arith,
+  in-use (c .before .before .before .before .before .before .before .before .before .before .before .before .before .before
+      .before .before .before) .0,
+)
 
 add-add-part-2 : tie.Need-add-add-part-2
-add-add-part-2 c = omega (arith, in-use (c .before .before .before .before .before .before .before .before .before .before .before .before .before .before .before .before .before .before) .0)
+add-add-part-2 c = omega (
+  arith,
+  in-use (c .before .before .before .before .before .before .before .before .before .before .before .before .before .before
+      .before .before .before .before) .0,
+)
 
 add-add-part-3 : tie.Need-add-add-part-3
-add-add-part-3 c = omega (arith, in-use (c .before .before .before .before .before .before .before .before .before .before .before .before .before .before .before .before .before .before .before .before) .1)
+add-add-part-3 c = omega (
+  arith,
+  in-use (c .before .before .before .before .before .before .before .before .before .before .before .before .before .before
+      .before .before .before .before .before .before) .1,
+)
 
 add-add-part-4 : tie.Need-add-add-part-4
-add-add-part-4 c = omega (arith, in-use (c .before .before .before .before .before .before .before .before .before .before .before .before .before .before .before .before .before .before .before .before .before) .1)
+add-add-part-4 c = omega (
+  arith,
+  in-use (c .before .before .before .before .before .before .before .before .before .before .before .before .before .before
+      .before .before .before .before .before .before .before) .1,
+)
 
 add-part-requires : tie.Need-add-part-requires
 add-part-requires c κs =
-    let n = c .before .before .before .before .before .before .before .before .before .before .before .before .before .before .before .before .before .before .before .before .before .before .before in
-    let s = c .before .before .before .before .before .before .before .before .before .before .before .before .before .before .before .before .before .before .before .before .before .before .before .before .before .before .before .before .before .before .before .before .before .before .before .before .before .before .before in
+    let n = c .before .before .before .before .before .before .before .before .before .before .before .before .before .before .before .before .before .before
+    .before .before .before .before .before in
+    let s = c .before .before .before .before .before .before .before .before .before .before .before .before .before .before .before .before .before .before
+    .before .before .before .before .before .before .before .before .before .before .before .before .before .before .before .before .before .before
+    .before .before .before in
     let w = n .split-near .ensures in
     part-asks (arrays s) (s .args .t) (now (s .args .script)) (s .args .f) (s .args .spans) (s .args .c) (s .args .s1) (s .args .s2)
     (s .args .k) (s .args .first) (s .args .moved) (s .args .place) (s .pre)
@@ -47,8 +69,11 @@ add-part-requires c κs =
 
 returns : tie.Need-returns
 returns c =
-    let n = c .before .before .before .before .before .before .before .before .before .before .before .before .before .before .before .before .before .before .before .before .before .before .before .before in
-    let s = c .before .before .before .before .before .before .before .before .before .before .before .before .before .before .before .before .before .before .before .before .before .before .before .before .before .before .before .before .before .before .before .before .before .before .before .before .before .before .before .before in
+    let n = c .before .before .before .before .before .before .before .before .before .before .before .before .before .before .before .before .before .before
+    .before .before .before .before .before .before in
+    let s = c .before .before .before .before .before .before .before .before .before .before .before .before .before .before .before .before .before .before
+    .before .before .before .before .before .before .before .before .before .before .before .before .before .before .before .before .before .before
+    .before .before .before .before in
     let w = n .split-near .ensures in
     let g = c .add-part .ensures in (
       omega (arith, g .0, w .0),

@@ -9,7 +9,8 @@ use Rattle.kind_cut_chord.proofs.add_chord.Tie as tie
 abbrev arrays : (c : tie.Start) → Arrays
 arrays c =
     let a = c .args in
-    lent (now (a .next)) (now (a .count)) (a .ids) (a .kinds) (a .starts) (a .ends) (a .bends) (a .counts) (a .px) (a .py) (a .cycles) (a .steps) (a .bx) (a .by)
+    lent (now (a .next)) (now (a .count)) (a .ids) (a .kinds) (a .starts) (a .ends) (a .bends) (a .counts) (a .px) (a .py) (a .cycles) (a .steps) (a .bx)
+    (a .by)
 
 replace-cycles-requires : tie.Need-replace-cycles-requires
 replace-cycles-requires c κs = c .before .before .before .before .before .before .before .before .before .before .before .before .before .pre .replaces
@@ -22,7 +23,8 @@ put-bends-requires c κs =
     let q = r .replace-cycles .ensures in (
       s .pre .bytes,
       (
-        chord-bends (arrays s) (a .row) (a .spans) (now (a .numbers)) (a .u) (now (a .places)) (a .at) (now (a .script)) (a .v) (a .w) (a .k) (a .first) (s .pre) _ q,
+        chord-bends (arrays s) (a .row) (a .spans) (now (a .numbers)) (a .u) (now (a .places)) (a .at) (now (a .script)) (a .v) (a .w) (a .k) (a .first)
+            (s .pre) _ q,
         (q .long .bx, q .long .by),
       ),
     )
@@ -30,23 +32,27 @@ put-bends-requires c κs =
 add-row-requires : tie.Need-add-row-requires
 add-row-requires c κs =
     let r = c .before .before .before .before .before .before .before .before .before .before .before in
-    let s = c .before .before .before .before .before .before .before .before .before .before .before .before .before .before .before .before .before .before .before .before .before .before .before .before .before in
+    let s = c .before .before .before .before .before .before .before .before .before .before .before .before .before .before .before .before .before .before
+    .before .before .before .before .before .before .before in
     let a = s .args in
-    let m = chord-comes (arrays s) (a .row) (a .spans) (now (a .numbers)) (a .u) (now (a .places)) (a .at) (now (a .script)) (a .v) (a .w) (a .k) (a .first) (s .pre) _ (r .replace-cycles .ensures) in
+    let m = chord-comes (arrays s) (a .row) (a .spans) (now (a .numbers)) (a .u) (now (a .places)) (a .at) (now (a .script)) (a .v) (a .w) (a .k) (a .first)
+    (s .pre) _ (r .replace-cycles .ensures) in
     (m .cells, m .ids)
 
 returns : tie.Need-returns
 returns c =
     let y = c .before .before .before .before .before .before .before .before .before in
     let r = c .before .before .before .before .before .before .before .before .before .before .before .before in
-    let s = c .before .before .before .before .before .before .before .before .before .before .before .before .before .before .before .before .before .before .before .before .before .before .before .before .before .before in
+    let s = c .before .before .before .before .before .before .before .before .before .before .before .before .before .before .before .before .before .before
+    .before .before .before .before .before .before .before .before in
     let a = s .args in
     let g = c .add-row .ensures in
     let h = g .1 .1 .1 in (
       g .1 .0,
       (
         g .1 .1 .0,
-        chord-holds (arrays s) (a .row) (a .spans) (now (a .numbers)) (a .u) (now (a .places)) (a .at) (now (a .script)) (a .v) (a .w) (a .k) (a .first) (s .pre) _ (r .replace-cycles .ensures) _ _ (y .put-bends .ensures) _
+        chord-holds (arrays s) (a .row) (a .spans) (now (a .numbers)) (a .u) (now (a .places)) (a .at) (now (a .script)) (a .v) (a .w) (a .k) (a .first)
+            (s .pre) _ (r .replace-cycles .ensures) _ _ (y .put-bends .ensures) _
             (g .1 .0) (g .1 .1 .0) (h .0) (h .1 .0) (h .1 .1 .0) (h .1 .1 .1 .0) (h .1 .1 .1 .1 .0) (h .1 .1 .1 .1 .1) refl refl refl refl refl refl,
       ),
     )

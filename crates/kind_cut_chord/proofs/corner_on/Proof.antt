@@ -53,7 +53,8 @@ returns-2 c =
     let s = c .before .before .before .before .before .before .before in
     let a = s .args in
     let i = y .wide .result in
-    corner-at (now (a .cycles)) (now (a .steps)) (a .spans) (a .c) i (y .wide .ensures) (rows s) (a .n) (s .pre .1 .1 .1 .1) (c .before .before .before .if1 .left) (begin s i) refl (a .s) (eqb (a .s) 0)
+    corner-at (now (a .cycles)) (now (a .steps)) (a .spans) (a .c) i (y .wide .ensures) (rows s) (a .n) (s .pre .1 .1 .1 .1)
+    (c .before .before .before .if1 .left) (begin s i) refl (a .s) (eqb (a .s) 0)
     (corner-lone (rows s) (a .n) (number s i) (now (a .steps)) (begin s i) (a .s) (c .if2 .taken))
 
 returns-3 : tie.Need-returns-3
@@ -62,7 +63,8 @@ returns-3 c =
     let s = c .before .before .before .before .before .before .before .before in
     let a = s .args in
     let i = y .wide .result in
-    corner-at (now (a .cycles)) (now (a .steps)) (a .spans) (a .c) i (y .wide .ensures) (rows s) (a .n) (s .pre .1 .1 .1 .1) (c .before .before .before .before .if1 .left) (begin s i) refl (a .s) false
+    corner-at (now (a .cycles)) (now (a .steps)) (a .spans) (a .c) i (y .wide .ensures) (rows s) (a .n) (s .pre .1 .1 .1 .1)
+    (c .before .before .before .before .if1 .left) (begin s i) refl (a .s) false
     (corner-none (rows s) (a .n) (number s i) (now (a .steps)) (begin s i) (a .s) (c .before .if2 .left) (c .if3 .taken))
 
 cycle-place-requires : tie.Need-cycle-place-requires
@@ -70,7 +72,8 @@ cycle-place-requires c κs =
     let y = c .before .before .before .before .before .before in
     let s = c .before .before .before .before .before .before .before .before in
     let a = s .args in
-    place-asks (now (a .cycles)) (now (a .steps)) (a .spans) (a .c) (y .wide .result) (y .wide .ensures) (rows s) (a .n) (s .pre .1 .1 .1 .1) (c .before .before .before .before .if1 .left)
+    place-asks (now (a .cycles)) (now (a .steps)) (a .spans) (a .c) (y .wide .result) (y .wide .ensures) (rows s) (a .n) (s .pre .1 .1 .1 .1)
+    (c .before .before .before .before .if1 .left)
 
 wide-requires-2 : tie.Need-wide-requires-2
 wide-requires-2 c κs = search needs
@@ -98,7 +101,8 @@ element-copy-out-h : tie.Need-element-copy-out-h
 element-copy-out-h c = let h = inside c in omega (arith, h)
 
 value-at-requires : tie.Need-value-at-requires
-value-at-requires c κs = let p = c .before .before .before .before .before .before .before .before .before .before .before .pre in (p .0, (p .1 .0, (p .1 .1 .0, p .1 .1 .1 .0)))
+value-at-requires c κs = let p = c .before .before .before .before .before .before .before .before .before .before .before .pre in
+    (p .0, (p .1 .0, (p .1 .1 .0, p .1 .1 .1 .0)))
 
 returns-4 : tie.Need-returns-4
 returns-4 c =
@@ -108,9 +112,11 @@ returns-4 c =
     let s = c .before .before .before .before .before .before .before .before .before .before .before .before in
     let a = s .args in
     let i = y .wide .result in
-    corner-at (now (a .cycles)) (now (a .steps)) (a .spans) (a .c) i (y .wide .ensures) (rows s) (a .n) (s .pre .1 .1 .1 .1) (c .before .before .before .before .before .before .before .before .if1 .left) (p .cycle-place .result) (p .cycle-place .ensures) (a .s)
+    corner-at (now (a .cycles)) (now (a .steps)) (a .spans) (a .c) i (y .wide .ensures) (rows s) (a .n) (s .pre .1 .1 .1 .1)
+    (c .before .before .before .before .before .before .before .before .if1 .left) (p .cycle-place .result) (p .cycle-place .ensures) (a .s)
     (eqb (c .value-at .result) 1)
-    (corner-found (rows s) (a .n) (number s i) (now (a .steps)) (p .cycle-place .result) (a .s) (c .before .before .before .before .before .if2 .left) (c .before .before .before .before .if3 .left) (x .wide2 .result) (c .value-at .result) (x .wide2 .ensures) (c .value-at .ensures))
+    (corner-found (rows s) (a .n) (number s i) (now (a .steps)) (p .cycle-place .result) (a .s) (c .before .before .before .before .before .if2 .left)
+    (c .before .before .before .before .if3 .left) (x .wide2 .result) (c .value-at .result) (x .wide2 .ensures) (c .value-at .ensures))
 
 pub corner-on-spec : {M : Type 1} → statement M
 corner-on-spec =

@@ -43,7 +43,8 @@ returns-2 c =
     let y = c .before .before .before in
     let s = c .before .before .before .before .before .before in
     let a = s .args in
-    vertex-back (rows s) (a .n) (a .p .m) (now (a .steps)) (a .p .at) (a .s) (c .before .before .before .before .if1 .left) (y .wide .result) (c .value-at .result) (y .wide .ensures) (c .before .if2 .taken) (c .value-at .ensures)
+    vertex-back (rows s) (a .n) (a .p .m) (now (a .steps)) (a .p .at) (a .s) (c .before .before .before .before .if1 .left) (y .wide .result)
+    (c .value-at .result) (y .wide .ensures) (c .before .if2 .taken) (c .value-at .ensures)
 
 value-at-requires-2 : tie.Need-value-at-requires-2
 value-at-requires-2 c κs = search needs
@@ -53,7 +54,8 @@ returns-3 c =
     let y = c .before .before .before in
     let s = c .before .before .before .before .before .before in
     let a = s .args in
-    vertex-on (rows s) (a .n) (a .p .m) (now (a .steps)) (a .p .at) (a .s) (c .before .before .before .before .if1 .left) (y .wide .result) (c .value-at2 .result) (y .wide .ensures) (c .before .if2 .left) (c .value-at2 .ensures)
+    vertex-on (rows s) (a .n) (a .p .m) (now (a .steps)) (a .p .at) (a .s) (c .before .before .before .before .if1 .left) (y .wide .result)
+    (c .value-at2 .result) (y .wide .ensures) (c .before .if2 .left) (c .value-at2 .ensures)
 
 pub corner-vertex-spec : {M : Type 1} → statement M
 corner-vertex-spec =

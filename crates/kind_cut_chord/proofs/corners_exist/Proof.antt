@@ -37,7 +37,8 @@ returns-2 c =
     let s = c .before .before .before .before .before in
     let x = c .before .before .before in
     let y = c .before in
-    second-no (first s) (second s) (fit s) (x .corner-on .result) (x .corner-on .ensures) (c .before .before .if1 .left) (y .corner-on2 .result) (y .corner-on2 .ensures) (c .if2 .taken)
+    second-no (first s) (second s) (fit s) (x .corner-on .result) (x .corner-on .ensures) (c .before .before .if1 .left) (y .corner-on2 .result)
+    (y .corner-on2 .ensures) (c .if2 .taken)
 
 cast-moved-fit : tie.Need-cast-moved-fit
 cast-moved-fit c = let s = c .before .before .before .before .before .before .before in omega (arith, s .pre .1 .1 .1 .1 .0 .inCycles)
@@ -50,7 +51,8 @@ returns-3 c =
     let s = c .before .before .before .before .before .before .before .before in
     let x = c .before .before .before .before .before .before in
     let y = c .before .before .before .before in
-    rest-says (first s) (second s) (fit s) (x .corner-on .result) (x .corner-on .ensures) (c .before .before .before .before .before .if1 .left) (y .corner-on2 .result) (y .corner-on2 .ensures) (c .before .before .before .if2 .left) (c .moved-fit .result) (c .moved-fit .ensures)
+    rest-says (first s) (second s) (fit s) (x .corner-on .result) (x .corner-on .ensures) (c .before .before .before .before .before .if1 .left)
+    (y .corner-on2 .result) (y .corner-on2 .ensures) (c .before .before .before .if2 .left) (c .moved-fit .result) (c .moved-fit .ensures)
 
 pub corners-exist-spec : {M : Type 1} → statement M
 corners-exist-spec =

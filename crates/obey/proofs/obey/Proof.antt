@@ -1,180 +1,46 @@
--- `obey::obey` meets its contract: each arm hands the command to its kind. Assumes nothing.
-use mathlib.Core.Path.{_≡_}
+-- `obey` meets its contract: what the arrays answer, the struct answers. Assumes nothing.
 use borrow.Author.Needs.{needs}
-use denote.Ref.{now}
-use Rattle.obey.proofs.Arms.{lies, answers}
+use mathlib.Core.Path.{_≡_, sym, ap, subst}
+use lib.Dec.{T}
+use Rattle.complex.specs.Decode.{Command}
+use Rattle.store.specs.declared.Drawing.{Drawing}
+use Rattle.sound.specs.Soundness.{soundDrawing}
+use Rattle.answer.specs.declared.Answer.{Answer}
+use Rattle.answer.specs.Answers.{Answers}
+use Rattle.lent.specs.Arrays.{Arrays, heldBy, soundArrays}
+use Rattle.lent.specs.declared.Line.{Line}
+use Rattle.lent.specs.Replies.{answerBy, Obeyed}
+use Rattle.door.specs.Apart.{Apart}
+use Rattle.door.proofs.Sound.{sound-apart}
 use Rattle.obey.proofs.obey.Statement.{statement}
 use Rattle.obey.proofs.obey.Tie as tie
 
-enum-known-c : tie.Need-enum-known-c
-enum-known-c c = search needs
+module _ (d : Drawing) (a : Arrays) (h : Apart d a) where
+  taken-sound : T (soundDrawing d) → T (soundArrays a)
+  taken-sound w = subst T (sym (sound-apart a d (h .rows) (h .held))) w
 
-add-vertex-requires : tie.Need-add-vertex-requires
-add-vertex-requires c κs = search needs
+  answered : (c : Command) (b : Arrays) (l : Line) (r : Answer) → Obeyed a c b l → r ≡ answerBy l (heldBy b) → Answers d c r
+  answered c b l r o e =
+      subst (λ (x : Answer). Answers d c x) (sym e) (subst (λ (x : Drawing). Answers x c (answerBy l (heldBy b))) (h .held) (o .answers))
 
-enum-known-c-2 : tie.Need-enum-known-c-2
-enum-known-c-2 c = search needs
+take-apart-requires : tie.Need-take-apart-requires
+take-apart-requires c κs = search needs
 
-add-open-requires : tie.Need-add-open-requires
-add-open-requires c κs = let s = c .before .before .before .before in (s .pre .0, lies (now (s .args .script)) (c .before .c2 .given .1) (s .pre .1))
+step-requires : tie.Need-step-requires
+step-requires c κs =
+    let t = c .before .before .before .before .before .before .before .before .before .before .before .before .before .before in
+    let s = t .before .before .before .before .before .before .before .before .before .before .before .before .before .before in
+    (taken-sound (s .args .d) _ (t .take-apart .ensures) (s .pre .0), s .pre .1)
 
-enum-known-c-3 : tie.Need-enum-known-c-3
-enum-known-c-3 c = search needs
-
-add-closed-requires : tie.Need-add-closed-requires
-add-closed-requires c κs = let s = c .before .before .before .before in (s .pre .0, lies (now (s .args .script)) (c .before .c3 .given .1) (s .pre .1))
-
-enum-known-c-4 : tie.Need-enum-known-c-4
-enum-known-c-4 c = search needs
-
-add-face-requires : tie.Need-add-face-requires
-add-face-requires c κs = let s = c .before .before .before .before in (s .pre .0, lies (now (s .args .script)) (c .before .c4 .given .1) (s .pre .1))
-
-enum-known-c-5 : tie.Need-enum-known-c-5
-enum-known-c-5 c = search needs
-
-move-vertex-requires : tie.Need-move-vertex-requires
-move-vertex-requires c κs = search needs
-
-enum-known-c-6 : tie.Need-enum-known-c-6
-enum-known-c-6 c = search needs
-
-delete-requires : tie.Need-delete-requires
-delete-requires c κs = search needs
-
-enum-known-c-7 : tie.Need-enum-known-c-7
-enum-known-c-7 c = search needs
-
-glue-vertices-requires : tie.Need-glue-vertices-requires
-glue-vertices-requires c κs = search needs
-
-enum-known-c-8 : tie.Need-enum-known-c-8
-enum-known-c-8 c = search needs
-
-glue-edges-requires : tie.Need-glue-edges-requires
-glue-edges-requires c κs = search needs
-
-enum-known-c-9 : tie.Need-enum-known-c-9
-enum-known-c-9 c = search needs
-
-unglue-requires : tie.Need-unglue-requires
-unglue-requires c κs = search needs
-
-enum-known-c-10 : tie.Need-enum-known-c-10
-enum-known-c-10 c = search needs
-
-cut-edge-requires : tie.Need-cut-edge-requires
-cut-edge-requires c κs = search needs
-
-enum-known-c-11 : tie.Need-enum-known-c-11
-enum-known-c-11 c = search needs
-
-cut-face-vertex-requires : tie.Need-cut-face-vertex-requires
-cut-face-vertex-requires c κs = search needs
-
-enum-known-c-12 : tie.Need-enum-known-c-12
-enum-known-c-12 c = search needs
-
-cut-face-open-requires : tie.Need-cut-face-open-requires
-cut-face-open-requires c κs = let s = c .before .before .before .before in let l = lies (now (s .args .script)) (c .before .c12 .given .1) (s .pre .1) in (s .pre .0, (l .0, l .1))
-
-enum-known-c-13 : tie.Need-enum-known-c-13
-enum-known-c-13 c = search needs
-
-cut-face-closed-requires : tie.Need-cut-face-closed-requires
-cut-face-closed-requires c κs = let s = c .before .before .before .before in let l = lies (now (s .args .script)) (c .before .c13 .given .1) (s .pre .1) in (s .pre .0, (l .0, l .1))
-
-enum-known-c-14 : tie.Need-enum-known-c-14
-enum-known-c-14 c = search needs
-
-uncut-requires : tie.Need-uncut-requires
-uncut-requires c κs = search needs
+put-together-requires : tie.Need-put-together-requires
+put-together-requires c κs = search needs
 
 returns : tie.Need-returns
-returns c = let k = c .before .before in let s = k .before .before .before in answers (now (s .args .script)) (k .c .given .1) (s .args .d) (c .add-vertex .result) (c .add-vertex .ensures)
-
-returns-2 : tie.Need-returns-2
-returns-2 c = let k = c .before .before in let s = k .before .before .before in answers (now (s .args .script)) (k .c2 .given .1) (s .args .d) (c .add-open .result) (c .add-open .ensures)
-
-returns-3 : tie.Need-returns-3
-returns-3 c = let k = c .before .before in let s = k .before .before .before in answers (now (s .args .script)) (k .c3 .given .1) (s .args .d) (c .add-closed .result) (c .add-closed .ensures)
-
-returns-4 : tie.Need-returns-4
-returns-4 c = let k = c .before .before in let s = k .before .before .before in answers (now (s .args .script)) (k .c4 .given .1) (s .args .d) (c .add-face .result) (c .add-face .ensures)
-
-returns-5 : tie.Need-returns-5
-returns-5 c = let k = c .before .before in let s = k .before .before .before in answers (now (s .args .script)) (k .c5 .given .1) (s .args .d) (c .move-vertex .result) (c .move-vertex .ensures)
-
-returns-6 : tie.Need-returns-6
-returns-6 c = let k = c .before .before in let s = k .before .before .before in answers (now (s .args .script)) (k .c6 .given .1) (s .args .d) (c .delete .result) (c .delete .ensures)
-
-returns-7 : tie.Need-returns-7
-returns-7 c = let k = c .before .before in let s = k .before .before .before in answers (now (s .args .script)) (k .c7 .given .1) (s .args .d) (c .glue-vertices .result) (c .glue-vertices .ensures)
-
-returns-8 : tie.Need-returns-8
-returns-8 c = let k = c .before .before in let s = k .before .before .before in answers (now (s .args .script)) (k .c8 .given .1) (s .args .d) (c .glue-edges .result) (c .glue-edges .ensures)
-
-returns-9 : tie.Need-returns-9
-returns-9 c = let k = c .before .before in let s = k .before .before .before in answers (now (s .args .script)) (k .c9 .given .1) (s .args .d) (c .unglue .result) (c .unglue .ensures)
-
-returns-10 : tie.Need-returns-10
-returns-10 c = let k = c .before .before in let s = k .before .before .before in answers (now (s .args .script)) (k .c10 .given .1) (s .args .d) (c .cut-edge .result) (c .cut-edge .ensures)
-
-returns-11 : tie.Need-returns-11
-returns-11 c = let k = c .before .before in let s = k .before .before .before in answers (now (s .args .script)) (k .c11 .given .1) (s .args .d) (c .cut-face-vertex .result) (c .cut-face-vertex .ensures)
-
-returns-12 : tie.Need-returns-12
-returns-12 c = let k = c .before .before in let s = k .before .before .before in answers (now (s .args .script)) (k .c12 .given .1) (s .args .d) (c .cut-face-open .result) (c .cut-face-open .ensures)
-
-returns-13 : tie.Need-returns-13
-returns-13 c = let k = c .before .before in let s = k .before .before .before in answers (now (s .args .script)) (k .c13 .given .1) (s .args .d) (c .cut-face-closed .result) (c .cut-face-closed .ensures)
-
-returns-14 : tie.Need-returns-14
-returns-14 c = let k = c .before .before in let s = k .before .before .before in answers (now (s .args .script)) (k .c14 .given .1) (s .args .d) (c .uncut .result) (c .uncut .ensures)
+returns c =
+    let w = c .before .before .before .before .before .before .before .before .before .before .before .before .before in
+    let t = w .before .before .before .before .before .before .before .before .before .before .before .before .before .before .before in
+    let s = t .before .before .before .before .before .before .before .before .before .before .before .before .before .before in
+    answered (s .args .d) _ (t .take-apart .ensures) _ _ (w .step .result) _ (w .step .ensures .0) (ap (answerBy (w .step .result)) (c .put-together .ensures))
 
 pub obey-spec : {M : Type 1} → statement M
-obey-spec =
-    tie.close
-    (tie.spec
-    enum-known-c
-    add-vertex-requires
-    enum-known-c-2
-    add-open-requires
-    enum-known-c-3
-    add-closed-requires
-    enum-known-c-4
-    add-face-requires
-    enum-known-c-5
-    move-vertex-requires
-    enum-known-c-6
-    delete-requires
-    enum-known-c-7
-    glue-vertices-requires
-    enum-known-c-8
-    glue-edges-requires
-    enum-known-c-9
-    unglue-requires
-    enum-known-c-10
-    cut-edge-requires
-    enum-known-c-11
-    cut-face-vertex-requires
-    enum-known-c-12
-    cut-face-open-requires
-    enum-known-c-13
-    cut-face-closed-requires
-    enum-known-c-14
-    uncut-requires
-    returns
-    returns-2
-    returns-3
-    returns-4
-    returns-5
-    returns-6
-    returns-7
-    returns-8
-    returns-9
-    returns-10
-    returns-11
-    returns-12
-    returns-13
-    returns-14)
+obey-spec = tie.close (tie.spec take-apart-requires step-requires put-together-requires returns)

@@ -1,6 +1,6 @@
--- `replay::replay_all` meets its contract: at each turn fewer arguments are left. Assumes nothing.
-use Prim.Native.Nat.{_-_}
+-- `replay::replay_all` meets its contract: at each turn fewer scripts are left. Assumes nothing.
 use borrow.Author.Needs.{needs}
+use Prim.Native.Nat.{_-_}
 use Rattle.replay.proofs.replay_all.Statement.{statement}
 use Rattle.replay.proofs.replay_all.Tie as tie
 
@@ -16,20 +16,23 @@ arg-count-requires c κs = search needs
 loop-holds : tie.Need-loop-holds Inv-loop μ-loop
 loop-holds c = search needs
 
-buffer-requires : tie.Need-buffer-requires Inv-loop μ-loop
-buffer-requires c κs = search needs
+mul-replay : tie.Need-mul-replay Inv-loop μ-loop
+mul-replay c = search needs
 
-slice-aggregate-arg : tie.Need-slice-aggregate-arg Inv-loop μ-loop
-slice-aggregate-arg c = search needs
+add-replay : tie.Need-add-replay Inv-loop μ-loop
+add-replay c = search needs
 
-arg-requires : tie.Need-arg-requires Inv-loop μ-loop
-arg-requires c κs = search needs
+mul-replay-2 : tie.Need-mul-replay-2 Inv-loop μ-loop
+mul-replay-2 c = search needs
 
-array-share-prefix-name : tie.Need-array-share-prefix-name Inv-loop μ-loop
-array-share-prefix-name c = search needs
+add-replay-2 : tie.Need-add-replay-2 Inv-loop μ-loop
+add-replay-2 c = search needs
 
-slice-aggregate-replay : tie.Need-slice-aggregate-replay Inv-loop μ-loop
-slice-aggregate-replay c = search needs
+mul-replay-3 : tie.Need-mul-replay-3 Inv-loop μ-loop
+mul-replay-3 c = search needs
+
+add-replay-3 : tie.Need-add-replay-3 Inv-loop μ-loop
+add-replay-3 c = search needs
 
 replay-requires : tie.Need-replay-requires Inv-loop μ-loop
 replay-requires c κs = search needs
@@ -54,11 +57,12 @@ replay-all-spec =
     μ-loop
     arg-count-requires
     loop-holds
-    buffer-requires
-    slice-aggregate-arg
-    arg-requires
-    array-share-prefix-name
-    slice-aggregate-replay
+    mul-replay
+    add-replay
+    mul-replay-2
+    add-replay-2
+    mul-replay-3
+    add-replay-3
     replay-requires
     add-i
     loop-less

@@ -14,14 +14,14 @@ abbrev μ-loop : tie.MeasureT-loop
 loop-holds : tie.Need-loop-holds Inv-loop μ-loop
 loop-holds c = search needs
 
-mul-tell : tie.Need-mul-tell Inv-loop μ-loop
-mul-tell c = search needs
+mul-tell-id : tie.Need-mul-tell-id Inv-loop μ-loop
+mul-tell-id c = search needs
 
-shared-slice-read-tell : tie.Need-shared-slice-read-tell Inv-loop μ-loop
-shared-slice-read-tell c = search needs
+shared-slice-read-tell-id : tie.Need-shared-slice-read-tell-id Inv-loop μ-loop
+shared-slice-read-tell-id c = search needs
 
-tell-requires : tie.Need-tell-requires Inv-loop μ-loop
-tell-requires c κs = search needs
+tell-id-requires : tie.Need-tell-id-requires Inv-loop μ-loop
+tell-id-requires c κs = search needs
 
 add-i : tie.Need-add-i Inv-loop μ-loop
 add-i c = search needs
@@ -42,9 +42,9 @@ tell-ids-spec =
     Inv-loop
     μ-loop
     loop-holds
-    mul-tell
-    shared-slice-read-tell
-    tell-requires
+    mul-tell-id
+    shared-slice-read-tell-id
+    tell-id-requires
     add-i
     loop-less
     loop-again

@@ -1,0 +1,301 @@
+-- After some cells of a file the rows and the arrays hold what those cells put there. Assumes nothing.
+use Prim.Native.Nat.{ℕ, _+_, _*_, _≤_, _<_}
+use native.Mathlib.Omega.{arith}
+use mathlib.Core.Path.{_≡_, refl, sym, ap, _∙_, subst}
+use mathlib.Core.Logic.{inl, inr}
+use mathlib.Core.Bool.{Bool, true, false}
+use mathlib.Core.List.{List, _++_, map}
+use lib.Ieee.{Float}
+use lib.ListN.{length, take, drop, set}
+use lib.Seq.{paste, take-paste, length-paste, take-length, take-all}
+use Rattle.number.specs.Readers.{Read, got, times}
+use Rattle.number.specs.Numbers.{readNumber}
+use Rattle.coordinate.specs.declared.Position.{Position}
+use Rattle.coordinate.specs.Positions.{positionAt}
+use Rattle.bends.specs.Bends.{positionsAt}
+use Rattle.bends.proofs.Laws.{positions-length}
+use Rattle.complex.specs.Cells.{LiveCell}
+use Rattle.complex.specs.Decode.{readCycle}
+use Rattle.complex.specs.File.{readCell}
+use Rattle.store.specs.declared.Shape.{Shape}
+use Rattle.store.specs.declared.Cell.{Cell}
+use Rattle.store.specs.declared.Drawing.{Drawing}
+use Rattle.store.specs.View.{bendCount, cycleCount}
+use Rattle.store.specs.Index.{kindOf, startOf, endOf}
+use Rattle.store.proofs.Lists.{map-append}
+use Rattle.reader.specs.declared.Used.{Used}
+use Rattle.reader.specs.declared.Loaded.{Loaded}
+use Rattle.reader.specs.declared.Loaded.the-variants.{Next, Refused}
+use Rattle.reader.specs.declared.CellFound.{CellFound}
+use Rattle.reader.specs.declared.CellFound.the-variants.{Begun, NoCell}
+use Rattle.reader.specs.Heads.{readHead, Found, HeadRead}
+use Rattle.reader.specs.Filling.{Added, spotsFrom, withBends, CyclesLoaded}
+use Rattle.reader.specs.Outcome.{CellsOver, SheetRead}
+use Rattle.reader.proofs.Adding.{spots-length, spots-positions}
+use Rattle.reader.proofs.ShapeParts.{cycles-over}
+use Rattle.reader.proofs.Filled.{Filled, filled-start, filled-room, filled-turn, head-bad, parts-over, bytes-left, filled-given}
+use Rattle.reader.proofs.Verdict.{cells-read}
+use Rattle.kind_create.specs.Comes.{BendsPut}
+use Rattle.sound.specs.Rows.{allFrom}
+use Rattle.lent.specs.Arrays.{Arrays, positionsIn, heldBy, normalAt, normal, Lengths}
+use Rattle.lent.proofs.Held.{held-sizes, positions-length as places-length}
+use Rattle.call_load.specs.Loads.{acrossWith, upWith, RowPut, PartsPut, PartsStored, RoomIn, answerOf, CellsHeld, CellsTold, SheetIn}
+use Rattle.call_load.proofs.Rows.{shape-long, shape-held, shape-normal}
+
+-- ---- the bends and the cycles of a shape
+module _ (s : List ℕ) (first : ℕ) (x : Shape) (xs ys : List Float) (counts steps : List ℕ) (used : Used) (xs′ ys′ : List Float) (counts′ steps′ : List ℕ)
+  where
+    abbrev Stores : Loaded → ℕ → ℕ → ℕ → Type 0
+    Stores r m b k =
+        first + 16 * b ≤ length s → used .bends + b ≤ 2048 → BendsPut xs ys (used .bends) (positionsAt s first m) m xs′ ys′
+        → CyclesLoaded (times readCycle k (drop (first + 16 * b) s)) s counts steps (withBends used b) counts′ steps′ r
+        → PartsStored s first x xs ys counts steps used xs′ ys′ counts′ steps′ r
+
+    shape-stored : (r : Loaded) → Stores r (bendCount x) (bendCount x) (cycleCount x)
+    shape-stored (Next next used′) h f p c = record { inside = h; room = f; bends = p; filled = c }
+    shape-stored Refused h f p c = (refl, cycles-over s first x used h (c .1))
+
+    pub parts-stored : (r : Loaded) (m b k : ℕ) → m ≡ bendCount x → b ≡ bendCount x → k ≡ cycleCount x → Stores r m b k
+    parts-stored r m b k d e f =
+        subst (λ (z : ℕ). Stores r z b k) (sym d) (subst (λ (z : ℕ). Stores r (bendCount x) z k) (sym e)
+        (subst (Stores r (bendCount x) (bendCount x)) (sym f) (shape-stored r)))
+
+-- ---- rows: the first cells of the file are in them, and their bends stand at the places `spots` of the bytes
+pub record Rowed (s : List ℕ) (at n p : ℕ) (a : Arrays) (used : Used) : Type 0 where
+  pub spots : List ℕ
+  pub filled : Filled s at n (a .count) p (heldBy a .cells) (a .cycles) (a .steps) spots used
+  pub bends : take (used .bends) (positionsIn (a .bx) (a .by)) ≡ map (positionAt s) (take (used .bends) spots)
+  pub rows : normal a ≡ true
+  pub long : Lengths a
+
+-- the arrays of lists
+abbrev pub listed : ℕ → ℕ → List ℕ → List ℕ → List ℕ → List ℕ → List ℕ → List ℕ → List Float → List Float → List ℕ → List ℕ → List Float → List Float → Arrays
+listed next n is ks ss es bs cs px py cy st us vs =
+    record {
+      next = next;
+      count = n;
+      ids = is;
+      kinds = ks;
+      starts = ss;
+      ends = es;
+      bends = bs;
+      counts = cs;
+      px = px;
+      py = py;
+      cycles = cy;
+      steps = st;
+      bx =
+          us;
+      by = vs;
+    }
+
+-- the rows of a with the cell c more, and other arrays
+abbrev pub withHead : Arrays → Cell → List ℕ → List ℕ → List Float → List Float → Arrays
+withHead a c counts′ steps′ xs′ ys′ =
+    record {
+      next = a .next;
+      count = a .count + 1;
+      ids = set (a .ids) (a .count) (c .id);
+      kinds = set (a .kinds) (a .count) (kindOf (c .shape));
+      starts = set (a .starts) (a .count) (startOf (c .shape));
+      ends = set (a .ends) (a .count) (endOf (c .shape));
+      bends = set (a .bends) (a .count) (bendCount (c .shape));
+      counts = set (a .counts) (a .count) (cycleCount (c .shape));
+      px = acrossWith (a .px) (a .count) (c .shape);
+      py = upWith (a .py) (a .count) (c .shape);
+      cycles = counts′;
+      steps = steps′;
+      bx = xs′;
+      by = ys′;
+    }
+
+-- a with the next id j and k cells
+abbrev numbered : Arrays → ℕ → ℕ → Arrays
+numbered a j k =
+    record {
+      next = j;
+      count = k;
+      ids = a .ids;
+      kinds = a .kinds;
+      starts = a .starts;
+      ends = a .ends;
+      bends = a .bends;
+      counts = a .counts;
+      px = a .px;
+      py = a .py;
+      cycles = a .cycles;
+      steps = a .steps;
+      bx = a .bx;
+      by = a .by;
+    }
+
+numbered-long : (a : Arrays) (j k : ℕ) → Lengths a → Lengths (numbered a j k)
+numbered-long a j k l =
+    record {
+      ids = l .ids;
+      kinds = l .kinds;
+      starts = l .starts;
+      ends = l .ends;
+      bends = l .bends;
+      counts = l .counts;
+      px = l .px;
+      py = l .py;
+      cycles = l .cycles;
+      steps = l .steps;
+      bx = l .bx;
+      by = l .by;
+    }
+
+-- places of bytes put after those in use
+spots-added : (l : List ℕ) (u first b : ℕ) → u + b ≤ length l → Added l u (spotsFrom first b) (paste l u (spotsFrom first b) (length (spotsFrom first b)))
+spots-added l u first b h =
+    let x = spotsFrom first b in
+    let e = spots-length first b in
+    record {
+      size = length-paste l u x (length x) (omega arith) (omega arith);
+      room = omega arith;
+      front = take-paste l u x (length x) (omega arith) (omega arith) ∙ ap (λ (y : List ℕ). take u l ++ y) (take-length x);
+    }
+
+pub rowed-start : (s : List ℕ) (at n : ℕ) (a : Arrays) → a .count ≡ 0 → at ≤ length s → Lengths a
+    → Rowed s at n at a (record { bends = 0; cycles = 0; steps = 0 })
+rowed-start s at n a z h l =
+    record {
+      spots = a .steps;
+      filled = subst (λ (i : ℕ). Filled s at n i at (heldBy a .cells) (a .cycles) (a .steps) (a .steps) (record { bends = 0; cycles = 0; steps = 0 }))
+          (sym z) (filled-start s at n (heldBy a .cells) (a .cycles) (a .steps) (a .steps) h (held-sizes a l .cells) (l .cycles) (l .steps) (l .steps));
+      bends = refl;
+      rows = none a z;
+      long = l;
+    }
+  where
+    none : (b : Arrays) → b .count ≡ 0 → normal b ≡ true
+    none b e = rw e refl
+
+module _ (s : List ℕ) (at n p : ℕ) (a : Arrays) (used : Used) (R : Rowed s at n p a used) where
+  pub rowed-room : RoomIn used (a .bx) (a .by) (a .cycles) (a .steps)
+  rowed-room =
+      let r = filled-room s at n (a .count) p (heldBy a .cells) (a .cycles) (a .steps) (R .spots) used (R .filled) in
+      let l = R .long in
+      record {
+        across = l .bx;
+        up = l .by;
+        countsSize = l .cycles;
+        stepsSize = l .steps;
+        bendsFit = r .bendsFit;
+        cyclesFit = r .cyclesFit;
+        stepsFit =
+            r .stepsFit;
+      }
+
+  -- ---- one cell more
+  module _ (c : Cell) (first : ℕ) (H : Found (readHead (drop p s)) s c first) (xs′ ys′ : List Float) (counts′ steps′ : List ℕ) (next : ℕ) (used′ : Used)
+      (P : PartsPut s first (c .shape) (a .bx) (a .by) (a .cycles) (a .steps) used xs′ ys′ counts′ steps′ next used′) (h : a .count < n)
+      (g : a .count < 256) where
+    pub rowed-turn : Rowed s at n next (withHead a c counts′ steps′ xs′ ys′) used′
+    rowed-turn =
+        let x = c .shape in
+        let b = bendCount x in
+        let u = used .bends in
+        let F = R .filled in
+        let l = R .long in
+        let a′ = numbered a (c .id) (a .count) in
+        let l′ = numbered-long a (c .id) (a .count) l in
+        let sp = spotsFrom first b in
+        let ls = spots-length first b in
+        let bs = positionsAt s first b in
+        let lb : length bs ≡ b = positions-length s first b in
+        let A = spots-added (R .spots) u first b (omega (arith, F .spotsSize, P .room)) in
+        let spots′ = paste (R .spots) u sp (length sp) in
+        let Q = filled-turn s at n (a .count) p (heldBy a .cells) (a .cycles) (a .steps) (R .spots) used F c first H spots′ counts′ steps′ next used′
+        (record { inside = P .inside; spotted = A; filled = P .filled }) h g in
+        let w = shape-long a′ l′ x in
+        let more : used′ .bends ≡ u + b = P .filled .sameBends in
+        let old : length (positionsIn (a .bx) (a .by)) ≡ 2048 = places-length (a .bx) (a .by) (l .bx ∙ sym (l .by)) ∙ l .bx in
+        let left : take (u + b) (positionsIn xs′ ys′) ≡ take u (positionsIn (a .bx) (a .by)) ++ bs =
+        ap (take (u + b)) (P .bends .positions) ∙ take-paste (positionsIn (a .bx) (a .by)) u bs b (omega (arith, P .room)) (omega arith)
+        ∙ ap (λ (y : List Position). take u (positionsIn (a .bx) (a .by)) ++ y) (take-all b bs (omega arith)) in
+        let right : map (positionAt s) (take (u + b) spots′) ≡ map (positionAt s) (take u (R .spots)) ++ bs =
+        ap (λ (k : ℕ). map (positionAt s) (take (u + k) spots′)) (sym ls) ∙ ap (map (positionAt s)) (A .front)
+        ∙ map-append (positionAt s) (take u (R .spots)) sp
+        ∙ ap (λ (y : List Position). map (positionAt s) (take u (R .spots)) ++ y) (spots-positions s first b) in
+        record {
+          spots = spots′;
+          filled = subst (λ (cs : List Cell). Filled s at n (a .count + 1) next cs counts′ steps′ spots′ used′)
+              (sym (ap (λ (d : Drawing). d .cells) (shape-held a′ l′ g x))) Q;
+          bends = ap (λ (k : ℕ). take k (positionsIn xs′ ys′)) more ∙ left ∙ ap (λ (y : List Position). y ++ bs) (R .bends) ∙ sym right
+              ∙ ap (λ (k : ℕ). map (positionAt s) (take k spots′)) (sym more);
+          rows = shape-normal a′ l′ g (R .rows) x;
+          long =
+              record {
+                ids = w .ids;
+                kinds = w .kinds;
+                starts = w .starts;
+                ends = w .ends;
+                bends = w .bends;
+                counts = w .counts;
+                px = w .px;
+                py = w .py;
+                cycles = P .filled .counted .size ∙ l .cycles;
+                steps = P .filled .stepped .size ∙ l .steps;
+                bx = P .bends .across ∙ l .bx;
+                by = P .bends .up ∙ l .by;
+              };
+        }
+
+    -- the row is written
+    pub rowed-next : (is ks ss es bs cs : List ℕ) (px py : List Float) → RowPut (a .count) (c .id) (c .shape) (a .ids) (a .kinds) (a .starts) (a .ends)
+        (a .bends) (a .counts) (a .px) (a .py) is ks ss es bs cs px py
+        → Rowed s at n next (listed (a .next) (a .count + 1) is ks ss es bs cs px py counts′ steps′ xs′ ys′) used′
+    rowed-next is ks ss es bs cs px py W =
+        subst (λ (b : Arrays). Rowed s at n next b used′)
+        (sym (λ i. listed (a .next) (a .count + 1) (W .ids i) (W .kinds i) (W .starts i) (W .ends i) (W .bends i) (W .counts i) (W .px i) (W .py i) counts′
+        steps′ xs′ ys′)) rowed-turn
+
+  -- ---- a cell's head
+  pub head-some : (r : CellFound) → HeadRead s p r → (c : Cell) (first : ℕ) → r ≡ Begun c first → Found (readHead (drop p s)) s c first
+  head-some r h c first e = subst (HeadRead s p) e h
+
+  pub head-none : (r : CellFound) → HeadRead s p r → r ≡ NoCell → a .count < n → CellsOver (times readCell n (drop at s))
+  head-none r h e l = head-bad s at n (a .count) p (heldBy a .cells) (a .cycles) (a .steps) (R .spots) used (R .filled) l (subst (HeadRead s p) e h .1)
+
+  module _ (c : Cell) (first : ℕ) (H : Found (readHead (drop p s)) s c first) (xs′ ys′ : List Float) (counts′ steps′ : List ℕ) (r : Loaded)
+      (P : PartsStored s first (c .shape) (a .bx) (a .by) (a .cycles) (a .steps) used xs′ ys′ counts′ steps′ r) where
+    abbrev Stored : Loaded → Type 0
+    Stored = PartsStored s first (c .shape) (a .bx) (a .by) (a .cycles) (a .steps) used xs′ ys′ counts′ steps′
+
+    pub parts-some : (next : ℕ) (used′ : Used) → r ≡ Next next used′ → PartsPut s first (c .shape) (a .bx) (a .by) (a .cycles) (a .steps) used xs′ ys′
+        counts′ steps′ next used′
+    parts-some next used′ e = subst Stored e P
+
+    pub parts-none : r ≡ Refused → a .count < n → CellsOver (times readCell n (drop at s))
+    parts-none e l = parts-over s at n (a .count) p (heldBy a .cells) (a .cycles) (a .steps) (R .spots) used (R .filled) c first l H (subst Stored e P .1)
+
+  -- ---- all cells
+  pub rowed-left : a .count ≡ n → p < length s → CellsOver (times readCell n (drop at s))
+  rowed-left e h = bytes-left s at n (a .count) p (heldBy a .cells) (a .cycles) (a .steps) (R .spots) used (R .filled) e h
+
+  pub rowed-given : a .count ≡ n → length s ≤ p → n ≤ 256 → CellsHeld (times readCell n (drop at s)) (λ j. numbered a j n)
+  rowed-given e h few =
+      record {
+        cells =
+            λ j. filled-given s at n (a .count) p (heldBy a .cells) (a .cycles) (a .steps) (R .spots) used (R .filled) j (answerOf (numbered a j n)) refl
+            refl e h
+            (held-sizes (numbered a j n) (numbered-long a j n (R .long))) few refl refl refl refl (R .bends);
+        rows = λ j. ap (allFrom (normalAt (a .kinds) (a .starts) (a .ends) (a .bends) (a .counts)) 0) (sym e) ∙ R .rows;
+      }
+
+-- ---- the file
+pub told-yes : (q : Read (List LiveCell)) (b : ℕ → Arrays) (r : Bool) → CellsTold q b r → r ≡ true → CellsHeld q b
+told-yes q b r t e = subst (CellsTold q b) e t
+
+pub told-no : (q : Read (List LiveCell)) (b : ℕ → Arrays) (r : Bool) → CellsTold q b r → r ≡ false → CellsOver q
+told-no q b r t e = subst (CellsTold q b) e t
+
+module _ (s t : List ℕ) (next : ℕ) (e : readNumber s ≡ got next t) (n : ℕ) (u : List ℕ) (f : readNumber t ≡ got n u) where
+  pub sheet-in : (b : ℕ → Arrays) → CellsHeld (times readCell n u) b → SheetIn s (b next)
+  sheet-in b H = go (cells-read s t next e n u f (answerOf (b next)) (inl (H .cells next)))
+    where
+      go : SheetRead s (answerOf (b next)) → SheetIn s (b next)
+      go (inl p) = record { read = p .2; fits = p .1; rows = H .rows next }
+      go (inr p) = absurd (let m = p .0 .number in omega arith)

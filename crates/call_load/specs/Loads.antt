@@ -1,0 +1,107 @@
+-- What loading a drawing's file leaves in lent arrays. Definitions only.
+use Prim.Native.Nat.{ℕ, _+_, _*_, _≤_}
+use mathlib.Core.Path.{_≡_}
+use mathlib.Core.Bool.{Bool, true, false}
+use mathlib.Core.List.{List, []}
+use lib.Ieee.{Float}
+use lib.ListN.{length, drop, set}
+use Rattle.number.specs.Readers.{Read, got, times}
+use Rattle.number.specs.Said.{Said, done, no, Says}
+use Rattle.bends.specs.Bends.{positionsAt}
+use Rattle.complex.specs.Cells.{LiveCell}
+use Rattle.complex.specs.Decode.{readCycle}
+use Rattle.complex.specs.Sound.{cyclesMost, stepsMost, bendsMost}
+use Rattle.complex.specs.File.{readSheet, readFile}
+use Rattle.store.specs.declared.Shape.{Shape}
+use Rattle.store.specs.declared.Shape.the-variants.{Vertex, Open, Closed, Face}
+use Rattle.store.specs.Index.{kindOf, startOf, endOf}
+use Rattle.store.specs.View.{sheetOf, Fits, bendCount, cycleCount}
+use Rattle.reader.specs.declared.ReadAnswer.{ReadAnswer}
+use Rattle.reader.specs.declared.Used.{Used}
+use Rattle.reader.specs.declared.Loaded.{Loaded}
+use Rattle.reader.specs.Filling.{CyclesIn, loadedSays, withBends, PartsOver}
+use Rattle.reader.specs.Outcome.{CellsIn, CellsOver, refused}
+use Rattle.lent.specs.Arrays.{Arrays, heldBy, normal}
+use Rattle.kind_create.specs.Comes.{BendsPut}
+use Rattle.call_load.specs.declared.Held.{Held}
+use Rattle.call_load.specs.declared.Held.the-variants.{Cells, Refused}
+
+-- ---- a row
+-- the x's, and the y's, with the position of a vertex in a row; with another cell they stay
+abbrev pub acrossWith : List Float → ℕ → Shape → List Float
+acrossWith xs i (Vertex p) = set xs i (p .x)
+acrossWith xs i (Open s e n) = xs
+acrossWith xs i (Closed n) = xs
+acrossWith xs i (Face k) = xs
+
+abbrev pub upWith : List Float → ℕ → Shape → List Float
+upWith ys i (Vertex p) = set ys i (p .y)
+upWith ys i (Open s e n) = ys
+upWith ys i (Closed n) = ys
+upWith ys i (Face k) = ys
+
+-- the id i and the shape x are written into a row: every number, and the position of a vertex
+pub record RowPut (row i : ℕ) (x : Shape) (is ks ss es bs cs : List ℕ) (xs ys : List Float)
+    (is′ ks′ ss′ es′ bs′ cs′ : List ℕ) (xs′ ys′ : List Float) : Type 0 where
+  pub ids : is′ ≡ set is row i
+  pub kinds : ks′ ≡ set ks row (kindOf x)
+  pub starts : ss′ ≡ set ss row (startOf x)
+  pub ends : es′ ≡ set es row (endOf x)
+  pub bends : bs′ ≡ set bs row (bendCount x)
+  pub counts : cs′ ≡ set cs row (cycleCount x)
+  pub px : xs′ ≡ acrossWith xs row x
+  pub py : ys′ ≡ upWith ys row x
+
+-- ---- what follows the counts of a shape: its bends, then its cycles
+pub record PartsPut (s : List ℕ) (first : ℕ) (x : Shape) (xs ys : List Float) (counts steps : List ℕ) (used : Used)
+    (xs′ ys′ : List Float) (counts′ steps′ : List ℕ) (next : ℕ) (used′ : Used) : Type 0 where
+  pub inside : first + 16 * bendCount x ≤ length s
+  pub room : used .bends + bendCount x ≤ bendsMost
+  pub bends : BendsPut xs ys (used .bends) (positionsAt s first (bendCount x)) (bendCount x) xs′ ys′
+  pub filled : CyclesIn (times readCycle (cycleCount x) (drop (first + 16 * bendCount x) s))
+      s counts steps (withBends used (bendCount x)) counts′ steps′ next used′
+
+abbrev pub PartsStored : List ℕ → ℕ → Shape → List Float → List Float → List ℕ → List ℕ → Used
+    → List Float → List Float → List ℕ → List ℕ → Loaded → Type 0
+PartsStored s first x xs ys counts steps used xs′ ys′ counts′ steps′ r =
+    Says 10 (λ v. PartsPut s first x xs ys counts steps used xs′ ys′ counts′ steps′ (v .0) (v .1)) (PartsOver s first x used) (loadedSays r)
+
+-- the arrays have room for so much
+pub record RoomIn (used : Used) (xs ys : List Float) (counts steps : List ℕ) : Type 0 where
+  pub across : length xs ≡ bendsMost
+  pub up : length ys ≡ bendsMost
+  pub countsSize : length counts ≡ cyclesMost
+  pub stepsSize : length steps ≡ stepsMost
+  pub bendsFit : used .bends ≤ bendsMost
+  pub cyclesFit : used .cycles ≤ cyclesMost
+  pub stepsFit : used .steps ≤ stepsMost
+
+-- ---- the cells
+-- the arrays as an answer of the reader
+abbrev pub answerOf : Arrays → ReadAnswer
+answerOf b = record { number = 0; drawing = heldBy b }
+
+-- with any next id the arrays hold the cells that q reads, with nothing after them
+pub record CellsHeld (q : Read (List LiveCell)) (b : ℕ → Arrays) : Type 0 where
+  pub cells : (next : ℕ) → CellsIn q next (answerOf (b next))
+  pub rows : (next : ℕ) → normal (b next) ≡ true
+
+abbrev pub CellsTold : Read (List LiveCell) → (ℕ → Arrays) → Bool → Type 0
+CellsTold q b true = CellsHeld q b
+CellsTold q b false = CellsOver q
+
+-- ---- the file
+-- all bytes are read as the sheet that the arrays hold
+pub record SheetIn (s : List ℕ) (b : Arrays) : Type 0 where
+  pub read : readSheet s ≡ got (sheetOf (heldBy b)) []
+  pub fits : Fits (heldBy b)
+  pub rows : normal b ≡ true
+
+-- the cases of `Held`: 0 with the next id and the number of cells, or 10
+abbrev pub heldSays : Held → Said (ℕ × ℕ)
+heldSays (Cells next n) = done (next, n)
+heldSays Refused = no 10
+
+-- b next n are the arrays with the next id and the number of cells
+abbrev pub SheetLoaded : List ℕ → (ℕ → ℕ → Arrays) → Held → Type 0
+SheetLoaded s b r = Says 10 (λ v. SheetIn s (b (v .0) (v .1))) (readFile s ≡ refused) (heldSays r)

@@ -1,0 +1,150 @@
+// A script's commands, one after another, on lent arrays.
+ghost use mathlib.Core.Path.{_≡_};
+ghost use mathlib.Core.List.{_∷_, []};
+ghost use Prim.Native.Nat.{_+_, _*_, _≤_, _<_};
+ghost use lib.Dec.{T};
+ghost use lib.ListN.{length};
+ghost use lib.Seq.{sets};
+ghost use Rattle.lent.specs.Arrays.{soundArrays, lent, entry, exit};
+ghost use Rattle.entry_run.specs.Told.{lineWidth, lengthsEnd};
+ghost use Rattle.entry_run.specs.Runs.{TurnedIn, RanIn};
+use command::Decoded;
+
+// How many numbers are told of a command.
+const LINE_WIDTH: usize = 5;
+
+// The five numbers of a command, from a place on.
+pub fn put_line(
+    number: u32,
+    first: u32,
+    new: u32,
+    removed: u32,
+    left: u32,
+    lines: &mut [u32],
+    at: usize,
+)
+    requires { ⌜ at + lineWidth ≤ length (now lines) ⌝ }
+    ensures { λ r. ⌜ now (lines .exit) ≡ sets (now (lines .entry)) at (number ∷ first ∷ new ∷ removed ∷ left ∷ []) ⌝ }
+{
+    lines[at] = number;
+    lines[at + 1] = first;
+    lines[at + 2] = new;
+    lines[at + 3] = removed;
+    lines[at + 4] = left;
+}
+
+// One command of a script, the one at a place, and its five numbers; the place after it, the script's end if it is not read.
+fn turn(
+    next: &mut u32,
+    count: &mut usize,
+    ids: &mut [u32; 256],
+    kinds: &mut [u32; 256],
+    starts: &mut [u32; 256],
+    ends: &mut [u32; 256],
+    bends: &mut [u32; 256],
+    counts: &mut [u32; 256],
+    px: &mut [f64; 256],
+    py: &mut [f64; 256],
+    cycles: &mut [u32; 512],
+    steps: &mut [u32; 2048],
+    bx: &mut [f64; 2048],
+    by: &mut [f64; 2048],
+    script: &[u8],
+    at: usize,
+    lines: &mut [u32],
+    place: usize,
+) -> usize
+    requires { ⌜ T (soundArrays (lent (now next) (now count) ids kinds starts ends bends counts px py cycles steps bx by)) ⌝ }
+    requires { ⌜ length (now script) < lengthsEnd ⌝ }
+    requires { ⌜ at < length (now script) ⌝ }
+    requires { ⌜ place + lineWidth ≤ length (now lines) ⌝ }
+    ensures { λ r. ⌜ TurnedIn (entry (now (next .entry)) (now (count .entry)) ids kinds starts ends bends counts px py cycles steps bx by) (now (script .entry)) at (exit (now (next .exit)) (now (count .exit)) ids kinds starts ends bends counts px py cycles steps bx by) r (now (lines .entry)) place (now (lines .exit)) ⌝ }
+{
+    let left = &script[at..];
+    let Decoded::Whole(c, taken) = command::decode(left) else {
+        put_line(2, 0, 0, 0, left.len() as u32, lines, place);
+        return script.len();
+    };
+    let l = entry_step::step(
+        next,
+        count,
+        ids,
+        kinds,
+        starts,
+        ends,
+        bends,
+        counts,
+        px,
+        py,
+        cycles,
+        steps,
+        bx,
+        by,
+        left,
+        c,
+    );
+    let end = at + taken;
+    put_line(
+        l.number,
+        l.first,
+        l.new,
+        l.removed,
+        (script.len() - end) as u32,
+        lines,
+        place,
+    );
+    end
+}
+
+// Runs a script's commands, each on the arrays as the one before it left them, until no byte is left or one is not read: how many there
+// were. Their numbers stand in the first places of the lines.
+pub fn run_lines(
+    next: &mut u32,
+    count: &mut usize,
+    ids: &mut [u32; 256],
+    kinds: &mut [u32; 256],
+    starts: &mut [u32; 256],
+    ends: &mut [u32; 256],
+    bends: &mut [u32; 256],
+    counts: &mut [u32; 256],
+    px: &mut [f64; 256],
+    py: &mut [f64; 256],
+    cycles: &mut [u32; 512],
+    steps: &mut [u32; 2048],
+    bx: &mut [f64; 2048],
+    by: &mut [f64; 2048],
+    script: &[u8],
+    lines: &mut [u32],
+) -> usize
+    requires { ⌜ T (soundArrays (lent (now next) (now count) ids kinds starts ends bends counts px py cycles steps bx by)) ⌝ }
+    requires { ⌜ length (now script) < lengthsEnd ⌝ }
+    requires { ⌜ lineWidth * length (now script) ≤ length (now lines) ⌝ }
+    ensures { λ r. ⌜ RanIn (entry (now (next .entry)) (now (count .entry)) ids kinds starts ends bends counts px py cycles steps bx by) (now (script .entry)) (now (lines .entry)) (exit (now (next .exit)) (now (count .exit)) ids kinds starts ends bends counts px py cycles steps bx by) (now (lines .exit)) r ⌝ }
+{
+    let mut at: usize = 0;
+    let mut commands: usize = 0;
+    while at < script.len() {
+        at = turn(
+            next,
+            count,
+            ids,
+            kinds,
+            starts,
+            ends,
+            bends,
+            counts,
+            px,
+            py,
+            cycles,
+            steps,
+            bx,
+            by,
+            script,
+            at,
+            lines,
+            LINE_WIDTH * commands,
+        );
+        commands = commands + 1;
+    }
+    commands
+}
