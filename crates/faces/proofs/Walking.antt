@@ -1,14 +1,14 @@
 -- One turn of each walk along the steps and the cycles of a new face. Assumes nothing.
-use Prim.Native.Nat.{ℕ, _%_}
+use Prim.Native.Nat.{ℕ}
 use mathlib.Core.Path.{_≡_, refl, sym, ap, ap₂, _∙_}
-use mathlib.Core.Bool.{Bool, true, false, _&&_, cond, _||_}
+use mathlib.Core.Bool.{Bool, true, false, _&&_, _||_}
 use mathlib.Core.List.{List, _∷_}
 use native.Mathlib.Omega.{arith}
 use lib.Dec.{eqb}
 use lib.ListN.{getD}
 use borrow.Author.Tests.{eq-eqb, ne-eqb}
 use Rattle.complex.specs.Lists.{all}
-use Rattle.sound.specs.Rows.{Rows, sideAt, rowIn, tailIn, headIn, goesOn, leadsIn, joinsIn}
+use Rattle.sound.specs.Rows.{Rows, rowIn, tailIn, headIn, goesOn, leadsIn, joinsIn}
 
 -- ---- a test of each element
 module _ {A : Type 0} (p : A → Bool) (x : A) (xs : List A) where
@@ -26,22 +26,10 @@ module _ (k : ℕ) where
   pub edge-other : (k ≡ 1 → ⊥) → eqb k 2 ≡ (eqb k 1 || eqb k 2)
   edge-other e = sym (ap (λ (b : Bool). b || eqb k 2) (ne-eqb k 1 e))
 
--- ---- the ends of a step
-module _ (ss es : List ℕ) (r s : ℕ) where
-  pub side-back : s % 2 ≡ 1 → getD es r 0 ≡ sideAt ss es r s
-  side-back e = sym (ap (λ (b : Bool). cond b (getD es r 0) (getD ss r 0)) (eq-eqb (s % 2) 1 e))
-
-  pub side-forth : (s % 2 ≡ 1 → ⊥) → getD ss r 0 ≡ sideAt ss es r s
-  side-forth e = sym (ap (λ (b : Bool). cond b (getD es r 0) (getD ss r 0)) (ne-eqb (s % 2) 1 e))
-
 -- ---- a walk
 module _ (t : Rows) where
-  module _ (u s k : ℕ) (ek : k ≡ getD (t .kinds) (rowIn t s) 4) where
-    pub goes-no : (k ≡ 1 → ⊥) → false ≡ goesOn t u s
-    goes-no h = sym (ap (λ (b : Bool). b && eqb u (tailIn t s)) (ap (λ (n : ℕ). eqb n 1) (sym ek) ∙ ne-eqb k 1 h))
-
-    pub goes-yes : k ≡ 1 → (v : ℕ) → v ≡ tailIn t s → eqb u v ≡ goesOn t u s
-    goes-yes h v ev = ap (eqb u) ev ∙ sym (ap (λ (b : Bool). b && eqb u (tailIn t s)) (ap (λ (n : ℕ). eqb n 1) (sym ek) ∙ eq-eqb k 1 h))
+  goes-no : (u s k : ℕ) → k ≡ getD (t .kinds) (rowIn t s) 4 → (k ≡ 1 → ⊥) → false ≡ goesOn t u s
+  goes-no u s k ek h = sym (ap (λ (b : Bool). b && eqb u (tailIn t s)) (ap (λ (n : ℕ). eqb n 1) (sym ek) ∙ ne-eqb k 1 h))
 
   module _ (u s : ℕ) (st : List ℕ) (w : ℕ) where
     pub leads-no : goesOn t u s ≡ false → false ≡ leadsIn t u (s ∷ st) w
@@ -61,6 +49,12 @@ module _ (t : Rows) where
       where
         clash : k ≡ 2 → k ≡ 1 → ⊥
         clash a b = omega arith
+
+    pub joins-none : (k ≡ 1 → ⊥) → (k ≡ 2 → ⊥) → joinsIn t (s ∷ st) ≡ false
+    joins-none h g =
+        ap₂ (λ (a c : Bool). (a && leadsIn t (headIn t s) st (tailIn t s)) || (c && all (eqb s) st))
+        (sym (goes-no (tailIn t s) s k ek h))
+        (ap (λ (n : ℕ). eqb n 2) (sym ek) ∙ ne-eqb k 2 g)
 
     pub joins-round : (k ≡ 2 → ⊥) → (u : ℕ) → u ≡ tailIn t s → (r : Bool) → r ≡ leadsIn t u (s ∷ st) u → r ≡ joinsIn t (s ∷ st)
     joins-round h u eu r er =

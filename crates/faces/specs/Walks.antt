@@ -5,6 +5,7 @@ use mathlib.Core.Bool.{Bool, true, false, cond, _||_}
 use mathlib.Core.List.{List}
 use lib.Dec.{eqb}
 use lib.ListN.{length, take}
+use Rattle.number.specs.Readers.{Read}
 use Rattle.complex.specs.Lists.{all}
 use Rattle.complex.specs.Cells.{Halfedge, Cycle, lone, path, face}
 use Rattle.complex.specs.Decode.{readCycle}
@@ -12,8 +13,10 @@ use Rattle.store.specs.declared.Drawing.{Drawing}
 use Rattle.store.specs.Index.{Rising, valueAt}
 use Rattle.store.specs.Places.{numOf, stepsIn}
 use Rattle.append.specs.Appends.{Room}
-use Rattle.command.specs.Lists.{cyclesRead, Stand}
+use Rattle.command.specs.Lists.{cyclesRead, Reaches, Stand}
 use Rattle.sound.specs.Rows.{Rows, isVertexIn, cycleGood}
+use Rattle.faces.specs.declared.Walk.{Walk}
+use Rattle.faces.specs.declared.Walk.the-variants.{To, No}
 
 -- the arrays of n rows whose ids rise, with a value for each
 pub record Valued (n : ℕ) (is vs : List ℕ) : Type 0 where
@@ -30,6 +33,11 @@ pub record Rowed (n : ℕ) (is ks ss es : List ℕ) : Type 0 where
   pub starts : length ss ≡ 256
   pub ends : length es ≡ 256
   pub rising : Rising (take n is)
+
+-- what a walk along n things, each read by r, says: b holds and they reach to a place, or b does not hold
+abbrev pub Walked : {A : Type 0} → (List ℕ → Read A) → List ℕ → ℕ → ℕ → Bool → Walk → Type 0
+Walked r s at n b (To next) = (b ≡ true) × Reaches r s at n next
+Walked r s at n b No = b ≡ false
 
 -- whether the cell e is an edge, where is are the cells' ids and ks their kinds
 abbrev pub edgeIn : List ℕ → List ℕ → ℕ → Bool

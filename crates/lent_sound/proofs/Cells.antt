@@ -15,7 +15,7 @@ use Rattle.sound.proofs.Testing.{and-true, and-false, Counting, counting-turn, 
 use Rattle.answer.specs.declared.Totals.{Totals}
 use Rattle.lent.specs.Arrays.{Arrays, positionIn, normalAt, soundArrays, totalsOf, Lengths}
 use Rattle.lent_table.specs.Table.{Table}
-use Rattle.lent_cycles.specs.Ring.{Looked, stepsUpto, cyclesRight, stepsSay}
+use Rattle.lent_cycles.specs.Ring.{Looked, stepsUpto, cycleAt, cyclesRight, stepsSay}
 use Rattle.lent_cycles.specs.declared.Steps.{Steps}
 use Rattle.lent_cycles.specs.declared.Steps.the-variants.{Upto as Summed, Fault as Stop}
 use Rattle.lent_sound.specs.declared.Walked.{Walked}
@@ -116,6 +116,17 @@ module _ (a : Arrays) (i : ℕ) (t : Totals) (u : Upto a i t) (h : i < a .count)
                     let st : s ≡ stepsUpto (a .cycles) (placesUpto (a .counts) (i + 1)) = d .1 ∙ ap (stepsUpto (a .cycles)) k in
                     ap done (ex ∙ (λ j. record { cells = i + 1; cycles = k j; steps = st j; bends = bends-with b eb j }))
                     ∙ sym (ap said (right-is ∙ d .0))
+
+-- a row without cycles: nothing is wrong with them, and the steps are those before it
+pub none-right : (a : Arrays) (i : ℕ) (t : Totals) → Upto a i t → i < a .count → (c : ℕ) → c ≡ 0
+    → stepsSay (Summed (t .steps)) ≡ cond (cyclesRight (rowsIn a) (a .cycles) (a .steps) (t .cycles) c) (done (stepsUpto (a .cycles) (t .cycles + c))) (no 1)
+none-right a i t u h c z =
+    let p : t .cycles ≡ t .cycles + c = omega (arith, z) in
+    let q : t .steps ≡ stepsUpto (a .cycles) (t .cycles + c) = steps-so a i t u h ∙ ap (stepsUpto (a .cycles)) p in
+    let b : cyclesRight (rowsIn a) (a .cycles) (a .steps) (t .cycles) c ≡ true =
+    ap₂ _&&_ (le-leb (stepsUpto (a .cycles) (t .cycles + c)) stepsMost (omega (arith, q, u .steps)))
+    (ap (allFrom (cycleAt (rowsIn a) (a .cycles) (a .steps)) (t .cycles)) z) in
+    ap done q ∙ sym (ap (λ x. cond x (done (stepsUpto (a .cycles) (t .cycles + c))) (no 1)) b)
 
 -- what is asked of the figure and of the cycles
 pub looked : (a : Arrays) (i : ℕ) (t : Totals) → Upto a i t → (ts : _) → Table (a .count) ts (a .ids) → Looked (a .count) ts (a .ids) (a .kinds) (a .starts) (a .ends)

@@ -186,6 +186,14 @@ fn cell_right(
     if !bends_right(bx, by, t.bends, b) {
         return Walked::Fault;
     }
+    if c == 0 {
+        return Walked::Sound(Totals {
+            cells: i + 1,
+            cycles: t.cycles + c,
+            steps: t.steps,
+            bends: t.bends + b,
+        });
+    }
     let Steps::Upto(s) = lent_cycles::cycles_good(
         table,
         ids,

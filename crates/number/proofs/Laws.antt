@@ -57,7 +57,7 @@ below-suc k n h =
     let p : 1 ≤ 128 ^ k = one-le-pow k 128 (lit< tt) in
     omega arith
 
-pub above-suc : (k b n : ℕ) → b < 256 → n < 128 ^ k → b - 128 + 128 * n < 128 ^ suc k
+above-suc : (k b n : ℕ) → b < 256 → n < 128 ^ k → b - 128 + 128 * n < 128 ^ suc k
 above-suc k b n h l =
     let e : 128 ^ suc k ≡ 128 ^ k * 128 = pow-suc 128 k in
     omega arith
@@ -193,9 +193,6 @@ more-read (suc k) n (b ∷ s) t B e =
     let v = r .value in
     (omega arith, spelled-of-next k b n (r .above) s t h (B 0) p v (q .1)))
     (more-cases k b s t n e)
-
-pub more-small : (k n : ℕ) (s t : List ℕ) → Bytes s → more k s ≡ got n t → n < 128 ^ k
-more-small k n s t B e = more-read k n s t B e .1 .small
 
 number-read : (n : ℕ) (s t : List ℕ) → Bytes s → readNumber s ≡ got n t → Spelled numberBytes n s t
 number-read n [] t B e = absurd (not-bad n t e)

@@ -1,18 +1,16 @@
 -- What the code that reads a number at a place answers, by the byte that stands there. Assumes nothing.
 use mathlib.Core.Path.{_≡_, refl, sym, ap, _∙_}
 use mathlib.Core.List.{List, [], _∷_}
-use Prim.Native.Nat.{ℕ, zero, suc, _+_, _-_, _*_, _^_, _≤_, _<_}
-use native.Mathlib.Nat.{pos-of-ne-zero, pow-le-pow-right}
+use Prim.Native.Nat.{ℕ, zero, suc, _+_, _-_, _*_, _≤_, _<_}
+use native.Mathlib.Nat.{pos-of-ne-zero}
 use native.Mathlib.Numerals.{add-one}
 use native.Mathlib.Omega.{arith}
-use lib.Dec.{lit<, lit≤}
 use lib.ListN.{length, getD, drop, length-drop, drop-of-length-le}
 use lib.Seq.{drop-cons}
 use Rattle.number.specs.Said.{done, no, placedOr}
 use Rattle.number.specs.Readers.{Read, got, bad}
 use Rattle.number.specs.Numbers.{numberBytes, more, readNumber, numberAt}
-use Rattle.number.proofs.Bytes.{Bytes, bytes-drop}
-use Rattle.number.proofs.Laws.{joined, more-last, more-next, read-last, read-next, more-small, above-suc, done-two, not-done}
+use Rattle.number.proofs.Laws.{joined, more-last, more-next, read-last, read-next, done-two, not-done}
 
 -- ---- a byte and the bytes after it
 drop-first : (s : List ℕ) (at : ℕ) → at < length s → drop at s ≡ getD s at 0 ∷ drop (at + 1) s
@@ -89,24 +87,3 @@ module _ (s : List ℕ) (at : ℕ) where
       read-at-stop e =
           joined-malformed (length s) (getD s at 0) (more (numberBytes - 1) (drop (at + 1) s)) e
           ∙ ap (placedOr 2 (length s)) (sym (read-next (getD s at 0) (drop (at + 1) s) big) ∙ ap readNumber (sym (drop-first s at there)))
-
--- ---- what was read fits
-placed-small : (k n next : ℕ) (s : List ℕ) → Bytes s → (at : ℕ) → placedOr 2 (length s) (more k (drop at s)) ≡ done (n, next) → n < 128 ^ k
-placed-small k n next s B at e = go (more k (drop at s)) refl e
-  where
-    go : (r : Read ℕ) → more k (drop at s) ≡ r → placedOr 2 (length s) r ≡ done (n, next) → n < 128 ^ k
-    go (got m t) f p =
-        let h = more-small k m (drop at s) t (bytes-drop at s B) f in
-        let q = done-two m n (length s - length t) next p .0 in
-        omega arith
-    go bad f p = absurd (not-done 2 (n, next) p)
-
-pub value-fits : (s : List ℕ) (at k b n next : ℕ) → Bytes s → b < 256 → (k ≡ 0 → ⊥) → k ≤ numberBytes
-    → placedOr 2 (length s) (more (k - 1) (drop at s)) ≡ done (n, next) → b - 128 + 128 * n < 2 ^ 32
-value-fits s at k b n next B h z l e =
-    let p = pos-of-ne-zero z in
-    let q : suc (k - 1) ≡ k = omega arith in
-    let v : b - 128 + 128 * n < 128 ^ suc (k - 1) = above-suc (k - 1) b n h (placed-small (k - 1) n next s B at e) in
-    let m : 128 ^ suc (k - 1) ≤ 128 ^ numberBytes = pow-le-pow-right (lit< tt) {i = suc (k - 1)} {j = numberBytes} (omega arith) in
-    let w : 128 ^ numberBytes ≤ 2 ^ 32 = lit≤ tt in
-    omega arith

@@ -1,12 +1,8 @@
 ghost use mathlib.Core.Path.{_≡_};
 ghost use Prim.Native.Nat.{_+_, _≤_, _<_};
-ghost use lib.ListN.{length, drop};
+ghost use lib.ListN.{length};
 ghost use lib.Seq.{sets};
-ghost use Rattle.number.specs.Said.{placedOr};
-ghost use Rattle.number.specs.Numbers.{numberSays, numberAt, numberBytes, numbersEnd, more, spell};
-
-// The most bytes that a number takes.
-const NUMBER_BYTES: usize = 3;
+ghost use Rattle.number.specs.Numbers.{numberSays, numberAt, numbersEnd, spell};
 
 // What stands at a place: a number and the place after it, or no number.
 pub enum Number {
@@ -14,46 +10,41 @@ pub enum Number {
     Malformed,
 }
 
-// Groups of seven bits, low group first, the top bit set on all but the last byte; the shortest
-// form alone.
+// Groups of seven bits, low group first, the top bit set on all but the last byte; at most three
+// bytes, the shortest form alone.
 pub fn read_number(s: &[u8], at: usize) -> Number
     ensures { λ r. ⌜ numberSays r ≡ numberAt (now (s .entry)) at ⌝ }
 {
     if s.len() <= at {
         return Number::Malformed;
     }
-    let b = s[at] as u32;
-    if b < 128 {
-        return Number::Value(b, at + 1);
+    let a = s[at] as u32;
+    if a < 128 {
+        return Number::Value(a, at + 1);
     }
-    let Number::Value(n, next) = read_more(s, at + 1, NUMBER_BYTES - 1) else {
-        return Number::Malformed;
-    };
-    Number::Value(b - 128 + 128 * n, next)
-}
-
-// The groups after the first, of which at most `left` are to come.
-fn read_more(s: &[u8], at: usize, left: usize) -> Number
-    requires { ⌜ left ≤ numberBytes ⌝ }
-    ensures { λ r. ⌜ numberSays r ≡ placedOr 2 (length (now (s .entry))) (more left (drop at (now (s .entry)))) ⌝ }
-{
-    if left == 0 {
+    let second = at + 1;
+    if s.len() <= second {
         return Number::Malformed;
     }
-    if s.len() <= at {
-        return Number::Malformed;
-    }
-    let b = s[at] as u32;
+    let b = s[second] as u32;
     if b == 0 {
         return Number::Malformed;
     }
     if b < 128 {
-        return Number::Value(b, at + 1);
+        return Number::Value(a - 128 + 128 * b, second + 1);
     }
-    let Number::Value(n, next) = read_more(s, at + 1, left - 1) else {
+    let third = second + 1;
+    if s.len() <= third {
         return Number::Malformed;
-    };
-    Number::Value(b - 128 + 128 * n, next)
+    }
+    let c = s[third] as u32;
+    if c == 0 {
+        return Number::Malformed;
+    }
+    if 128 <= c {
+        return Number::Malformed;
+    }
+    Number::Value(a - 128 + 128 * (b - 128 + 128 * c), third + 1)
 }
 
 // Writes n at a place, and returns the place after it.

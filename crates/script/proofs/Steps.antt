@@ -5,7 +5,7 @@ use Prim.Native.Nat.{ℕ, suc, _-_, _≤_, _<_}
 use native.Mathlib.Omega.{arith}
 use lib.ListN.{length, drop}
 use Rattle.number.specs.Readers.{Read, got, bad, andThen, times}
-use Rattle.number.proofs.Laws.{not-bad}
+use Rattle.number.proofs.Laws.{not-bad, got-thing}
 use Rattle.number.proofs.Counted.{Things, times-cases}
 use Rattle.command.specs.Lists.{listOf, skipped, thingsRead, Reaches, Stand}
 use Rattle.command.proofs.Rest.{Leaves, leaves-times}
@@ -53,6 +53,10 @@ module _ {A : Type 0} (r : List ℕ → Read A) where
 
   pub none-left : (s : List ℕ) (at left : ℕ) → left ≤ 0 → thingsRead r s at left ≡ []
   none-left s at left h = let e : left ≡ 0 = omega arith in ap (thingsRead r s at) e
+
+  -- nothing comes after the last thing
+  pub none-after : (left : ℕ) → left ≡ 1 → (s t : List ℕ) (xs : List A) → times r (left - 1) s ≡ got xs t → xs ≡ []
+  none-after left e s t xs h = sym (got-thing [] xs s t (ap (λ (n : ℕ). times r (n - 1) s) (sym e) ∙ h))
 
   -- ---- a walk that answers where the list ends
   -- of n things from `at` on, `left` are left from `place` on

@@ -86,7 +86,7 @@ pub fn mark_moved(script: &[u8], place: usize, count: u32, flags: &mut [bool; 51
 // ---- the cycles of a face
 
 // How many steps they have together, a lone vertex counting as one; max + 1 if there are more than
-// max.
+// max. Where the last cycle ends is not asked.
 pub fn count_cycle_steps(script: &[u8], first: usize, count: u32, max: u32) -> usize
     requires { ⌜ Stand readCycle (now script) first count ⌝ }
     ensures { λ r. ⌜ r ≡ min (max + 1) (total stepCount (cyclesRead (now (script .entry)) first count)) ⌝ }
@@ -102,6 +102,9 @@ pub fn count_cycle_steps(script: &[u8], first: usize, count: u32, max: u32) -> u
         let n = store::places(1, m);
         if most - sum < n {
             return most + 1;
+        }
+        if left == 1 {
+            return sum + n;
         }
         let Skip::To(next) = command::skip_cycle(script, at) else {
             return 0;

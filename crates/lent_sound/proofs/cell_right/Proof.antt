@@ -6,7 +6,7 @@ use lib.ListN.{take}
 use borrow.Author.Tests.{not-true, not-false}
 use Rattle.lent.specs.Arrays.{Arrays, lent}
 use Rattle.lent_sound.specs.Walk.{figureRight, rowsIn}
-use Rattle.lent_sound.proofs.Cells.{row-in, steps-so, cell-id, cell-row, cell-bends, cell-cycles, cell-figure, cell-places, cell-stop, cell-done, looked}
+use Rattle.lent_sound.proofs.Cells.{row-in, steps-so, cell-id, cell-row, cell-bends, cell-cycles, cell-figure, cell-places, cell-stop, cell-done, none-right, looked}
 use Rattle.lent_sound.proofs.cell_right.Statement.{statement}
 use Rattle.lent_sound.proofs.cell_right.Tie as tie
 
@@ -172,9 +172,46 @@ returns-6 c =
     (cycles-fit .if4 .left) _ (figure .figure-right .ensures ∙ ap (figureRight (rowsIn (held s)) (take (s .args .count) (s .args .bends .now)) (s .args .i)) (place .vertex-at .ensures))
     (not-false _ (figure-good .if5 .left)) _ (placed .bends-right .ensures) (not-true _ (c .if6 .taken))
 
+add-t48 : tie.Need-add-t48
+add-t48 c =
+    let s = c .before .before .before .before .before .before .before .before .before .before .before .before .before .before .before .before .before .before .before .before .before .before .before in
+    record { fits = omega (arith, row-in (held s) (s .args .i) (s .args .t) (s .pre .0) (s .pre .1 .1)) }
+
+add-t49 : tie.Need-add-t49
+add-t49 c = search needs
+
+add-t50 : tie.Need-add-t50
+add-t50 c = search needs
+
+returns-7 : tie.Need-returns-7
+returns-7 c =
+    let none = c .before .before in
+    let placed-good = none .before in
+    let placed = placed-good .before in
+    let figure-good = placed .before in
+    let figure = figure-good .before in
+    let place = figure .before in
+    let cycles-fit = place .before in
+    let counted = cycles-fit .before .before in
+    let bends-fit = counted .before .before in
+    let bent = bends-fit .before .before in
+    let row-good = bent .before .before in
+    let row = row-good .before in
+    let id-good = row .before .before .before .before .before .before in
+    let id = id-good .before in
+    let s = id .before in
+    cell-done (held s) (s .args .i) (s .args .t) (s .pre .0) (s .pre .1 .1) _ (id .id-right .ensures)
+    (not-false _ (id-good .if1 .left)) _ (row .row-normal .ensures)
+    (not-false _ (row-good .if2 .left)) _ (bent .wide .ensures)
+    (bends-fit .if3 .left) _ (counted .wide2 .ensures)
+    (cycles-fit .if4 .left) _ (figure .figure-right .ensures ∙ ap (figureRight (rowsIn (held s)) (take (s .args .count) (s .args .bends .now)) (s .args .i)) (place .vertex-at .ensures))
+    (not-false _ (figure-good .if5 .left)) _ (placed .bends-right .ensures)
+    (not-false _ (placed-good .if6 .left)) _
+    (none-right (held s) (s .args .i) (s .args .t) (s .pre .0) (s .pre .1 .1) _ (none .if7 .taken)) _ refl _ refl
+
 cycles-good-requires : tie.Need-cycles-good-requires
 cycles-good-requires c κs =
-    let cycles-fit = c .before .before .before .before .before in
+    let cycles-fit = c .before .before .before .before .before .before in
     let s = cycles-fit .before .before .before .before .before .before .before .before .before .before .before .before .before .before .before .before .before in
     let u = s .pre .0 in (
       looked (held s) (s .args .i) (s .args .t) u _ (s .pre .1 .0),
@@ -196,10 +233,10 @@ enum-known-s c = search needs
 enum-told : tie.Need-enum-told
 enum-told c = search needs
 
-returns-7 : tie.Need-returns-7
-returns-7 c =
+returns-8 : tie.Need-returns-8
+returns-8 c =
     let walked = c .before .before in
-    let placed-good = walked .before in
+    let placed-good = walked .before .before in
     let placed = placed-good .before in
     let figure-good = placed .before in
     let figure = figure-good .before in
@@ -223,20 +260,23 @@ returns-7 c =
 
 add-t24 : tie.Need-add-t24
 add-t24 c =
-    let s = c .before .before .before .before .before .before .before .before .before .before .before .before .before .before .before .before .before .before .before .before .before .before .before .before .before .before in
+    let s = c .before .before .before .before .before .before .before .before .before .before .before .before .before .before .before .before .before .before .before .before .before .before .before .before .before .before .before in
     record { fits = omega (arith, row-in (held s) (s .args .i) (s .args .t) (s .pre .0) (s .pre .1 .1)) }
 
 add-t28 : tie.Need-add-t28
 add-t28 c = search needs
 
 add-t32 : tie.Need-add-t32
-add-t32 c = search needs
+add-t32 c =
+    let bends-fit = c .before .before .before .before .before .before .before .before .before .before .before .before .before .before .before .before in
+    let s = bends-fit .before .before .before .before .before .before .before .before .before .before .before .before .before in
+    record { fits = omega (arith, bends-fit .if3 .left, s .pre .0 .bends) }
 
-returns-8 : tie.Need-returns-8
-returns-8 c =
+returns-9 : tie.Need-returns-9
+returns-9 c =
     let summed = c .before .before .before in
     let walked = summed .before .before in
-    let placed-good = walked .before in
+    let placed-good = walked .before .before in
     let placed = placed-good .before in
     let figure-good = placed .before in
     let figure = figure-good .before in
@@ -291,11 +331,15 @@ cell-right-spec =
     returns-5
     bends-right-requires
     returns-6
+    add-t48
+    add-t49
+    add-t50
+    returns-7
     cycles-good-requires
     enum-known-s
     enum-told
-    returns-7
+    returns-8
     add-t24
     add-t28
     add-t32
-    returns-8)
+    returns-9)

@@ -12,7 +12,7 @@ use Rattle.command.specs.Lists.{skipSays, cyclesRead, Stand}
 use Rattle.command.proofs.Rest.{leaves-cycle, cycle-none}
 use Rattle.command.proofs.Skips.{skipped-one, skipped-none}
 use Rattle.command.proofs.Fields.{number-at, number-none}
-use Rattle.script.proofs.Steps.{stuck, first-thing, turn, none-left}
+use Rattle.script.proofs.Steps.{stuck, first-thing, turn, none-left, none-after}
 use Rattle.script.proofs.Cycles.{cycle-size}
 use Rattle.script.proofs.count_cycle_steps.Statement.{statement}
 use Rattle.script.proofs.count_cycle_steps.Tie as tie
@@ -70,6 +70,25 @@ returns-2 c =
     let v = l .inv in
     omega arith
 
+add-result-2 : tie.Need-add-result-2 Inv-loop μ-loop
+add-result-2 c = search needs
+
+returns-3 : tie.Need-returns-3 Inv-loop μ-loop
+returns-3 c =
+    let d = c .before .before .before in
+    let i = d .before .before .before .before in
+    let l = i .before .loop in
+    let s = now (i .before .before .before .before .args .script) in
+    let n = number-at s (l .at) (d .before .before .before .read-number .ensures) (d .before .m .given .1) in
+    let f = first-thing readCycle s (l .at) (l .left) (i .loop-test .taken) (l .inv .0) in
+    let z = cycle-size (d .before .m .given .0 .0) (drop (l .at) s) (drop (d .before .m .given .0 .1 .0) s) (f .between) (f .head) (n .read) (f .one) in
+    let w : total stepCount (cyclesRead s (l .at) (l .left)) ≡ stepCount (f .head) + total stepCount (f .tail) = ap (total stepCount) (f .whole) in
+    let o : total stepCount (f .tail) ≡ 0 = ap (total stepCount) (none-after readCycle (l .left) (c .if2 .taken) (f .between) _ (f .tail) (f .others)) in
+    let p = c .before .before .places .ensures in
+    let h = c .before .if1 .left in
+    let v = l .inv in
+    omega arith
+
 skip-cycle-requires : tie.Need-skip-cycle-requires Inv-loop μ-loop
 skip-cycle-requires c κs = search needs
 
@@ -79,9 +98,9 @@ enum-known-next c = search needs
 enum-told-2 : tie.Need-enum-told-2 Inv-loop μ-loop
 enum-told-2 c = search needs
 
-returns-3 : tie.Need-returns-3 Inv-loop μ-loop
-returns-3 c =
-    let i = c .before .before .before .before .before .before .before .before .before in
+returns-4 : tie.Need-returns-4 Inv-loop μ-loop
+returns-4 c =
+    let i = c .before .before .before .before .before .before .before .before .before .before in
     let l = i .before .loop in
     let s = now (i .before .before .before .before .args .script) in
     absurd (stuck readCycle s (l .at) (l .left) (i .loop-test .taken) (l .inv .0) (skipped-none (length s) (readCycle (drop (l .at) s)) (sym (c .before .before .skip-cycle .ensures) ∙ ap skipSays (c .enum-told2 .given .1))))
@@ -97,7 +116,7 @@ loop-less c = omega arith
 
 loop-again : tie.Need-loop-again Inv-loop μ-loop
 loop-again c =
-    let d = c .before .before .before .before .before .before in
+    let d = c .before .before .before .before .before .before .before in
     let i = d .before .before .before .before in
     let l = i .before .loop in
     let s = now (i .before .before .before .before .args .script) in
@@ -109,12 +128,12 @@ loop-again c =
     let t = turn readCycle s (l .at) (l .left) (i .loop-test .taken) (v .0) leaves-cycle (k .0) (c .before .next .given .0 .0) (k .1 .0) (k .1 .2) in
     let z = cycle-size (d .before .m .given .0 .0) (drop (l .at) s) (drop (d .before .m .given .0 .1 .0) s) (drop (c .before .next .given .0 .0) s) (k .0) (n .read) (k .1 .0) in
     let w : total stepCount (cyclesRead s (l .at) (l .left)) ≡ stepCount (k .0) + total stepCount (cyclesRead s (c .before .next .given .0 .0) (l .left - 1)) = ap (total stepCount) (t .0) in
-    let p = c .before .before .before .before .before .places .ensures in
-    let h = c .before .before .before .before .if1 .left in
+    let p = c .before .before .before .before .before .before .places .ensures in
+    let h = c .before .before .before .before .before .if1 .left in
     (t .1, v .1, omega arith, omega arith)
 
-returns-4 : tie.Need-returns-4 Inv-loop μ-loop
-returns-4 c =
+returns-5 : tie.Need-returns-5 Inv-loop μ-loop
+returns-5 c =
     let l = c .before .loop in
     let s = now (c .before .before .before .before .args .script) in
     let w : total stepCount (cyclesRead s (l .at) (l .left)) ≡ 0 = ap (total stepCount) (none-left readCycle s (l .at) (l .left) (c .loop-test .left)) in
@@ -137,12 +156,14 @@ count-cycle-steps-spec =
     sub-if1
     add-result
     returns-2
+    add-result-2
+    returns-3
     skip-cycle-requires
     enum-known-next
     enum-told-2
-    returns-3
+    returns-4
     add-sum
     sub-left
     loop-less
     loop-again
-    returns-4)
+    returns-5)
