@@ -4,8 +4,9 @@ use mathlib.Core.Path.{_≡_, refl, ap, ap₂, sym, subst, _∙_}
 use mathlib.Core.List.{List, [], _∷_, _++_, append-assoc}
 use native.Mathlib.Omega.{arith}
 use native.Mathlib.Numerals.{add-one}
-use lib.ListN.{length, take, drop, getD, set, length-set, length-drop, length-append}
-use lib.Seq.{take-add, take-take, drop-drop, drop-cons, take-suc, take-suc-set, take-set-le, drop-set-lt, getD-take, getD-drop, getD-set-same, length-take-le, paste, take-paste, drop-paste, take-all, take-at, drop-at}
+use lib.ListN.{length, take, drop, getD, set, length-set, length-drop, length-append, replicate, length-replicate}
+use lib.Seq.{take-add, take-take, drop-drop, drop-cons, take-suc, take-suc-set, take-set-le, drop-set-lt, getD-take, getD-drop, getD-set-same, length-take-le}
+use lib.Seq.{paste, take-paste, drop-paste, length-paste, take-all, take-at, drop-at}
 use Rattle.complex.specs.Lists.{total}
 use Rattle.store.specs.Edits.{placesOf}
 use Rattle.cycles.specs.declared.Span.{Span}
@@ -13,7 +14,7 @@ use Rattle.cycles.specs.declared.Spans.{Spans}
 use Rattle.cycles.specs.Runs.{spanOf, rowSpan, spansOf, Spliced}
 use Rattle.cycles.proofs.Splicing.{run-take, span-sum}
 use Rattle.answer.specs.declared.Totals.{Totals}
-use Rattle.kernel_cycles.specs.Replacing.{Moved, Counted}
+use Rattle.kernel_cycles.specs.Replacing.{Moved, Counted, andOne}
 
 pub moved-none : (l : List ℕ) (from n to : ℕ) → from ≡ to → Moved l from n to l
 moved-none l from n to e = record { size = refl; front = λ k h g. refl; run = ap (λ (i : ℕ). take n (drop i l)) (sym e) }
@@ -132,6 +133,59 @@ module _ (old new mid out : List ℕ) (s : Span) (n : ℕ) (ho : s .first + s .c
             (take-paste mid (s .first) new n (omega arith) hn ∙ ap (λ (q : List ℕ). q ++ take n new) (m .front (s .first) (omega arith) (omega arith)))
             (ap (take (s .rest)) (drop-paste mid (s .first) new n (omega arith) hn) ∙ m .run)
             ∙ append-assoc (take (s .first) old) (take n new) (take (s .rest) (drop (s .first + s .count) old));
+      }
+
+-- ---- one number more after the run: what follows it goes one place further
+module _ (old : List ℕ) (s : Span) (x : ℕ) where
+  run-one : s .first + s .count ≤ length old → length (take (s .count) (drop (s .first) old) ++ (x ∷ [])) ≡ s .count + 1
+  run-one h =
+      let r = take (s .count) (drop (s .first) old) in
+      let l : length r ≡ s .count = length-take-le (s .count) (drop (s .first) old) (omega (arith, length-drop (s .first) old)) in
+      length-append r (x ∷ []) ∙ omega (arith, l)
+
+  pub moved-one : (mid : List ℕ) → s .first + s .count + s .rest < length old → Moved old (s .first + s .count) (s .rest) (s .first + s .count + 1) mid
+      → Spliced old s (take (s .count) (drop (s .first) old) ++ (x ∷ [])) (s .count + 1) (set mid (s .first + s .count) x)
+  moved-one mid h m =
+      let at : ℕ = s .first + s .count in
+      let z = m .size in
+      let r = take (s .count) (drop (s .first) old) in
+      let out = set mid at x in
+      let k : s .first + (s .count + 1) + s .rest ≡ suc at + s .rest = omega arith in
+      let front : take (suc at) out ≡ take (s .first) old ++ (r ++ (x ∷ [])) =
+      take-suc-set mid at x (omega arith) ∙ ap (λ (q : List ℕ). q ++ (x ∷ [])) (m .front at (omega arith) (omega arith) ∙ take-add (s .first) (s .count) old)
+      ∙ append-assoc (take (s .first) old) r (x ∷ []) in
+      let back : take (s .rest) (drop (suc at) out) ≡ take (s .rest) (drop at old) =
+      ap (take (s .rest)) (drop-set-lt (suc at) mid at x (omega arith)) ∙ ap (λ (q : ℕ). take (s .rest) (drop q mid)) (sym (add-one at)) ∙ m .run in
+      record {
+        front =
+            ap (λ (q : ℕ). take q out) k ∙ take-add (suc at) (s .rest) out ∙ ap₂ (λ (a b : List ℕ). a ++ b) front back
+            ∙ append-assoc (take (s .first) old) (r ++ (x ∷ [])) (take (s .rest) (drop at old))
+            ∙ ap (λ (q : List ℕ). take (s .first) old ++ (q ++ take (s .rest) (drop at old)))
+            (sym (take-all (s .count + 1) (r ++ (x ∷ [])) (omega (arith, run-one (omega arith)))));
+      }
+
+  -- the same numbers at the front of a longer list
+  pub one-front : (most : ℕ) → s .count < most → s .first + s .count ≤ length old
+      → take (s .count + 1) (andOne most old s x) ≡ take (s .count) (drop (s .first) old) ++ (x ∷ [])
+  one-front most h f =
+      let zs : List ℕ = replicate most 0 in
+      let src = drop (s .first) old in
+      let lz : length zs ≡ most = length-replicate most 0 in
+      let ls : s .count ≤ length src = omega (arith, length-drop (s .first) old) in
+      let e : s .count ≡ 0 + s .count = omega arith in
+      ap (λ (k : ℕ). take k (andOne most old s x)) (add-one (s .count))
+      ∙ take-suc-set (paste zs 0 src (s .count)) (s .count) x (omega (arith, length-paste zs 0 src (s .count) (omega (arith, lz)) ls, lz))
+      ∙ ap (λ (q : List ℕ). q ++ (x ∷ [])) (ap (λ (k : ℕ). take k (paste zs 0 src (s .count))) e ∙ take-paste zs 0 src (s .count) (omega arith) ls)
+
+  pub spliced-one : (out : List ℕ) (most : ℕ) → s .count < most → s .first + s .count ≤ length old
+      → Spliced old s (take (s .count) (drop (s .first) old) ++ (x ∷ [])) (s .count + 1) out → Spliced old s (andOne most old s x) (s .count + 1) out
+  spliced-one out most h f p =
+      let r = take (s .count) (drop (s .first) old) ++ (x ∷ []) in
+      record {
+        front =
+            p .front
+            ∙ ap (λ (q : List ℕ). take (s .first) old ++ (q ++ take (s .rest) (drop (s .first + s .count) old)))
+            (take-all (s .count + 1) r (omega (arith, run-one f)) ∙ sym (one-front most h f));
       }
 
 -- ---- where a run of counts stands, by the sum of all

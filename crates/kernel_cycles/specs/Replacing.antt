@@ -3,12 +3,14 @@ use Prim.Native.Nat.{ℕ, _+_, _<_, _≤_}
 use mathlib.Core.Path.{_≡_}
 use mathlib.Core.Bool.{true}
 use mathlib.Core.List.{List}
-use lib.ListN.{length, take, drop}
+use lib.ListN.{length, take, drop, set, replicate}
+use lib.Seq.{paste}
 use Rattle.complex.specs.Lists.{total}
 use Rattle.complex.specs.Cells.{Cycle, face}
 use Rattle.complex.specs.Sound.{cellsMost, cyclesMost, stepsMost}
 use Rattle.store.specs.View.{sheetOf, Fits}
 use Rattle.store.specs.Edits.{placesOf}
+use Rattle.cycles.specs.declared.Span.{Span}
 use Rattle.cycles.specs.declared.Spans.{Spans}
 use Rattle.cycles.specs.Runs.{spansOf, Replaces, withRow}
 use Rattle.answer.specs.declared.Totals.{Totals}
@@ -29,6 +31,10 @@ pub record Counted (counts cycles : List ℕ) (row : ℕ) (t : Totals) : Type 0 
   pub cycleMost : t .cycles ≤ cyclesMost
   pub stepSum : t .steps ≡ total (placesOf 1) (take (t .cycles) cycles)
   pub stepMost : t .steps ≤ stepsMost
+
+-- the numbers of the run s and then x, before zeros: `most` numbers in all
+abbrev pub andOne : ℕ → List ℕ → Span → ℕ → List ℕ
+andOne most l s x = set (paste (replicate most 0) 0 (drop (s .first) l) (s .count)) (s .count) x
 
 -- the row of a is a face's, whose cycles and steps stand at s, and there is room for n cycles of m steps in their place
 pub record ReplacesIn (a : Arrays) (row : ℕ) (s : Spans) (counts : List ℕ) (n : ℕ) (steps : List ℕ) (m : ℕ) : Type 0 where

@@ -1,7 +1,7 @@
 ghost use mathlib.Core.Path.{_≡_};
 ghost use mathlib.Core.Bool.{cond};
 ghost use mathlib.Core.List.{_∷_, [], _++_};
-ghost use Prim.Native.Nat.{_+_, _-_, _≤_};
+ghost use Prim.Native.Nat.{_+_, _-_, _<_, _≤_};
 ghost use lib.ListN.{take, drop, length};
 ghost use Rattle.complex.specs.Lists.{total};
 ghost use Rattle.complex.specs.Sound.{cyclesMost, stepsMost};
@@ -10,7 +10,7 @@ ghost use Rattle.store.specs.Edits.{kept, placesOf};
 ghost use Rattle.cycles.specs.Runs.{spanOf, spansOf, Spliced};
 ghost use Rattle.cycles.specs.Building.{Building, Built, built};
 ghost use Rattle.lent.specs.Arrays.{lent, entry, exit};
-ghost use Rattle.kernel_cycles.specs.Replacing.{Moved, Counted, ReplacesIn, ReplacedIn};
+ghost use Rattle.kernel_cycles.specs.Replacing.{Moved, Counted, andOne, ReplacesIn, ReplacedIn};
 use answer::Totals;
 use cycles::Span;
 use cycles::Spans;
@@ -128,6 +128,48 @@ pub fn replace_cycles(
     splice(cycles, s.cycles, numbers, n);
     splice(steps, s.steps, places, m);
     counts[row] = n as u32;
+}
+
+// The number x after the run s; what follows the run goes one place further.
+fn add_number(l: &mut [u32], s: Span, x: u32)
+    requires { ⌜ s .first + s .count + s .rest < length (now l) ⌝ }
+    ensures { λ _. ⌜ Spliced (now (l .entry)) s (take (s .count) (drop (s .first) (now (l .entry))) ++ (x ∷ [])) (s .count + 1) (now (l .exit)) ⌝ }
+{
+    let at = s.first + s.count;
+    shift_back(l, at, s.rest, at + 1);
+    l[at] = x;
+}
+
+// The face in a row, whose cycles and steps stand at s, gets a cycle of one place more: the vertex h alone if m is 0,
+// the halfedge h if it is 1.
+pub fn add_cycle(
+    next: u32,
+    count: usize,
+    ids: &[u32; 256],
+    kinds: &[u32; 256],
+    starts: &[u32; 256],
+    ends: &[u32; 256],
+    bends: &[u32; 256],
+    counts: &mut [u32; 256],
+    px: &[f64; 256],
+    py: &[f64; 256],
+    cycles: &mut [u32; 512],
+    steps: &mut [u32; 2048],
+    bx: &[f64; 2048],
+    by: &[f64; 2048],
+    row: usize,
+    s: Spans,
+    m: u32,
+    h: u32,
+)
+    requires { ⌜ ReplacesIn (lent next count ids kinds starts ends bends counts px py cycles steps bx by) row s (andOne cyclesMost (now cycles) (s .cycles) m) (s .cycles .count + 1) (andOne stepsMost (now steps) (s .steps) h) (s .steps .count + 1) ⌝ }
+    ensures { λ _. ⌜ ReplacedIn (entry next count ids kinds starts ends bends counts px py cycles steps bx by) row s (s .cycles .count + 1) (s .steps .count + 1) (cyclesOf (take (s .cycles .count + 1) (andOne cyclesMost (now (cycles .entry)) (s .cycles) m)) (andOne stepsMost (now (steps .entry)) (s .steps) h)) (exit next count ids kinds starts ends bends counts px py cycles steps bx by) ⌝ }
+{
+    let c = s.cycles;
+    let p = s.steps;
+    add_number(cycles, c, m);
+    add_number(steps, p, h);
+    counts[row] = (c.count + 1) as u32;
 }
 
 // A cycle with the number c, copied unless it is skipped.

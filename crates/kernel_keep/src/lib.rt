@@ -12,25 +12,6 @@ ghost use Rattle.kernel_keep.specs.Keeps.{BendsKept, Keeps, EdgeRow, Row
 ghost use Rattle.kernel_keep.specs.Three.{ThreeRows, ThreeGone};
 use coordinate::Position;
 
-// The coordinates that are not flagged, moved to the front, and how many they are.
-fn pack_coordinates(l: &mut [f64], flags: &[bool], n: usize) -> usize
-    requires { ⌜ n ≤ length (now l) ⌝ }
-    requires { ⌜ n ≤ length (now flags) ⌝ }
-    ensures { λ r. ⌜ r ≡ length (kept (take n (now (flags .entry))) (take n (now (l .entry)))) ⌝ }
-    ensures { λ r. ⌜ Compacted (take n (now (flags .entry))) (take n (now (l .entry))) (now (l .exit)) ⌝ }
-{
-    let mut i: usize = 0;
-    let mut k: usize = 0;
-    while i < n {
-        if !flags[i] {
-            l[k] = l[i];
-            k = k + 1;
-        }
-        i = i + 1;
-    }
-    k
-}
-
 // The bends of the first n rows that are not dead, moved to the front.
 fn drop_bends(
     dead: &[bool; 256],
@@ -43,10 +24,8 @@ fn drop_bends(
     requires { ⌜ total (placesOf 0) (take n (now counts)) ≤ bendsMost ⌝ }
     ensures { λ _. ⌜ BendsKept (take n (now (dead .entry))) (take n (now (counts .entry))) (now (bx .entry)) (now (by .entry)) (now (bx .exit)) (now (by .exit)) ⌝ }
 {
-    let mut on = [false; 2048];
-    let t = store::spread_flags(dead, counts, n, 0, &mut on);
-    pack_coordinates(bx, &on, t);
-    pack_coordinates(by, &on, t);
+    keep::drop_coordinates(dead, counts, n, 0, bx);
+    keep::drop_coordinates(dead, counts, n, 0, by);
 }
 
 // The first n rows that are not dead, moved to the front, and how many they are.

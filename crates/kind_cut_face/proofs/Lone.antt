@@ -5,7 +5,7 @@ use mathlib.Core.Bool.{true}
 use mathlib.Core.List.{List, [], _∷_, _++_}
 use native.Mathlib.Omega.{arith}
 use lib.Dec.{lit≤}
-use lib.ListN.{length, take, drop, length-drop}
+use lib.ListN.{length, take, drop, length-drop, replicate, length-replicate}
 use lib.Seq.{paste, take-paste, length-paste}
 use Rattle.coordinate.specs.declared.Position.{Position}
 use Rattle.coordinate.specs.Bounds.{within}
@@ -22,13 +22,14 @@ use Rattle.store.proofs.Pools.{held-cycles}
 use Rattle.cycles.specs.declared.Spans.{Spans}
 use Rattle.cycles.specs.declared.Used.{Used}
 use Rattle.cycles.specs.Building.{Built, built}
-use Rattle.cycles.proofs.Building.{held}
+use Rattle.cycles.proofs.Building.{held, pushed-lone}
 use Rattle.append.specs.Appends.{Room}
 use Rattle.answer.specs.declared.Totals.{Totals}
 use Rattle.answer.specs.Sizes.{sized, nothing, moreLess, changedBy}
 use Rattle.answer.specs.Late.{sizesBy, lateNo}
 use Rattle.answer.proofs.Asked.{Asked, asked-of, refuses, room, answers}
 use Rattle.outline.specs.Faces.{Within, Spanned, cyclesAt, recycled}
+use Rattle.outline.proofs.Lists.{built-then}
 use Rattle.outline.proofs.Edits.{named-in}
 use Rattle.cutface.proofs.Edits.{lone-asks, lone-list, lone-room, lone-done, vertex-passed, vertex-new, vertex-more, vertex-result, vertex-cut}
 use Rattle.lent.specs.Arrays.{Arrays, heldBy, rowsBy}
@@ -38,7 +39,7 @@ use Rattle.lent.specs.Replies.{lineOf, answerBy, Ready, Obeyed, Holds}
 use Rattle.lent.proofs.Held.{held-sizes}
 use Rattle.lent.proofs.Grown.{vertex-long, vertex-normal, vertex-comes}
 use Rattle.lent.proofs.Sums.{ready-sizes, ready-rows, ready-drawing, ready-indexes, ready-totals}
-use Rattle.kernel_cycles.specs.Replacing.{ReplacedIn}
+use Rattle.kernel_cycles.specs.Replacing.{andOne, ReplacedIn}
 use Rattle.kind_cut_face.specs.Cuts.{Cuts}
 use Rattle.kind_cut_face.proofs.Cuts.{newLine, new-outcome, sizes-in, replaced-sheet}
 
@@ -74,6 +75,15 @@ runs-built cycles steps t w bc bs lc ls cs ps ec ep =
           ∙ ap (λ (l : List ℕ). cyclesOf l src) fc;
       building = record { countsSize = zc; stepsSize = zs; width = wide; cycleRoom = omega (arith, w .inCycles); stepRoom = omega (arith, w .inSteps) };
     }
+
+-- the cycles at a span, and then a vertex alone
+pub lone-built : (cycles steps : List ℕ) (t : Spans) → Within cycles steps t → t .cycles .count < cyclesMost → t .steps .count < stepsMost → (v : ℕ)
+    → Built (cyclesAt cycles steps t ++ one (lone v)) (andOne cyclesMost cycles (t .cycles) 0)
+    (record { cycles = t .cycles .count + 1; steps = t .steps .count + 1 }) (andOne stepsMost steps (t .steps) v)
+lone-built cycles steps t w hc hs v =
+    let b = runs-built cycles steps t w (replicate {A = ℕ} 512 0) (replicate {A = ℕ} 2048 0)
+    (length-replicate {A = ℕ} 512 0) (length-replicate {A = ℕ} 2048 0) _ _ refl refl in
+    built-then (one (lone v)) b (pushed-lone _ (record { cycles = t .cycles .count; steps = t .steps .count }) _ (b .building) v hc hs)
 
 -- ---- the arrays with the row of a vertex
 vertex-row : (b o : Arrays) (p : Position) → o .next ≡ withVertex b p .next → o .count ≡ withVertex b p .count → o .ids ≡ withVertex b p .ids → o .kinds ≡ withVertex b p .kinds

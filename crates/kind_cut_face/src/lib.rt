@@ -1,54 +1,21 @@
 ghost use mathlib.Core.Path.{_≡_};
 ghost use mathlib.Core.List.{_++_, _∷_, []};
-ghost use Prim.Native.Nat.{_+_, _<_};
-ghost use lib.ListN.{length};
+ghost use Prim.Native.Nat.{_+_};
 ghost use Rattle.complex.specs.Lists.{one};
 ghost use Rattle.complex.specs.Cells.{lone, vertex, cellAt};
 ghost use Rattle.complex.specs.Cells as cells;
 ghost use Rattle.complex.specs.Decode.{cutFaceVertex};
 ghost use Rattle.complex.specs.Cut.{faceCutAt};
-ghost use Rattle.complex.specs.Sound.{cyclesMost, stepsMost};
 ghost use Rattle.store.specs.View.{sheetOf};
-ghost use Rattle.cycles.specs.Building.{Built};
-ghost use Rattle.outline.specs.Faces.{Within, cyclesAt};
 ghost use Rattle.lent.specs.Arrays.{heldBy, lent, entry, exit};
 ghost use Rattle.lent.specs.Replies.{Ready, Obeyed, Holds};
 ghost use Rattle.kind_create.specs.Comes.{oneNew};
 ghost use Rattle.kind_cut_face.specs.Cuts.{Cuts};
 use answer::Totals;
 use coordinate::Position;
-use cycles::Spans;
-use cycles::Used;
 use lent::Line;
 
 // ---- 0B
-
-// The cycles that stand at s, and then a lone vertex.
-fn and_lone(
-    cycles: &[u32; 512],
-    steps: &[u32; 2048],
-    s: Spans,
-    v: u32,
-    counts: &mut [u32; 512],
-    out: &mut [u32; 2048],
-) -> Used
-    requires { ⌜ Within (now cycles) (now steps) s ⌝ }
-    requires { ⌜ s .cycles .count < cyclesMost ⌝ }
-    requires { ⌜ s .steps .count < stepsMost ⌝ }
-    requires { ⌜ length (now counts) ≡ cyclesMost ⌝ }
-    requires { ⌜ length (now out) ≡ stepsMost ⌝ }
-    ensures { λ r. ⌜ Built (cyclesAt (now (cycles .entry)) (now (steps .entry)) s ++ one (lone v)) (now (counts .exit)) r (now (out .exit)) ⌝ }
-{
-    let c = s.cycles;
-    let p = s.steps;
-    cycles::copy_run(cycles, c.first, c.count, counts, 0);
-    cycles::copy_run(steps, p.first, p.count, out, 0);
-    let u = Used {
-        cycles: c.count,
-        steps: p.count,
-    };
-    cycles::push_lone(counts, out, u, v)
-}
 
 // The face gets a lone vertex more, and the vertex comes.
 fn cut_at(
@@ -78,12 +45,10 @@ fn cut_at(
 {
     let n = *count;
     let id = *next;
+    let vertex = id;
     let row = store::find(ids, n, f);
     let s = kernel_cycles::spans_at(counts, cycles, row, t);
-    let mut numbers = [0u32; 512];
-    let mut places = [0u32; 2048];
-    let u = and_lone(cycles, steps, s, id, &mut numbers, &mut places);
-    kernel_cycles::replace_cycles(
+    kernel_cycles::add_cycle(
         id,
         n,
         ids,
@@ -100,10 +65,8 @@ fn cut_at(
         by,
         row,
         s,
-        &numbers,
-        u.cycles,
-        &places,
-        u.steps,
+        0,
+        vertex,
     );
     lent::put_position(px, py, n, p);
     kind_create::add_row(

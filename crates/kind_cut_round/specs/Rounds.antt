@@ -2,8 +2,8 @@
 use Prim.Native.Nat.{ℕ, _+_, _*_, _≤_}
 use mathlib.Core.Path.{_≡_}
 use mathlib.Core.Bool.{true}
-use mathlib.Core.List.{List}
-use lib.ListN.{length}
+use mathlib.Core.List.{List, _∷_}
+use lib.ListN.{length, replicate}
 use Rattle.bends.specs.Bends.{positionsAt}
 use Rattle.complex.specs.Cells.{Sheet, closedEdge, face}
 use Rattle.store.specs.View.{sheetOf, Fits, cycleTotal, stepTotal}
@@ -36,3 +36,13 @@ pub record PartRoom (b : Arrays) (c p : ℕ) (numbers : List ℕ) (u : Used) (pl
   pub steps : p ≡ stepTotal (heldBy b)
   pub building : Building numbers u places
   pub room : Room (heldBy b) (face (built numbers u places))
+
+-- one cycle of one step, before zeros
+abbrev pub single : Used
+single = record { cycles = 1; steps = 1 }
+
+abbrev pub stepNumbers : List ℕ
+stepNumbers = 1 ∷ replicate 511 0
+
+abbrev pub stepPlaces : ℕ → List ℕ
+stepPlaces h = h ∷ replicate 2047 0

@@ -1,6 +1,6 @@
 ghost use mathlib.Core.Path.{_≡_};
 ghost use mathlib.Core.Bool.{true};
-ghost use mathlib.Core.List.{_++_, _∷_};
+ghost use mathlib.Core.List.{[], _++_, _∷_};
 ghost use Prim.Native.Nat.{_+_, _*_, _<_, _≤_};
 ghost use lib.ListN.{length, take};
 ghost use Rattle.number.specs.Numbers.{readNumber};
@@ -18,7 +18,7 @@ ghost use Rattle.outline.specs.Faces.{Within, cyclesAt};
 ghost use Rattle.cutface.specs.Rounds.{stayed, left, RoundCut};
 ghost use Rattle.lent.specs.Arrays.{heldBy, rowsBy, lent, entry, exit};
 ghost use Rattle.lent.specs.Replies.{Ready, Obeyed, Holds};
-ghost use Rattle.kind_cut_round.specs.Rounds.{HoldsIn, RingRoom, PartRoom};
+ghost use Rattle.kind_cut_round.specs.Rounds.{HoldsIn, RingRoom, PartRoom, single, stepNumbers, stepPlaces};
 use answer::Totals;
 use cycles::Spans;
 use cycles::Used;
@@ -234,8 +234,153 @@ pub fn add_part(
     );
 }
 
+// A face comes, of one cycle of the step h alone: c cycles and s steps are in use.
+fn add_back(
+    next: &mut u32,
+    count: &mut usize,
+    ids: &mut [u32; 256],
+    kinds: &mut [u32; 256],
+    starts: &mut [u32; 256],
+    ends: &mut [u32; 256],
+    bends: &mut [u32; 256],
+    counts: &mut [u32; 256],
+    px: &[f64; 256],
+    py: &[f64; 256],
+    cycles: &mut [u32; 512],
+    steps: &mut [u32; 2048],
+    bx: &[f64; 2048],
+    by: &[f64; 2048],
+    c: usize,
+    s: usize,
+    h: u32,
+)
+    requires { ⌜ PartRoom (lent (now next) (now count) ids kinds starts ends bends counts px py cycles steps bx by) c s stepNumbers single (stepPlaces h) ⌝ }
+    ensures { λ _. ⌜ now (next .exit) ≡ now (next .entry) + 1 ⌝ }
+    ensures { λ _. ⌜ now (count .exit) ≡ now (count .entry) + 1 ⌝ }
+    ensures { λ _. ⌜ Holds (appended (sheetOf (heldBy (entry (now (next .entry)) (now (count .entry)) ids kinds starts ends bends counts px py cycles steps bx by))) (face (built stepNumbers single (stepPlaces h)))) (exit (now (next .exit)) (now (count .exit)) ids kinds starts ends bends counts px py cycles steps bx by) ⌝ }
+{
+    cycles[c] = 1;
+    steps[s] = h;
+    kind_create::add_row(
+        next,
+        count,
+        ids,
+        kinds,
+        starts,
+        ends,
+        bends,
+        counts,
+        3,
+        0,
+        0,
+        0,
+        1,
+    );
+}
+
+// No cycle goes to the new face: the face gets the edge after its cycles; the edge comes, and the face of the edge backward.
+fn cut_round_whole(
+    next: &mut u32,
+    count: &mut usize,
+    ids: &mut [u32; 256],
+    kinds: &mut [u32; 256],
+    starts: &mut [u32; 256],
+    ends: &mut [u32; 256],
+    bends: &mut [u32; 256],
+    counts: &mut [u32; 256],
+    px: &[f64; 256],
+    py: &[f64; 256],
+    cycles: &mut [u32; 512],
+    steps: &mut [u32; 2048],
+    bx: &mut [f64; 2048],
+    by: &mut [f64; 2048],
+    t: Totals,
+    script: &[u8],
+    f: u32,
+    k: u32,
+    first: usize,
+)
+    requires { ⌜ Ready (lent (now next) (now count) ids kinds starts ends bends counts px py cycles steps bx by) t ⌝ }
+    requires { ⌜ RoundCut (heldBy (lent (now next) (now count) ids kinds starts ends bends counts px py cycles steps bx by)) (rowsBy (lent (now next) (now count) ids kinds starts ends bends counts px py cycles steps bx by)) (now script) f k first 0 0 ⌝ }
+    ensures { λ _. ⌜ now (next .exit) ≡ now (next .entry) + 2 ⌝ }
+    ensures { λ _. ⌜ now (count .exit) ≡ now (count .entry) + 2 ⌝ }
+    ensures { λ _. ⌜ Holds (faceCutRound (sheetOf (heldBy (entry (now (next .entry)) (now (count .entry)) ids kinds starts ends bends counts px py cycles steps bx by))) f (positionsAt (now (script .entry)) first k) []) (exit (now (next .exit)) (now (count .exit)) ids kinds starts ends bends counts px py cycles steps bx by) ⌝ }
+{
+    let n = *count;
+    let id = *next;
+    let row = store::find(ids, n, f);
+    let s = kernel_cycles::spans_at(counts, cycles, row, t);
+    kernel_cycles::add_cycle(
+        id,
+        n,
+        ids,
+        kinds,
+        starts,
+        ends,
+        bends,
+        counts,
+        px,
+        py,
+        cycles,
+        steps,
+        bx,
+        by,
+        row,
+        s,
+        1,
+        2 * id,
+    );
+    let c = s.cycles;
+    let p = s.steps;
+    let sums = Totals {
+        cells: n,
+        cycles: c.first + (c.count + 1) + c.rest,
+        steps: p.first + (p.count + 1) + p.rest,
+        bends: t.bends,
+    };
+    add_ring(
+        next,
+        count,
+        ids,
+        kinds,
+        starts,
+        ends,
+        bends,
+        counts,
+        px,
+        py,
+        cycles,
+        steps,
+        bx,
+        by,
+        sums,
+        script,
+        k,
+        first,
+    );
+    add_back(
+        next,
+        count,
+        ids,
+        kinds,
+        starts,
+        ends,
+        bends,
+        counts,
+        px,
+        py,
+        cycles,
+        steps,
+        bx,
+        by,
+        sums.cycles,
+        sums.steps,
+        2 * id + 1,
+    );
+}
+
 // The face gets the cycles that are kept; the edge comes, and the face of the cycles that go.
-fn cut_round(
+fn cut_round_parted(
     next: &mut u32,
     count: &mut usize,
     ids: &mut [u32; 256],
@@ -356,6 +501,85 @@ fn cut_round(
         &gc,
         q.new,
         &gp,
+    );
+}
+
+// The face is cut; where no cycle goes, nothing is built aside.
+fn cut_round(
+    next: &mut u32,
+    count: &mut usize,
+    ids: &mut [u32; 256],
+    kinds: &mut [u32; 256],
+    starts: &mut [u32; 256],
+    ends: &mut [u32; 256],
+    bends: &mut [u32; 256],
+    counts: &mut [u32; 256],
+    px: &[f64; 256],
+    py: &[f64; 256],
+    cycles: &mut [u32; 512],
+    steps: &mut [u32; 2048],
+    bx: &mut [f64; 2048],
+    by: &mut [f64; 2048],
+    t: Totals,
+    script: &[u8],
+    f: u32,
+    k: u32,
+    first: usize,
+    moved: u32,
+    place: usize,
+)
+    requires { ⌜ Ready (lent (now next) (now count) ids kinds starts ends bends counts px py cycles steps bx by) t ⌝ }
+    requires { ⌜ RoundCut (heldBy (lent (now next) (now count) ids kinds starts ends bends counts px py cycles steps bx by)) (rowsBy (lent (now next) (now count) ids kinds starts ends bends counts px py cycles steps bx by)) (now script) f k first moved place ⌝ }
+    ensures { λ _. ⌜ now (next .exit) ≡ now (next .entry) + 2 ⌝ }
+    ensures { λ _. ⌜ now (count .exit) ≡ now (count .entry) + 2 ⌝ }
+    ensures { λ _. ⌜ Holds (faceCutRound (sheetOf (heldBy (entry (now (next .entry)) (now (count .entry)) ids kinds starts ends bends counts px py cycles steps bx by))) f (positionsAt (now (script .entry)) first k) (numbersRead (now (script .entry)) place moved)) (exit (now (next .exit)) (now (count .exit)) ids kinds starts ends bends counts px py cycles steps bx by) ⌝ }
+{
+    if moved == 0 {
+        cut_round_whole(
+            next,
+            count,
+            ids,
+            kinds,
+            starts,
+            ends,
+            bends,
+            counts,
+            px,
+            py,
+            cycles,
+            steps,
+            bx,
+            by,
+            t,
+            script,
+            f,
+            k,
+            first,
+        );
+        return;
+    }
+    cut_round_parted(
+        next,
+        count,
+        ids,
+        kinds,
+        starts,
+        ends,
+        bends,
+        counts,
+        px,
+        py,
+        cycles,
+        steps,
+        bx,
+        by,
+        t,
+        script,
+        f,
+        k,
+        first,
+        moved,
+        place,
     );
 }
 

@@ -13,7 +13,7 @@ use answer::Totals;
 use copies::Use;
 use lent::Line;
 
-// The groups of the ends at vertex v, and how many there are.
+// The groups of the ends at vertex v, and how many there are. Room for the links is made as long as the steps ask for.
 fn group_ends(
     next: u32,
     count: usize,
@@ -41,10 +41,16 @@ fn group_ends(
     ensures { λ r. ⌜ r ≤ 512 ⌝ }
 {
     unglue::mark_ends(kinds, starts, ends, count, v, at);
+    if t.steps <= 256 {
+        let mut xs = [0u32; 256];
+        let mut ys = [0u32; 256];
+        let k = unglue::find_links(ids, count, at, cycles, t.cycles, steps, &mut xs, &mut ys);
+        return unglue::find_groups(groups, at, &xs, &ys, k, count * 2);
+    }
     let mut xs = [0u32; 2048];
     let mut ys = [0u32; 2048];
     let k = unglue::find_links(ids, count, at, cycles, t.cycles, steps, &mut xs, &mut ys);
-    unglue::find_groups(groups, at, &xs, &ys, k)
+    unglue::find_groups(groups, at, &xs, &ys, k, count * 2)
 }
 
 // The ends at v and the lone cycles of v become its copies.

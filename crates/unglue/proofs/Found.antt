@@ -1,11 +1,12 @@
 -- What the search for groups is given and finds. Assumes nothing.
-use Prim.Native.Nat.{ℕ, zero, suc, _+_, _≤_}
+use Prim.Native.Nat.{ℕ, zero, suc, _+_, _*_, _≤_, _<_}
 use native.Mathlib.Omega.{arith}
 use mathlib.Core.Path.{_≡_, refl, sym, ap, _∙_, subst}
-use mathlib.Core.Bool.{Bool, false}
+use mathlib.Core.Bool.{Bool, true, false, true≢false}
+use borrow.Author.Tests.{ltb-true, ltb-false}
 use mathlib.Core.List.{List, [], _∷_, _++_}
 use mathlib.Core.Option.{Option, none, some}
-use lib.Dec.{T}
+use lib.Dec.{T, ltb}
 use lib.ListN.{length, take, getD, replicate, length-replicate, length-map}
 use Rattle.coordinate.specs.declared.Position.{Position}
 use Rattle.number.specs.Readers.{spread}
@@ -23,7 +24,7 @@ use Rattle.store.specs.View.{sheetOf, cyclesOf, cycleTotal}
 use Rattle.store.proofs.Stands.{used-cycles}
 use Rattle.sound.specs.Soundness.{soundDrawing}
 use Rattle.sound.proofs.Meaning.{sound-fits}
-use Rattle.unglue.specs.Search.{Links, Ready, Sorting}
+use Rattle.unglue.specs.Search.{Links, Ready, Marked, Numbered, Sorting}
 use Rattle.unglue.specs.Places.{placeAt, turnsOf, linkKept, leftPlaces, rightPlaces, EndMarks, GroupedEnds, Put, Fresh}
 use Rattle.unglue.proofs.Search.{sorting-start}
 use Rattle.unglue.proofs.Vertex.{kept-are, label, links-in, classes, grouped}
@@ -102,9 +103,25 @@ module _ (d : Drawing) (z : Sizes d) (w : T (soundDrawing d)) (ix : Index) (x : 
   rights : take m ys ≡ rightPlaces (take (d .count) (ix .ids)) (passagesAt (sheetOf d .cells) v)
   rights = P .rights ∙ ap (rightPlaces (take (d .count) (ix .ids))) kept
 
-  pub groups-found : (g : ℕ) (G : List ℕ) → Sorting at xs ys m (length at) g G → GroupedEnds d ix v g at G × (g ≤ 512)
-  groups-found g G S =
-      (grouped d z w ix x v at M (at-v .0) (at-v .1) m xs ys many lefts rights g G (S .right (label d z w ix x v at M (at-v .0) (at-v .1)) (classes d z w ix x v at M (at-v .0) (at-v .1) m xs ys many lefts rights)), let f = S .few in omega arith)
+  -- past the rows in use no place is marked
+  all-done : (L : ℕ → ℕ) (g : ℕ) (G : List ℕ) → Numbered at xs ys m L (d .count * 2) g G → Numbered at xs ys m L (length at) g G
+  all-done L g G N = record { most = N .most; done = done; along = N .along; label = N .label; found = N .found }
+    where
+      done : (q : ℕ) → q < length at → Marked at q → (getD G q 0 ≡ 0 → ⊥)
+      done q l k = go (ltb q (d .count * 2)) refl
+        where
+          go : (b : Bool) → ltb q (d .count * 2) ≡ b → (getD G q 0 ≡ 0 → ⊥)
+          go true e = N .done q (ltb-true q (d .count * 2) e) k
+          go false e = absurd (true≢false (sym k ∙ M .rest q (ltb-false q (d .count * 2) e)))
+
+  pub groups-found : (g : ℕ) (G : List ℕ) → d .count * 2 ≤ 512 → Sorting at xs ys m (d .count * 2) g G → GroupedEnds d ix v g at G × (g ≤ 512)
+  groups-found g G small S =
+      let v-at = at-v .0 in
+      let is-at = at-v .1 in
+      let l = label d z w ix x v at M v-at is-at in
+      let n = S .right l (classes d z w ix x v at M v-at is-at m xs ys many lefts rights) in
+      let f = S .few in
+      (grouped d z w ix x v at M v-at is-at m xs ys many lefts rights g G (all-done l g G n), omega arith)
 
   pub links-ready : (G : List ℕ) → length G ≡ 512 → ((p : ℕ) → getD G p 0 ≡ 0) → Ready (length G) at xs ys m × Sorting at xs ys m 0 0 G
   links-ready G e u =

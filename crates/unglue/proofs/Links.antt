@@ -117,6 +117,10 @@ module _ (is : List ℕ) (at : List Bool) where
         go true p = (p .count, p .lefts ∙ ap (λ (n : ℕ). take used xs ++ (n ∷ [])) left-is, p .rights ∙ ap (λ (n : ℕ). take used ys ++ (n ∷ [])) right-is)
         go false p = (p .count, p .lefts, p .rights)
 
+    -- a passage that comes in at a place that is not marked
+    pub put-skip : getD at x false ≡ false → (used : ℕ) (xs ys : List ℕ) → Put is at (one (passage (halfedgeOf h) (halfedgeOf k))) used xs ys used xs ys
+    put-skip e used xs ys = put-one false (sym (ap (λ (b : Bool). b && getD at y false) e)) used xs ys used xs ys (pair-none x y used xs ys)
+
 -- ---- the passages of one cycle, by their places
 passages-length : (f h : Halfedge) (hs : List Halfedge) → length (passagesFrom f h hs) ≡ suc (length hs)
 passages-length f h [] = refl

@@ -1,6 +1,6 @@
 ghost use mathlib.Core.Path.{_≡_};
 ghost use Prim.Native.Nat.{_+_, _*_, _≤_, _<_};
-ghost use mathlib.Core.Bool.{false, _&&_};
+ghost use mathlib.Core.Bool.{false};
 ghost use mathlib.Core.List.{map};
 ghost use lib.ListN.{length, take, getD};
 ghost use Rattle.complex.specs.Lists.{one};
@@ -107,13 +107,20 @@ fn start_group(
     g + 1
 }
 
-// The marked places get the numbers of their groups, from 1 on in the order of their first places; how many groups there are.
-pub fn find_groups(groups: &mut [u32], at: &[bool], xs: &[u32], ys: &[u32], m: usize) -> u32
+// The marked places before n get the numbers of their groups, from 1 on in the order of their first places; how many groups there are.
+pub fn find_groups(
+    groups: &mut [u32],
+    at: &[bool],
+    xs: &[u32],
+    ys: &[u32],
+    m: usize,
+    n: usize,
+) -> u32
+    requires { ⌜ n ≤ length (now at) ⌝ }
     requires { ⌜ Ready (length (now groups)) (now at) (now xs) (now ys) m ⌝ }
     requires { ⌜ Sorting (now at) (now xs) (now ys) m 0 0 (now groups) ⌝ }
-    ensures { λ r. ⌜ Sorting (now (at .entry)) (now (xs .entry)) (now (ys .entry)) m (length (now (at .entry))) r (now (groups .exit)) ⌝ }
+    ensures { λ r. ⌜ Sorting (now (at .entry)) (now (xs .entry)) (now (ys .entry)) m n r (now (groups .exit)) ⌝ }
 {
-    let n = at.len();
     let mut g: u32 = 0;
     let mut p: usize = 0;
     while p < n {
@@ -141,15 +148,6 @@ fn is_marked(at: &[bool], p: u32) -> bool
         return at[i];
     }
     false
-}
-
-fn are_marked(at: &[bool], x: u32, y: u32) -> bool
-    ensures { λ r. ⌜ r ≡ (getD (now (at .entry)) x false && getD (now (at .entry)) y false) ⌝ }
-{
-    if !is_marked(at, x) {
-        return false;
-    }
-    is_marked(at, y)
 }
 
 fn put_pair(keep: bool, x: u32, y: u32, xs: &mut [u32], ys: &mut [u32], used: usize) -> usize
@@ -182,8 +180,11 @@ fn put_link(
     ensures { λ r. ⌜ Put (take n (now (ids .entry))) (now (at .entry)) (one (passage (halfedgeOf h) (halfedgeOf k))) used (now (xs .entry)) (now (ys .entry)) r (now (xs .exit)) (now (ys .exit)) ⌝ }
 {
     let x = place(ids, n, h / 2, 1 - h % 2);
+    if !is_marked(at, x) {
+        return used;
+    }
     let y = place(ids, n, k / 2, k % 2);
-    let keep = are_marked(at, x, y);
+    let keep = is_marked(at, y);
     put_pair(keep, x, y, xs, ys, used)
 }
 

@@ -1,34 +1,40 @@
--- `cut_at` meets its contract: other cycles in the place of the face's own, and the vertex in the next row. Assumes nothing.
-use Prim.Native.Nat.{ℕ}
+-- `cut_at` meets its contract: a lone vertex after the face's cycles, and the vertex in the next row. Assumes nothing.
+use Prim.Native.Nat.{ℕ, _+_}
 use mathlib.Core.Path.{_≡_, refl}
-use mathlib.Core.List.{List, [], _∷_}
-use lib.ListN.{length-replicate}
+use mathlib.Core.List.{List, [], _∷_, _++_}
 use denote.Ref.{now}
-use Rattle.complex.specs.Cells.{Cycle, Figure, vertex}
-use Rattle.cycles.specs.Building.{built}
+use Rattle.complex.specs.Lists.{one}
+use Rattle.complex.specs.Cells.{Cycle, Figure, lone, vertex}
+use Rattle.complex.specs.Sound.{cyclesMost, stepsMost}
+use Rattle.cycles.specs.Building.{Built, built}
+use Rattle.cycles.specs.declared.Spans.{Spans}
 use Rattle.cycles.specs.declared.Used.{Used}
 use Rattle.store.specs.View.{sheetOf}
 use Rattle.append.specs.Appends.{Room}
-use Rattle.outline.specs.Faces.{Spanned, recycled}
+use Rattle.outline.specs.Faces.{Spanned, cyclesAt, recycled}
 use Rattle.cutface.proofs.Edits.{lone-asks, lone-list}
 use Rattle.lent.specs.Arrays.{Arrays, lent, heldBy, rowsBy}
-use Rattle.kernel_cycles.specs.Replacing.{ReplacesIn, ReplacedIn}
+use Rattle.kernel_cycles.specs.Replacing.{andOne, ReplacesIn, ReplacedIn}
 use Rattle.kind_cut_face.specs.Cuts.{Cuts}
 use Rattle.kind_cut_face.proofs.Cuts.{sizes-in, find-asks, counted, span, replaces, replaced-sheet}
-use Rattle.kind_cut_face.proofs.Lone.{withLone, vertex-room, vertex-holds}
+use Rattle.kind_cut_face.proofs.Lone.{withLone, lone-built, vertex-room, vertex-holds}
 use Rattle.kind_cut_face.proofs.cut_at.Statement.{statement}
 use Rattle.kind_cut_face.proofs.cut_at.Tie as tie
 
 abbrev arrays : (c : tie.Start) → Arrays
 arrays c =
     let a = c .args in
-    lent (now (a .next)) (now (a .count)) (a .ids) (a .kinds) (a .starts) (a .ends) (a .bends) (a .counts) (a .px) (a .py) (a .cycles) (a .steps) (a .bx) (a .by)
+    lent (now (a .next)) (now (a .count)) (a .ids) (a .kinds) (a .starts) (a .ends) (a .bends) (a .counts)
+    (a .px) (a .py) (a .cycles) (a .steps) (a .bx) (a .by)
 
 abbrev list : (c : tie.Start) → List Cycle
 list c = withLone (arrays c) (c .args .t) (c .args .f) (c .args .p)
 
 abbrev new : (c : tie.Start) → List Figure
 new c = vertex (c .args .p) ∷ []
+
+abbrev used : Spans → Used
+used q = record { cycles = q .cycles .count + 1; steps = q .steps .count + 1 }
 
 find-requires : tie.Need-find-requires
 find-requires c κs = let s = c .before .before .before in find-asks (arrays s) (s .args .t) (s .args .f) (list s) (new s) (s .pre)
@@ -40,57 +46,61 @@ spans-at-requires c κs =
     counted (arrays s) (s .args .t) (s .args .f) (list s) (new s) (s .pre) (x .find .result) (x .find .ensures)
 
 -- where the face's cycles stand
-spanned-at : (y : tie.After-spans-at) → let x = y .before .before .before in let s = x .before .before .before .before in Spanned (heldBy (arrays s)) (s .args .f) (y .spans-at .result)
+spanned-at : (y : tie.After-spans-at)
+    → let x = y .before .before .before in let s = x .before .before .before .before in Spanned (heldBy (arrays s)) (s .args .f) (y .spans-at .result)
 spanned-at y =
     let x = y .before .before .before in
     let s = x .before .before .before .before in
     span (arrays s) (s .args .t) (s .args .f) (list s) (new s) (s .pre) (x .find .result) (x .find .ensures) (y .spans-at .result) (y .spans-at .ensures)
 
-and-lone-requires : tie.Need-and-lone-requires
-and-lone-requires c κs =
-    let y = c .before .before .before .before in
+-- the list that stands there with the lone vertex
+made : (y : tie.After-spans-at) → let s = y .before .before .before .before .before .before .before in let q = y .spans-at .result in
+    Built (cyclesAt (arrays s .cycles) (arrays s .steps) q ++ one (lone (arrays s .next))) (andOne cyclesMost (arrays s .cycles) (q .cycles) 0) (used q)
+    (andOne stepsMost (arrays s .steps) (q .steps) (arrays s .next))
+made y =
     let s = y .before .before .before .before .before .before .before in
     let a = arrays s in
-    let g = lone-asks (heldBy a) (sizes-in a (s .args .t) (s .args .f) (list s) (new s) (s .pre)) (rowsBy a) (s .args .f) (s .pre .named) (s .args .p) (s .pre .room) (y .spans-at .result) (spanned-at y) in
-    (g .0, (g .1 .0, (g .1 .1, (length-replicate {A = ℕ} 512 0, length-replicate {A = ℕ} 2048 0))))
+    let q = y .spans-at .result in
+    let g = lone-asks (heldBy a) (sizes-in a (s .args .t) (s .args .f) (list s) (new s) (s .pre)) (rowsBy a) (s .args .f) (s .pre .named) (s .args .p)
+    (s .pre .room) q (spanned-at y) in
+    lone-built (a .cycles) (a .steps) q (g .0) (g .1 .0) (g .1 .1) (a .next)
 
--- the list that is built
-listed : (l : tie.After-and-lone) → let y = l .before .before .before .before .before in let s = y .before .before .before .before .before .before .before in
-    built (l .and-lone .last .1 .1 .1 .1 .0) (l .and-lone .result) (l .and-lone .last .1 .1 .1 .1 .1 .0) ≡ list s
-listed l =
-    let y = l .before .before .before .before .before in
+listed : (y : tie.After-spans-at) → let s = y .before .before .before .before .before .before .before in let q = y .spans-at .result in
+    built (andOne cyclesMost (arrays s .cycles) (q .cycles) 0) (used q) (andOne stepsMost (arrays s .steps) (q .steps) (arrays s .next)) ≡ list s
+listed y =
     let s = y .before .before .before .before .before .before .before in
     let a = arrays s in
-    lone-list (heldBy a) (sizes-in a (s .args .t) (s .args .f) (list s) (new s) (s .pre)) (rowsBy a) (s .args .f) (s .pre .named) (s .args .p) (s .pre .room) (y .spans-at .result) (spanned-at y) _ _ _ (l .and-lone .ensures)
+    lone-list (heldBy a) (sizes-in a (s .args .t) (s .args .f) (list s) (new s) (s .pre)) (rowsBy a) (s .args .f) (s .pre .named) (s .args .p)
+    (s .pre .room) (y .spans-at .result) (spanned-at y) _ _ _ (made y)
 
-replace-cycles-requires : tie.Need-replace-cycles-requires
-replace-cycles-requires c κs =
-    let l = c .before .before .before .before .before .before .before .before .before .before .before .before in
-    let y = l .before .before .before .before .before in
+add-cycle-requires : tie.Need-add-cycle-requires
+add-cycle-requires c κs =
+    let y = c .before .before .before .before .before .before .before .before .before .before in
     let x = y .before .before .before in
     let s = x .before .before .before .before in
-    replaces (arrays s) (s .args .t) (s .args .f) (list s) (new s) (s .pre) (x .find .result) (x .find .ensures) (y .spans-at .result) (y .spans-at .ensures) _ (l .and-lone .result) _ (l .and-lone .ensures .building) (listed l)
+    replaces (arrays s) (s .args .t) (s .args .f) (list s) (new s) (s .pre) (x .find .result) (x .find .ensures) (y .spans-at .result)
+    (y .spans-at .ensures) _ (used (y .spans-at .result)) _ (made y .building) (listed y)
 
 put-position-requires : tie.Need-put-position-requires
 put-position-requires c κs =
     let r = c .before .before in
-    let l = r .before .before .before .before .before .before .before .before .before .before .before .before .before in
-    let y = l .before .before .before .before .before in
+    let y = r .before .before .before .before .before .before .before .before .before .before .before in
     let x = y .before .before .before in
     let s = x .before .before .before .before in
-    let q = r .replace-cycles .ensures in
-    let e = replaced-sheet (arrays s) (s .args .t) (s .args .f) (list s) (new s) (s .pre) (x .find .result) (x .find .ensures) (y .spans-at .result) (y .spans-at .ensures) _ (l .and-lone .result) _ (l .and-lone .ensures .building) (listed l) _ q in
+    let q = r .add-cycle .ensures in
+    let e = replaced-sheet (arrays s) (s .args .t) (s .args .f) (list s) (new s) (s .pre) (x .find .result) (x .find .ensures) (y .spans-at .result)
+    (y .spans-at .ensures) _ (used (y .spans-at .result)) _ (made y .building) (listed y) _ q in
     vertex-room (arrays s) (s .args .t) (s .args .f) (s .args .p) (s .pre) _ _ _ _ _ _ q e .cells
 
 add-row-requires : tie.Need-add-row-requires
 add-row-requires c κs =
     let r = c .before .before .before .before .before .before .before .before .before .before .before in
-    let l = r .before .before .before .before .before .before .before .before .before .before .before .before .before in
-    let y = l .before .before .before .before .before in
+    let y = r .before .before .before .before .before .before .before .before .before .before .before in
     let x = y .before .before .before in
     let s = x .before .before .before .before in
-    let q = r .replace-cycles .ensures in
-    let e = replaced-sheet (arrays s) (s .args .t) (s .args .f) (list s) (new s) (s .pre) (x .find .result) (x .find .ensures) (y .spans-at .result) (y .spans-at .ensures) _ (l .and-lone .result) _ (l .and-lone .ensures .building) (listed l) _ q in
+    let q = r .add-cycle .ensures in
+    let e = replaced-sheet (arrays s) (s .args .t) (s .args .f) (list s) (new s) (s .pre) (x .find .result) (x .find .ensures) (y .spans-at .result)
+    (y .spans-at .ensures) _ (used (y .spans-at .result)) _ (made y .building) (listed y) _ q in
     let m = vertex-room (arrays s) (s .args .t) (s .args .f) (s .args .p) (s .pre) _ _ _ _ _ _ q e in
     (m .cells, m .ids)
 
@@ -98,12 +108,12 @@ returns : tie.Need-returns
 returns c =
     let v = c .before .before .before .before .before .before .before .before .before in
     let r = v .before .before .before in
-    let l = r .before .before .before .before .before .before .before .before .before .before .before .before .before in
-    let y = l .before .before .before .before .before in
+    let y = r .before .before .before .before .before .before .before .before .before .before .before in
     let x = y .before .before .before in
     let s = x .before .before .before .before in
-    let q = r .replace-cycles .ensures in
-    let e = replaced-sheet (arrays s) (s .args .t) (s .args .f) (list s) (new s) (s .pre) (x .find .result) (x .find .ensures) (y .spans-at .result) (y .spans-at .ensures) _ (l .and-lone .result) _ (l .and-lone .ensures .building) (listed l) _ q in
+    let q = r .add-cycle .ensures in
+    let e = replaced-sheet (arrays s) (s .args .t) (s .args .f) (list s) (new s) (s .pre) (x .find .result) (x .find .ensures) (y .spans-at .result)
+    (y .spans-at .ensures) _ (used (y .spans-at .result)) _ (made y .building) (listed y) _ q in
     let w = c .add-row .ensures in
     let u = w .1 .1 .1 in
     let z = v .put-position .ensures in (
@@ -124,8 +134,7 @@ cut-at-spec =
     (tie.spec
     find-requires
     spans-at-requires
-    and-lone-requires
-    replace-cycles-requires
+    add-cycle-requires
     put-position-requires
     add-row-requires
     returns)

@@ -9,13 +9,13 @@ use Rattle.unglue.proofs.find_groups.Statement.{statement}
 use Rattle.unglue.proofs.find_groups.Tie as tie
 
 abbrev Inv-loop : tie.InvT-loop
-Inv-loop groups₀ at xs ys m n g₀ p₀ groups g p = (p ≤ length at) × (length groups ≡ length groups₀) × Sorting at xs ys m p g groups
+Inv-loop groups₀ at xs ys m n g₀ p₀ groups g p = (p ≤ n) × (length groups ≡ length groups₀) × Sorting at xs ys m p g groups
 
 abbrev μ-loop : tie.MeasureT-loop
 μ-loop groups₀ at xs ys m n g₀ p₀ groups g p = n - p
 
 loop-holds : tie.Need-loop-holds Inv-loop μ-loop
-loop-holds c = (omega arith, refl, c .before .before .before .before .pre .1)
+loop-holds c = (omega arith, refl, c .before .before .before .before .pre .1 .1)
 
 start-group-requires : tie.Need-start-group-requires Inv-loop μ-loop
 start-group-requires c κs =
@@ -23,7 +23,9 @@ start-group-requires c κs =
     let st = q .before .before .before .before .before .before in
     let a = st .args in
     let l = q .before .loop in
-    (subst (λ (n : ℕ). Ready n (a .at .now) (a .xs .now) (a .ys .now) (a .m)) (sym (l .inv .1)) (st .pre .0), (q .loop-test .taken, l .inv .2))
+    let t = q .loop-test .taken in
+    let h = st .pre .0 in
+    (subst (λ (n : ℕ). Ready n (a .at .now) (a .xs .now) (a .ys .now) (a .m)) (sym (l .inv .1)) (st .pre .1 .0), (omega arith, l .inv .2))
 
 add-p : tie.Need-add-p Inv-loop μ-loop
 add-p c = search needs
@@ -45,7 +47,7 @@ returns : tie.Need-returns Inv-loop μ-loop
 returns c =
     let l = c .before .loop in
     let a = c .before .before .before .before .before .before .args in
-    let e : l .p ≡ length (a .at .now) = let x = l .inv .0 in let y = c .loop-test .left in omega arith in
+    let e : l .p ≡ a .n = let x = l .inv .0 in let y = c .loop-test .left in omega arith in
     subst (λ (n : ℕ). Sorting (a .at .now) (a .xs .now) (a .ys .now) (a .m) n (l .g) (l .groups)) e (l .inv .2)
 
 pub find-groups-spec : {M : Type 1} → statement M
