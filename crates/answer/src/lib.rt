@@ -2,7 +2,6 @@ ghost use mathlib.Core.Path.{_≡_};
 ghost use Prim.Native.Nat.{_+_, _-_, _≤_};
 ghost use Rattle.answer.specs.Sizes.{sizesFit, moreLess, changedBy};
 ghost use Rattle.complex.specs.Sound.{idsEnd};
-ghost use Rattle.answer.specs.Answers.{refusal};
 ghost use Rattle.answer.specs.Late.{sizesBy, lateNo, Small};
 use store::Drawing;
 
@@ -24,19 +23,6 @@ pub struct Answer {
     pub new: u32,
     pub removed: u32,
     pub drawing: Drawing,
-}
-
-// A no: three zeros, and the drawing as it was handed.
-pub fn refused(d: Drawing, n: u32) -> Answer
-    ensures { λ r. ⌜ r ≡ refusal d n ⌝ }
-{
-    Answer {
-        number: n,
-        first: 0,
-        new: 0,
-        removed: 0,
-        drawing: d,
-    }
 }
 
 // How many cells, cycles, steps and bends there are, a lone vertex counted as one step.

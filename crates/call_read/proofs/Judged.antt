@@ -2,14 +2,13 @@
 use Prim.Native.Nat.{ℕ}
 use native.Mathlib.Omega.{arith}
 use mathlib.Core.Path.{_≡_, refl, sym, ap, _∙_, subst}
-use mathlib.Core.Bool.{Bool, true, false, _&&_, cond}
+use mathlib.Core.Bool.{Bool, true, false, _&&_}
 use mathlib.Core.List.{List}
 use lib.Dec.{eqb}
-use borrow.Author.Tests.{eqb-true, eqb-false}
-use Rattle.number.specs.Said.{Said, done, no}
+use borrow.Author.Tests.{eqb-true, eqb-false, eq-eqb, ne-eqb}
 use Rattle.complex.specs.Sound.{sound}
 use Rattle.complex.specs.File.{ReadAnswer as Judgement, readFile}
-use Rattle.complex.proofs.Bools.{truth}
+use Rattle.complex.proofs.Bools.{truth, true-of}
 use Rattle.complex.proofs.Files.{read-refused}
 use Rattle.store.specs.View.{sheetOf}
 use Rattle.sound.specs.Soundness.{soundDrawing}
@@ -18,27 +17,13 @@ use Rattle.reader.proofs.Verdict.{accepted, sound-read, unsound-read}
 use Rattle.reader.proofs.Judging.{fitting-sound}
 use Rattle.answer.specs.declared.Totals.{Totals}
 use Rattle.lent.specs.Arrays.{Arrays, heldBy, soundArrays}
+use Rattle.lent_sound.specs.declared.Walked.{Walked}
+use Rattle.lent_sound.specs.declared.Walked.the-variants.{Sound, Fault}
+use Rattle.entry_calls.specs.Entries.{Asked}
 use Rattle.call_load.specs.declared.Held.{Held}
 use Rattle.call_load.specs.declared.Held.the-variants.{Cells, Refused}
 use Rattle.call_load.specs.Loads.{SheetIn, SheetLoaded}
-use Rattle.call_read.specs.Taken.{ReadIn}
-
--- ---- what the walk over the rows says
-said-sound : (t : Bool) (x y : Totals) → done x ≡ cond t (done y) (no 1) → t ≡ true
-said-sound true x y e = refl
-said-sound false x y e = absurd (let z : _≡_ {A = ℕ} 0 1 = ap tag e in omega (arith, z))
-  where
-    tag : Said Totals → ℕ
-    tag (done u) = 0
-    tag (no n) = 1
-
-said-fault : (t : Bool) (y : Totals) → no 1 ≡ cond t (done y) (no 1) → t ≡ false
-said-fault false y e = refl
-said-fault true y e = absurd (let z : _≡_ {A = ℕ} 1 0 = ap tag e in omega (arith, z))
-  where
-    tag : Said Totals → ℕ
-    tag (done u) = 0
-    tag (no n) = 1
+use Rattle.call_read.specs.Taken.{FileIn, OpenedIn, ReadIn}
 
 -- ---- what loading says
 module _ (s : List ℕ) (b : ℕ → ℕ → Arrays) (r : Held) (l : SheetLoaded s b r) where
@@ -49,8 +34,22 @@ module _ (s : List ℕ) (b : ℕ → ℕ → Arrays) (r : Held) (l : SheetLoaded
   loaded-none e = subst (SheetLoaded s b) e l .1
 
 -- ---- the file
-pub no-file : (s : List ℕ) → readFile s ≡ refused → false ≡ eqb (readFile s .number) 0
-no-file s e = ap (λ (j : Judgement). eqb (j .number) 0) (sym e)
+pub no-file : (s : List ℕ) → readFile s ≡ refused → readFile s .number ≡ 10
+no-file s e = ap (λ (j : Judgement). j .number) e
+
+-- what question 10 said
+module _ (s : List ℕ) (b : Arrays) (r : Walked) (o : OpenedIn s b r) where
+  pub opened-file : (t : Totals) → r ≡ Sound t → FileIn s b t
+  opened-file t e = subst (OpenedIn s b) e o
+
+  pub opened-none : r ≡ Fault → readFile s .number ≡ 10
+  opened-none e = subst (OpenedIn s b) e o
+
+  pub opened-told : (t : Totals) → r ≡ Sound t → true ≡ eqb (readFile s .number) 0
+  opened-told t e = sym (eq-eqb (readFile s .number) 0 (opened-file t e .number))
+
+  pub none-told : r ≡ Fault → false ≡ eqb (readFile s .number) 0
+  none-told e = sym (ne-eqb (readFile s .number) 0 (λ z. let h = opened-none e in omega (arith, h, z)))
 
 -- a file that is accepted is loaded
 pub no-refusal : (s : List ℕ) → eqb (readFile s .number) 0 ≡ true → readFile s ≡ refused → ⊥
@@ -66,11 +65,12 @@ module _ (s : List ℕ) (b : Arrays) (S : SheetIn s b) where
   file-fault : soundArrays b ≡ false → readFile s ≡ refused
   file-fault e = unsound-read s (sheetOf (heldBy b)) (S .read) (sym arrays-sound ∙ e)
 
-  pub whole-told : (x y : Totals) → done x ≡ cond (soundArrays b) (done y) (no 1) → true ≡ eqb (readFile s .number) 0
-  whole-told x y e = ap (λ (j : Judgement). eqb (j .number) 0) (sym (file-whole (said-sound (soundArrays b) x y e)))
-
-  pub fault-told : (y : Totals) → no 1 ≡ cond (soundArrays b) (done y) (no 1) → false ≡ eqb (readFile s .number) 0
-  fault-told y e = no-file s (file-fault (said-fault (soundArrays b) y e))
+  -- question 1 of the arrays is question 10
+  pub opened-in : (r : Walked) → Asked b r → OpenedIn s b r
+  opened-in (Sound t) w =
+      let f = file-whole (true-of (soundArrays b) (w .sound)) in
+      record { number = ap (λ (j : Judgement). j .number) f; sheet = sym (ap (λ (j : Judgement). j .sheet) f); ready = w }
+  opened-in Fault w = ap (λ (j : Judgement). j .number) (file-fault w)
 
   -- the arrays are the answer
   pub read-in : (a : Arrays) → eqb (readFile s .number) 0 ≡ true → ReadIn s a b 0

@@ -2,14 +2,73 @@ ghost use mathlib.Core.Path.{_≡_};
 ghost use lib.Dec.{eqb};
 ghost use Rattle.complex.specs.File.{readFile};
 ghost use Rattle.lent.specs.Arrays.{entry, exit};
-ghost use Rattle.call_read.specs.Taken.{ReadIn};
+ghost use Rattle.call_read.specs.Taken.{OpenedIn, ReadIn};
 use call_load::Held;
 use lent_sound::Walked;
 
-// Question 10: whether the bytes, all of them, are a sound drawing's file.
+// Question 10: the drawing whose file the bytes are goes into the lent arrays, and its sums are given. On a no the arrays may hold anything.
+pub fn open(
+    next: &mut u32,
+    count: &mut usize,
+    ids: &mut [u32; 256],
+    kinds: &mut [u32; 256],
+    starts: &mut [u32; 256],
+    ends: &mut [u32; 256],
+    bends: &mut [u32; 256],
+    counts: &mut [u32; 256],
+    px: &mut [f64; 256],
+    py: &mut [f64; 256],
+    cycles: &mut [u32; 512],
+    steps: &mut [u32; 2048],
+    bx: &mut [f64; 2048],
+    by: &mut [f64; 2048],
+    bytes: &[u8],
+) -> Walked
+    ensures { λ r. ⌜ OpenedIn (now (bytes .entry)) (exit (now (next .exit)) (now (count .exit)) ids kinds starts ends bends counts px py cycles steps bx by) r ⌝ }
+{
+    let Held::Cells(id, n) = call_load::load(
+        bytes,
+        ids,
+        kinds,
+        starts,
+        ends,
+        bends,
+        counts,
+        px,
+        py,
+        cycles,
+        steps,
+        bx,
+        by,
+    ) else {
+        return Walked::Fault;
+    };
+    *next = id;
+    *count = n;
+    entry_calls::asked(
+        id,
+        n,
+        ids,
+        kinds,
+        starts,
+        ends,
+        bends,
+        counts,
+        px,
+        py,
+        cycles,
+        steps,
+        bx,
+        by,
+    )
+}
+
+// Question 10 alone, on arrays of its own.
 fn readable(bytes: &[u8]) -> bool
     ensures { λ r. ⌜ r ≡ eqb (readFile (now (bytes .entry)) .number) 0 ⌝ }
 {
+    let mut next: u32 = 1;
+    let mut count: usize = 0;
     let mut ids = [0u32; 256];
     let mut kinds = [0u32; 256];
     let mut starts = [0u32; 256];
@@ -22,8 +81,9 @@ fn readable(bytes: &[u8]) -> bool
     let mut steps = [0u32; 2048];
     let mut bx = [0.0; 2048];
     let mut by = [0.0; 2048];
-    let Held::Cells(next, n) = call_load::load(
-        bytes,
+    let Walked::Sound(_) = open(
+        &mut next,
+        &mut count,
         &mut ids,
         &mut kinds,
         &mut starts,
@@ -36,26 +96,7 @@ fn readable(bytes: &[u8]) -> bool
         &mut steps,
         &mut bx,
         &mut by,
-    ) else {
-        return false;
-    };
-    let mut table = [0u8; 1024];
-    let Walked::Sound(_) = lent_sound::sound(
-        next,
-        n,
-        &ids,
-        &kinds,
-        &starts,
-        &ends,
-        &bends,
-        &counts,
-        &px,
-        &py,
-        &cycles,
-        &steps,
-        &bx,
-        &by,
-        &mut table,
+        bytes,
     ) else {
         return false;
     };
@@ -82,27 +123,27 @@ pub fn read(
 ) -> u32
     ensures { λ r. ⌜ ReadIn (now (bytes .entry)) (entry (now (next .entry)) (now (count .entry)) ids kinds starts ends bends counts px py cycles steps bx by) (exit (now (next .exit)) (now (count .exit)) ids kinds starts ends bends counts px py cycles steps bx by) r ⌝ }
 {
-    if !readable(bytes) {
-        return 10;
+    if readable(bytes) {
+        let Held::Cells(free, cells) = call_load::load(
+            bytes,
+            ids,
+            kinds,
+            starts,
+            ends,
+            bends,
+            counts,
+            px,
+            py,
+            cycles,
+            steps,
+            bx,
+            by,
+        ) else {
+            return 10;
+        };
+        *next = free;
+        *count = cells;
+        return 0;
     }
-    let Held::Cells(id, n) = call_load::load(
-        bytes,
-        ids,
-        kinds,
-        starts,
-        ends,
-        bends,
-        counts,
-        px,
-        py,
-        cycles,
-        steps,
-        bx,
-        by,
-    ) else {
-        return 10;
-    };
-    *next = id;
-    *count = n;
-    0
+    10
 }

@@ -76,17 +76,17 @@ module _ (a : Arrays) (t : Totals) (r : Ready a t) where
   length-small = file-small (heldBy a) (ready-sizes a t r) ready-writable
 
   -- ---- the cells
-  held-points : PointsOf (heldBy a .bends) (record { xs = a .bx; ys = a .by })
+  held-points : PointsOf (heldBy a .bends) (a .bx) (a .by)
   held-points = record { first = r .long .bx; second = r .long .by; same = points-same (a .bx) (a .by) }
 
   pub ready-all : AllReady (heldBy a .cells) (a .count) (a .bx) (a .by) (a .cycles) (a .steps)
-  ready-all = cells-ready (heldBy a) (ready-sizes a t r) ready-writable (record { xs = a .bx; ys = a .by }) held-points
+  ready-all = cells-ready (heldBy a) (ready-sizes a t r) ready-writable (a .bx) (a .by) held-points
 
   -- the next id and the count, then the cells
   pub file-parts : fileOf (sheetOf (heldBy a)) ≡ (spell (a .next) ++ spell (a .count)) ++ spread cellBytes (cellsOf (take (a .count) (heldBy a .cells)) (cyclesOf (a .cycles) (a .steps)) (points (a .bx) (a .by)))
   file-parts =
       file-is (heldBy a) (ready-sizes a t r) ready-writable
-      ∙ ap (λ (l : List ℕ). (spell (a .next) ++ spell (a .count)) ++ l) (sym (cells-same (heldBy a) (ready-sizes a t r) ready-writable (record { xs = a .bx; ys = a .by }) held-points))
+      ∙ ap (λ (l : List ℕ). (spell (a .next) ++ spell (a .count)) ++ l) (sym (cells-same (heldBy a) (ready-sizes a t r) ready-writable (a .bx) (a .by) held-points))
 
   pub call-is : (l : List ℕ) → filled (fileOf (sheetOf (heldBy a))) l ≡ writeCall (sheetOf (heldBy a)) l
   call-is l =

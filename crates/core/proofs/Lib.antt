@@ -1,2 +1,2 @@
-pub mod Commanding
+pub mod Doors
 pub mod Demand

@@ -1,4 +1,4 @@
-// Asks soundness of a sound drawing and of damaged ones, and prints a line for each.
+// Asks question 1 of a sound drawing and of damaged ones, and prints a line for each.
 use coordinate::Position;
 use libc::STDOUT_FILENO;
 use store::Cell;
@@ -165,7 +165,8 @@ fn with_both() -> Drawing {
 
 fn say(name: &[u8], d: Drawing) {
     io::write_all(STDOUT_FILENO, name);
-    if sound::sound(d) {
+    let a = core::euler(d);
+    if a.number == 0 {
         io::write_all(STDOUT_FILENO, b": yes\n");
     } else {
         io::write_all(STDOUT_FILENO, b": no\n");

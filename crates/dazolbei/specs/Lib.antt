@@ -1,4 +1,1 @@
-pub mod Calls
-pub mod Runs
-pub mod Reaches
-pub mod Rounds
+pub mod Blocks

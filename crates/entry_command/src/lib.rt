@@ -46,7 +46,7 @@ pub fn command(
     let Decoded::Whole(c, _) = command::decode(script) else {
         return lent::line_of(2);
     };
-    dispatch::obey(
+    let line = dispatch::obey(
         next,
         count,
         ids,
@@ -64,5 +64,6 @@ pub fn command(
         t,
         script,
         c,
-    )
+    );
+    line
 }

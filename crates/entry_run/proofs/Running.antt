@@ -17,34 +17,37 @@ use Rattle.command.proofs.Laws.{Begins}
 use Rattle.answer.specs.Answers.{saidBy}
 use Rattle.lent.specs.Arrays.{Arrays, heldBy, soundArrays}
 use Rattle.lent.specs.declared.Line.{Line}
-use Rattle.lent.specs.Replies.{answerBy, Obeyed}
+use Rattle.lent.specs.Replies.{answerBy, lineOf, Obeyed}
 use Rattle.lent.proofs.Replies.{drawing-of}
-use Rattle.entry_run.specs.Told.{lineWidth, lineNumbers, lengthsEnd}
-use Rattle.entry_run.specs.Runs.{TurnedIn, RanIn}
-use Rattle.entry_run.proofs.Going.{Going, start, turn, turned-read, turned-unread, unreadNumbers, over}
+use Rattle.entry_run.specs.Told.{lineWidth, lengthsEnd}
+use Rattle.entry_run.specs.Runs.{turnNumbers, SteppedIn, TurnedIn, RanIn}
+use Rattle.entry_run.specs.declared.Turn.{Turn}
+use Rattle.entry_run.proofs.Going.{Going, start, turn, turned-read, turned-unread, left-fits, over}
 
 sheet-sound : (a : Arrays) → T (soundArrays a) → T (sound (sheetOf (heldBy a)))
 sheet-sound a w = sound-sheet (heldBy a) (drawing-of a w)
 
 -- ---- a turn
-module _ (script : List ℕ) (at : ℕ) (h : at < length script) {left : List ℕ} (e : left ≡ drop at script) (a : Arrays) (w : T (soundArrays a))
-    (entry : List ℕ) (place : ℕ) where
+module _ (script : List ℕ) (at : ℕ) (h : at < length script) {left : List ℕ} (e : left ≡ drop at script) (a : Arrays) (w : T (soundArrays a)) where
   -- the command is not read
-  pub unread-in : decode left ≡ bad → (x : List ℕ) → x ≡ sets entry place (unreadNumbers (length left)) → TurnedIn a script at a (length script) entry place x
-  unread-in d x y =
-      record { numbers = unreadNumbers (length left); turned = turned-unread script at h e (sheetOf (heldBy a)) (sheet-sound a w) d; stands = y; sound = w }
+  pub unread-in : decode left ≡ bad → SteppedIn a script at a (record { line = lineOf 2; left = length left; end = length script })
+  unread-in d =
+      record { turned = turned-unread script at h e (sheetOf (heldBy a)) (sheet-sound a w) d; sound = w; fits = left-fits script at h e }
 
   -- it is read, and the arrays b are left
   pub read-in : {c : Command} {taken : ℕ} → Begins left c taken → (b : Arrays) (l : Line) → Obeyed a (commandOf left c) b l → T (soundArrays b)
-      → (x : List ℕ) → x ≡ sets entry place (lineNumbers (saidBy (answerBy l (heldBy b))) (length script - (at + taken)))
-      → TurnedIn a script at b (at + taken) entry place x
-  read-in {taken = taken} t b l o v x y =
+      → SteppedIn a script at b (record { line = l; left = length script - (at + taken); end = at + taken })
+  read-in t b l o v =
       record {
-        numbers = lineNumbers (saidBy (answerBy l (heldBy b))) (length script - (at + taken));
         turned = turned-read script at h e (sheetOf (heldBy a)) (sheet-sound a w) t (saidBy (answerBy l (heldBy b))) (o .answers .said);
-        stands = y;
         sound = v;
+        fits = omega arith;
       }
+
+-- its numbers put from a place on
+pub put-in : {a : Arrays} {script : List ℕ} {at : ℕ} {b : Arrays} {t : Turn} → SteppedIn a script at b t → (entry : List ℕ) (place : ℕ) (x : List ℕ)
+    → x ≡ sets entry place (turnNumbers t) → TurnedIn a script at b (t .end) entry place x
+put-in {t = t} o entry place x y = record { numbers = turnNumbers t; turned = o .turned; stands = y; sound = o .sound }
 
 -- ---- the loop
 -- how far the run has come, with the arrays b

@@ -7,8 +7,9 @@ ghost use lib.ListN.{length};
 ghost use lib.Seq.{sets};
 ghost use Rattle.lent.specs.Arrays.{soundArrays, lent, entry, exit};
 ghost use Rattle.entry_run.specs.Told.{lineWidth, lengthsEnd};
-ghost use Rattle.entry_run.specs.Runs.{TurnedIn, RanIn};
+ghost use Rattle.entry_run.specs.Runs.{SteppedIn, TurnedIn, RanIn};
 use command::Decoded;
+use lent::Line;
 
 // How many numbers are told of a command.
 const LINE_WIDTH: usize = 5;
@@ -33,8 +34,78 @@ pub fn put_line(
     lines[at + 4] = left;
 }
 
-// One command of a script, the one at a place, and its five numbers; the place after it, the script's end if it is not read.
-fn turn(
+// What a command of a script gave: its line, the length of the rest, and the place where the run goes on.
+pub struct Turn {
+    pub line: Line,
+    pub left: usize,
+    pub end: usize,
+}
+
+// One command of a script, the one at a place; the run goes on after it, at the script's end if it is not read.
+pub fn step_at(
+    next: &mut u32,
+    count: &mut usize,
+    ids: &mut [u32; 256],
+    kinds: &mut [u32; 256],
+    starts: &mut [u32; 256],
+    ends: &mut [u32; 256],
+    bends: &mut [u32; 256],
+    counts: &mut [u32; 256],
+    px: &mut [f64; 256],
+    py: &mut [f64; 256],
+    cycles: &mut [u32; 512],
+    steps: &mut [u32; 2048],
+    bx: &mut [f64; 2048],
+    by: &mut [f64; 2048],
+    script: &[u8],
+    at: usize,
+) -> Turn
+    requires { ⌜ T (soundArrays (lent (now next) (now count) ids kinds starts ends bends counts px py cycles steps bx by)) ⌝ }
+    requires { ⌜ at < length (now script) ⌝ }
+    ensures { λ r. ⌜ SteppedIn (entry (now (next .entry)) (now (count .entry)) ids kinds starts ends bends counts px py cycles steps bx by) (now (script .entry)) at (exit (now (next .exit)) (now (count .exit)) ids kinds starts ends bends counts px py cycles steps bx by) r ⌝ }
+{
+    let left = &script[at..];
+    let Decoded::Whole(c, taken) = command::decode(left) else {
+        let two = Line {
+            number: 2,
+            first: 0,
+            new: 0,
+            removed: 0,
+        };
+        return Turn {
+            line: two,
+            left: left.len(),
+            end: script.len(),
+        };
+    };
+    let l = entry_step::step(
+        next,
+        count,
+        ids,
+        kinds,
+        starts,
+        ends,
+        bends,
+        counts,
+        px,
+        py,
+        cycles,
+        steps,
+        bx,
+        by,
+        left,
+        c,
+    );
+    let end = at + taken;
+    Turn {
+        line: l,
+        left: script.len() - end,
+        end,
+    }
+}
+
+// One command of a script, the one at a place, and its five numbers; the place where the run goes on.
+fn put_turn(
     next: &mut u32,
     count: &mut usize,
     ids: &mut [u32; 256],
@@ -60,12 +131,7 @@ fn turn(
     requires { ⌜ place + lineWidth ≤ length (now lines) ⌝ }
     ensures { λ r. ⌜ TurnedIn (entry (now (next .entry)) (now (count .entry)) ids kinds starts ends bends counts px py cycles steps bx by) (now (script .entry)) at (exit (now (next .exit)) (now (count .exit)) ids kinds starts ends bends counts px py cycles steps bx by) r (now (lines .entry)) place (now (lines .exit)) ⌝ }
 {
-    let left = &script[at..];
-    let Decoded::Whole(c, taken) = command::decode(left) else {
-        put_line(2, 0, 0, 0, left.len() as u32, lines, place);
-        return script.len();
-    };
-    let l = entry_step::step(
+    let t = step_at(
         next,
         count,
         ids,
@@ -80,20 +146,20 @@ fn turn(
         steps,
         bx,
         by,
-        left,
-        c,
+        script,
+        at,
     );
-    let end = at + taken;
+    let l = t.line;
     put_line(
         l.number,
         l.first,
         l.new,
         l.removed,
-        (script.len() - end) as u32,
+        t.left as u32,
         lines,
         place,
     );
-    end
+    t.end
 }
 
 // Runs a script's commands, each on the arrays as the one before it left them, until no byte is left or one is not read: how many there
@@ -124,7 +190,7 @@ pub fn run_lines(
     let mut at: usize = 0;
     let mut commands: usize = 0;
     while at < script.len() {
-        at = turn(
+        at = put_turn(
             next,
             count,
             ids,

@@ -1,38 +1,39 @@
--- The numbers of the end line, from a sound drawing. Assumes nothing.
-use Prim.Native.Nat.{ℕ}
-use mathlib.Core.Path.{_≡_, ap, ap₂, _∙_}
-use mathlib.Core.Bool.{Bool, cond}
-use lib.Dec.{T}
-use lib.IntN.{ℤ, pos}
-use lib.ListN.{length}
-use Rattle.complex.specs.Sound.{sound}
-use Rattle.complex.specs.Euler.{euler}
-use Rattle.complex.specs.Calls.{EulerAnswer, eulerCall}
-use Rattle.complex.proofs.Bools.{true-of}
-use Rattle.store.specs.declared.Drawing.{Drawing}
-use Rattle.store.specs.Sizes.{Sizes}
-use Rattle.store.specs.View.{sheetOf}
-use Rattle.store.proofs.Stands.{stands, count-is}
-use Rattle.sound.specs.Soundness.{soundDrawing}
-use Rattle.sound.proofs.Meaning.{sound-fits, sound-sheet}
-use Rattle.query.specs.Calls.{eulerOf}
+-- The end line of sound arrays. Assumes nothing.
+use Prim.Native.Nat.{ℕ, _≤_, _<_}
+use native.Mathlib.Omega.{arith}
 use mir.Syntax.{w32}
 use mir.Val.{SFits, ofZ, toZ}
 use mir.ValLaws.{toZ-ofZ}
-use Rattle.printing.specs.Texts.{endText, lastText}
-use Rattle.query.proofs.Answers.{euler-of-sheet}
+use mathlib.Core.Path.{_≡_, sym, ap₂, _∙_, subst}
+use lib.IntN.{ℤ}
+use lib.ListN.{length}
+use Rattle.complex.specs.Euler.{euler}
+use Rattle.store.specs.View.{sheetOf}
+use Rattle.store.proofs.Stands.{stands, count-is}
+use Rattle.sound.proofs.Meaning.{sound-fits}
+use Rattle.answer.specs.declared.Totals.{Totals}
+use Rattle.lent.specs.Arrays.{Arrays, heldBy}
+use Rattle.lent.specs.Replies.{Ready}
+use Rattle.lent.proofs.Replies.{drawing-of}
+use Rattle.lent.proofs.Sums.{ready-sizes}
+use Rattle.text.specs.Texts.{lastMost, endText}
+use Rattle.text.proofs.Puts.{end-few}
+use Rattle.printing.specs.Texts.{lastText}
 
-module _ (d : Drawing) (s : T (soundDrawing d)) where
-  called : eulerCall (sheetOf d) ≡ record { number = 0; value = euler (sheetOf d .cells) }
-  unfolding eulerCall
-  called = ap (λ (b : Bool). cond b (record { number = 0; value = euler (sheetOf d .cells) }) (record { number = 1; value = pos 0 })) (true-of (sound (sheetOf d)) (sound-sheet d s))
+module _ (a : Arrays) (t : Totals) (y : Ready a t) where
+  cells-count : a .count ≡ length (sheetOf (heldBy a) .cells)
+  cells-count =
+      let z = ready-sizes a t y in
+      let f = sound-fits (heldBy a) (drawing-of a (y .sound)) in
+      count-is (heldBy a) (sheetOf (heldBy a) .cells) (stands (heldBy a) z f) z (f .cells)
 
-  euler-value : eulerOf d .value ≡ euler (sheetOf d .cells)
-  euler-value = ap (λ (x : EulerAnswer). x .value) (euler-of-sheet d s ∙ called)
-
-  cells-count : Sizes d → d .count ≡ length (sheetOf d .cells)
-  cells-count z = count-is d (sheetOf d .cells) (stands d z (sound-fits d s)) z (sound-fits d s .cells)
+  pub cells-few : a .count ≤ 256
+  cells-few = sound-fits (heldBy a) (drawing-of a (y .sound)) .cells
 
   -- v is the Euler number that the code found
-  pub last-text : (v : ℤ) → SFits w32 v → v ≡ eulerOf d .value → Sizes d → endText (toZ w32 (ofZ w32 v)) (d .count) ≡ lastText (sheetOf d)
-  last-text v f e z = ap₂ endText (toZ-ofZ w32 v f ∙ e ∙ euler-value) (cells-count z)
+  module _ (v : ℤ) (f : SFits w32 v) where
+    pub last-text : v ≡ euler (sheetOf (heldBy a) .cells) → endText (toZ w32 (ofZ w32 v)) (a .count) ≡ lastText (sheetOf (heldBy a))
+    last-text e = ap₂ endText (toZ-ofZ w32 v f ∙ e) cells-count
+
+    pub last-few : length (endText (toZ w32 (ofZ w32 v)) (a .count)) ≤ lastMost
+    last-few = let h = cells-few in end-few (toZ w32 (ofZ w32 v)) (a .count) (subst (SFits w32) (sym (toZ-ofZ w32 v f)) f) (omega arith)

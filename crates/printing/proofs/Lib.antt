@@ -1,6 +1,4 @@
-pub mod Signs
-pub mod Decimal
-pub mod Puts
+pub mod Fronts
 pub mod Last
-pub mod Lines
-pub mod Edits
+pub mod Pieces
+pub mod Whole

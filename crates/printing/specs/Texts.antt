@@ -1,55 +1,88 @@
--- Text put into a lent buffer. Definitions only.
-use Prim.Native.Nat.{ℕ, _+_, _*_, _≤_}
+-- What `edit` prints, piece by piece. Definitions only.
+use Prim.Native.Nat.{ℕ, _+_, _-_, _*_, _≤_, _<_}
 use mathlib.Core.Path.{_≡_}
-use mathlib.Core.List.{List, _++_}
-use lib.Dec.{T}
-use lib.IntN.{ℤ}
-use lib.ListN.{length}
-use lib.Seq.{sets}
+use mathlib.Core.Bool.{false, true, cond}
+use mathlib.Core.List.{List, [], _∷_, _++_}
+use lib.Dec.{T, leb}
+use lib.ListN.{length, take, drop}
 use Rattle.number.specs.Readers.{spread}
 use Rattle.complex.specs.Cells.{Sheet}
 use Rattle.complex.specs.Euler.{euler}
-use Rattle.complex.specs.Calls.{Filled, filled}
-use Rattle.complex.specs.Program.{Run, run, editOutput, decimal, signed, space, newline, lineText, eulerWord, cellsWord, outputText}
+use Rattle.complex.specs.Program.{Run, scriptMost, editOutput, newline, lineText, tooLongText, outputText}
 use Rattle.store.specs.View.{sheetOf}
-use Rattle.sound.specs.Soundness.{soundDrawing}
+use Rattle.lent.specs.Arrays.{Arrays, heldBy, soundArrays}
+use Rattle.entry_calls.specs.Entries.{EmptyIn}
+use Rattle.run.specs.Runs.{runFrom}
+use Rattle.text.specs.Texts.{lineMost, Put, endText}
 use Rattle.printing.specs.declared.Printed.{Printed}
-
--- a text of at most `most` bytes stands in the buffer from a place on, and ends at r
-pub record Put (entry : List ℕ) (at : ℕ) (text : List ℕ) (most : ℕ) (exit : List ℕ) (r : ℕ) : Type 0 where
-  pub stands : exit ≡ sets entry at text
-  pub ends : r ≡ at + length text
-  pub short : length text ≤ most
-
--- the end line
-abbrev pub endText : ℤ → ℕ → List ℕ
-endText z n = eulerWord ++ space ++ signed z ++ space ++ cellsWord ++ space ++ decimal n ++ newline
 
 -- the end line of a drawing
 abbrev pub lastText : Sheet → List ℕ
 lastText s = endText (euler (s .cells)) (length (s .cells))
 
--- the lines of a run's commands
-abbrev pub linesText : Run → List ℕ
-linesText r = spread lineText (r .lines)
+-- what a run prints: a line per command, then the end line of the drawing after them
+abbrev pub runText : Run → List ℕ
+runText r = spread lineText (r .lines) ++ lastText (r .sheet)
 
--- the lines of a script's commands stand in the buffer; the drawing after them
-pub record LinesPrinted (bytes entry exit : List ℕ) (r : Printed) : Type 0 where
-  pub lines : Put entry 0 (linesText (run bytes)) (44 * length bytes) exit (r .end)
-  pub sheet : sheetOf (r .drawing) ≡ run bytes .sheet
-  pub sound : T (soundDrawing (r .drawing))
+-- what is still to be printed for a script, where the drawing is s and the bytes from `at` on are left
+abbrev pub toPrint : Sheet → List ℕ → ℕ → List ℕ
+toPrint s script at = cond (leb (length script) scriptMost) (runText (runFrom s (drop at script))) (tooLongText ++ newline)
 
--- how many bytes those lines have; the drawing after them
-pub record LinesCounted (bytes : List ℕ) (r : Printed) : Type 0 where
-  pub count : r .end ≡ length (linesText (run bytes))
-  pub short : r .end ≤ 44 * length bytes
-  pub sheet : sheetOf (r .drawing) ≡ run bytes .sheet
-  pub sound : T (soundDrawing (r .drawing))
+-- what is still to be printed after a piece: nothing after the last
+abbrev pub stillToPrint : Sheet → List ℕ → Printed → List ℕ
+stillToPrint s script p = cond (p .last) [] (toPrint s script (p .at))
 
--- room for what the longest script prints: 44 bytes for each of its bytes, and the end line
-abbrev pub textMost : ℕ
-textMost = 2883648
+-- ---- one piece
+-- lines of the script's commands from `from` on stand at the buffer's front, and end at r; the bytes from `at` on are left
+pub record LinesPut (a : Arrays) (script : List ℕ) (from : ℕ) (b : Arrays) (entry exit : List ℕ) (at r : ℕ) : Type 0 where
+  pub text : List ℕ
+  pub put : Put entry 0 text (lineMost * (at - from)) exit r
+  pub room : r ≤ length entry
+  pub goes : runText (runFrom (sheetOf (heldBy a)) (drop from script)) ≡ text ++ runText (runFrom (sheetOf (heldBy b)) (drop at script))
+  pub ahead : from ≤ at
+  pub within : from < at → at ≤ length script
+  pub sound : T (soundArrays b)
 
--- what `edit` prints for the bytes, in the first places of a buffer that has room
-abbrev pub editOf : List ℕ → List ℕ → Filled
-editOf bytes buffer = filled (outputText (editOutput bytes)) buffer
+-- what stands at the front of a buffer, and after it what stood there
+pub record Front (entry exit : List ℕ) (n : ℕ) : Type 0 where
+  pub fits : n ≤ length entry
+  pub same : length exit ≡ length entry
+  pub kept : drop n exit ≡ drop n entry
+
+-- `too long` is the last piece, or there is no room for it
+pub record LongPut (at : ℕ) (entry exit : List ℕ) (p : Printed) : Type 0 where
+  pub front : Front entry exit (p .count)
+  pub goes : tooLongText ++ newline ≡ take (p .count) exit ++ cond (p .last) [] (tooLongText ++ newline)
+  pub short : p .last ≡ false → length entry < 9
+
+-- the piece p of what is still to be printed, from the arrays a, which are b after it; one that is not the last leaves less room
+-- than a line may need, and a buffer that has room for a line gets one
+pub record Pieced (a : Arrays) (script : List ℕ) (at : ℕ) (b : Arrays) (entry exit : List ℕ) (p : Printed) : Type 0 where
+  pub front : Front entry exit (p .count)
+  pub goes : toPrint (sheetOf (heldBy a)) script at ≡ take (p .count) exit ++ stillToPrint (sheetOf (heldBy b)) script p
+  pub full : p .last ≡ false → length entry < p .count + lineMost
+  pub ahead : p .last ≡ false → lineMost ≤ length entry → (at < p .at) × (p .at ≤ length script)
+  pub sound : T (soundArrays b)
+
+-- ---- pieces until the last
+-- a call: the arrays after it, the buffer before and after it, and its piece
+pub record Call : Type 0 where
+  pub arrays : Arrays
+  pub entry : List ℕ
+  pub exit : List ℕ
+  pub piece : Printed
+
+-- calls until the last piece, each from where the one before it ended
+abbrev pub Pieces : Arrays → List ℕ → ℕ → List Call → Type 0
+Pieces a script at [] = ⊥
+Pieces a script at (c ∷ cs) =
+    Pieced a script at (c .arrays) (c .entry) (c .exit) (c .piece)
+    × cond (c .piece .last) (cs ≡ []) (Pieces (c .arrays) script (c .piece .at) cs)
+
+-- what they print, one after another
+abbrev pub printedBy : List Call → List ℕ
+printedBy = spread (λ (c : Call). take (c .piece .count) (c .exit))
+
+-- from the empty drawing they print what the definitions say
+abbrev pub PrintsAll : Type 0
+PrintsAll = (a : Arrays) (script : List ℕ) (cs : List Call) → EmptyIn a → Pieces a script 0 cs → printedBy cs ≡ outputText (editOutput script)

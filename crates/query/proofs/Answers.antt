@@ -5,13 +5,12 @@ use mathlib.Core.List.{List, [], _∷_}
 use mathlib.Core.Bool.{Bool, true, false, cond}
 use native.Mathlib.Omega.{arith}
 use lib.Dec.{T, eqb, ltb, leb·suc-suc}
-use lib.IntN.{ℤ, pos}
+use lib.IntN.{pos}
 use lib.ListN.{length, take}
 use borrow.Author.Tests.{lt-ltb, le-ltb}
 use Rattle.complex.specs.Cells.{LiveCell, lookup, someIf, cellAt, isLive}
 use Rattle.complex.specs.Sound.{sound}
 use Rattle.complex.specs.Boundary.{star}
-use Rattle.complex.specs.Euler.{euler}
 use Rattle.complex.specs.Calls.{filled, unfilled, starCall, eulerCall}
 use Rattle.complex.proofs.Bools.{true-of}
 use Rattle.store.specs.declared.Drawing.{Drawing}
@@ -23,9 +22,8 @@ use Rattle.sound.specs.Soundness.{soundDrawing}
 use Rattle.sound.proofs.Parts.{idRow}
 use Rattle.sound.proofs.Meaning.{sound-fits, sound-sheet, ids-are, looks}
 use Rattle.query.specs.Marks.{starMarks, Readable, picked}
-use Rattle.query.specs.Shares.{eulerIn}
 use Rattle.query.specs.Calls.{starIn, starOf, eulerOf}
-use Rattle.query.proofs.Meaning.{readable, star-meant, euler-meant}
+use Rattle.query.proofs.Meaning.{readable, star-meant}
 
 -- ---- question 4, of the rows
 module _ (is ks ss es cs ns st : List ℕ) (i : ℕ) (buffer : List ℕ) (r : ℕ) (e : r ≡ rowOf i is) where
@@ -47,15 +45,6 @@ live-row (x ∷ xs) i = go (eqb (x .id) i) (live-row xs i)
         → ltb (cond b 0 (suc (rowOf i (idRow xs)))) (suc (length (idRow xs))) ≡ isLive (someIf b (x .figure) (lookup xs i))
     go true h = lt-ltb 0 (suc (length (idRow xs))) (omega arith)
     go false h = leb·suc-suc (suc (rowOf i (idRow xs))) (length (idRow xs)) ∙ h
-
--- ---- a drawing that is not sound
-pub star-unsound : (d : Drawing) (i : ℕ) (buffer : List ℕ) → soundDrawing d ≡ false → unfilled 1 buffer ≡ starOf d i buffer
-unfolding starOf
-star-unsound d i buffer e = sym (ap (λ (b : Bool). cond b (starCall (sheetOf d) i buffer) (unfilled 1 buffer)) e)
-
-pub euler-unsound : (d : Drawing) → soundDrawing d ≡ false → record { number = 1; value = pos 0 } ≡ eulerOf d
-unfolding eulerOf
-euler-unsound d e = sym (ap (λ (b : Bool). cond b (eulerCall (sheetOf d)) (record { number = 1; value = pos 0 })) e)
 
 -- ---- a sound one
 -- the answers are those to its sheet
@@ -88,13 +77,3 @@ module _ (d : Drawing) (z : Sizes d) (t : Index) (x : Indexes d t) (s : T (sound
       ap₂ (λ (b : Bool) (l : List ℕ). cond b (filled l buffer) (unfilled 4 buffer)) (is-live i) (star-meant d z (sound-fits d s) t x i)
       ∙ star-called i buffer
       ∙ sym (star-of-sheet d s i buffer)
-
-  euler-called : record { number = 0; value = euler (sheetOf d .cells) } ≡ eulerCall (sheetOf d)
-  unfolding eulerCall
-  euler-called = sym (ap (λ (b : Bool). cond b (record { number = 0; value = euler (sheetOf d .cells) }) (record { number = 1; value = pos 0 })) sheet-sound)
-
-  pub euler-answer : (v : ℤ) → v ≡ eulerIn (take (d .count) (t .kinds)) (take (d .count) (t .cycles)) → record { number = 0; value = v } ≡ eulerOf d
-  euler-answer v e =
-      ap (λ (y : ℤ). record { number = 0; value = y }) (e ∙ euler-meant d z (sound-fits d s) t x)
-      ∙ euler-called
-      ∙ sym (euler-of-sheet d s)

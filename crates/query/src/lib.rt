@@ -10,9 +10,8 @@ ghost use Rattle.store.specs.Index.{Rising};
 ghost use Rattle.store.specs.Places.{bit};
 ghost use Rattle.store.specs.View.{halfedgeOf, width, widthSum, cycleOf, cyclesOf};
 ghost use Rattle.query.specs.Marks.{endsAt, edgeMarks, markAt, stepHolds, cycleHolds, anyOf, sumOf, cellMarks, starMarks, Readable, picked};
-ghost use Rattle.query.specs.Calls.{answered, starIn, starOf, eulerAnswered, eulerOf};
+ghost use Rattle.query.specs.Calls.{answered, starIn};
 ghost use Rattle.query.specs.Shares.{gainIn, lossIn, eulerIn};
-use store::Drawing;
 
 // Whether a cell is an open edge with an end at id.
 fn ends_at(kind: u32, start: u32, end: u32, id: u32) -> bool
@@ -409,17 +408,6 @@ pub fn euler_rows(kinds: &[u32; 256], counts: &[u32; 256], n: usize) -> i32
     difference(up, down)
 }
 
-// The same of rows that are lent together.
-fn euler_of<'a>(kinds: &'a [u32; 256], counts: &'a [u32; 256], n: usize) -> i32
-    requires { ⌜ n ≤ 256 ⌝ }
-    requires { ⌜ length (now kinds) ≡ 256 ⌝ }
-    requires { ⌜ length (now counts) ≡ 256 ⌝ }
-    requires { ⌜ sumOf (take n (now counts)) ≤ 512 ⌝ }
-    ensures { λ r. ⌜ r ≡ eulerIn (take n (now (kinds .entry))) (take n (now (counts .entry))) ⌝ }
-{
-    euler_rows(kinds, counts, n)
-}
-
 // The star of id, which question 4 asks to be the id of a row.
 pub fn star_rows(
     ids: &[u32; 256],
@@ -459,85 +447,8 @@ pub fn star_rows(
     }
 }
 
-// The same of rows that are lent together.
-fn star_in<'a>(
-    ids: &'a [u32; 256],
-    kinds: &'a [u32; 256],
-    starts: &'a [u32; 256],
-    ends: &'a [u32; 256],
-    counts: &'a [u32; 256],
-    n: usize,
-    cycles: &'a [u32; 512],
-    steps: &'a [u32; 2048],
-    id: u32,
-    buffer: &mut [u32],
-) -> Counted
-    requires { ⌜ Readable (now ids) (now kinds) (now starts) (now ends) (now counts) n (now cycles) (now steps) ⌝ }
-    ensures { λ r. ⌜ answered r (now (buffer .exit)) ≡ starIn (take n (now (ids .entry))) (take n (now (kinds .entry))) (take n (now (starts .entry))) (take n (now (ends .entry))) (take n (now (counts .entry))) (now (cycles .entry)) (now (steps .entry)) id (now (buffer .entry)) ⌝ }
-{
-    star_rows(
-        ids,
-        kinds,
-        starts,
-        ends,
-        counts,
-        n,
-        cycles,
-        steps,
-        id,
-        buffer,
-    )
-}
-
-// The star of a cell: the ids, rising, of the cells whose boundary holds it, in the buffer's first places.
-pub fn star(d: Drawing, id: u32, buffer: &mut [u32]) -> Counted
-    ensures { λ r. ⌜ answered r (now (buffer .exit)) ≡ starOf d id (now (buffer .entry)) ⌝ }
-{
-    if sound::sound(d) {
-        let t = store::index_of(d);
-        let n = d.count;
-        let cy = d.cycles;
-        let st = d.steps;
-        return star_in(
-            &t.ids,
-            &t.kinds,
-            &t.starts,
-            &t.ends,
-            &t.cycles,
-            n,
-            &cy,
-            &st,
-            id,
-            buffer,
-        );
-    }
-    Counted {
-        number: 1,
-        count: 0,
-    }
-}
-
 // What Euler answers: its number, and the Euler number.
 pub struct EulerNumber {
     pub number: u32,
     pub value: i32,
-}
-
-// The Euler number: vertices minus open edges plus 2 - k for each face of k cycles.
-pub fn euler(d: Drawing) -> EulerNumber
-    ensures { λ r. ⌜ eulerAnswered r ≡ eulerOf d ⌝ }
-{
-    if sound::sound(d) {
-        let t = store::index_of(d);
-        let n = d.count;
-        let v = euler_of(&t.kinds, &t.cycles, n);
-        return EulerNumber {
-            number: 0,
-            value: v,
-        };
-    }
-    EulerNumber {
-        number: 1,
-        value: 0,
-    }
 }

@@ -2,9 +2,9 @@
 use Prim.Native.Nat.{ℕ, zero, suc, _+_, _*_, _≤_, _<_}
 use native.Mathlib.Omega.{arith}
 use native.Mathlib.Numerals.{add-one}
-use mathlib.Core.Path.{_≡_, refl, sym, ap, _∙_}
+use mathlib.Core.Path.{_≡_, refl, ap, _∙_}
 use mathlib.Core.List.{List, [], _∷_, _++_, append-assoc, map}
-use lib.ListN.{length, take, set, getD, length-append, length-set}
+use lib.ListN.{length, take, set, length-append, length-set}
 use lib.Seq.{take-suc-set}
 use Rattle.number.proofs.Counted.{Each}
 use Rattle.coordinate.specs.declared.Position.{Position}
@@ -45,24 +45,10 @@ module _ {A : Type 0} where
   each-append P [] ys h g = g
   each-append P (x ∷ xs) ys h g = (h .0, each-append P xs ys (h .1) g)
 
-  pub each-at : (P : A → Type 0) (z : A) (xs : List A) (k : ℕ) → Each P xs → k < length xs → P (getD xs k z)
-  each-at P z [] k h l = absurd (omega arith)
-  each-at P z (x ∷ xs) zero h l = h .0
-  each-at P z (x ∷ xs) (suc k) h l = each-at P z xs k (h .1) (omega arith)
-
 -- ---- the places of bends
 pub spots-length : (first n : ℕ) → length (spotsFrom first n) ≡ n
 spots-length first zero = refl
 spots-length first (suc n) = ap suc (spots-length (first + 16) n)
-
-spots-last : (first n : ℕ) → spotsFrom first (suc n) ≡ spotsFrom first n ++ ((first + 16 * n) ∷ [])
-spots-last first zero = let e : first ≡ first + 16 * 0 = omega arith in ap (λ (k : ℕ). k ∷ []) e
-spots-last first (suc n) =
-    let e : first + 16 + 16 * n ≡ first + 16 * suc n = omega arith in
-    ap (λ (l : List ℕ). first ∷ l) (spots-last (first + 16) n ∙ ap (λ (k : ℕ). spotsFrom (first + 16) n ++ (k ∷ [])) e)
-
-pub spots-more : (first n at : ℕ) → at ≡ first + 16 * n → spotsFrom first (n + 1) ≡ spotsFrom first n ++ (at ∷ [])
-spots-more first n at e = ap (spotsFrom first) (add-one n) ∙ spots-last first n ∙ ap (λ (k : ℕ). spotsFrom first n ++ (k ∷ [])) (sym e)
 
 pub spots-positions : (s : List ℕ) (first n : ℕ) → map (positionAt s) (spotsFrom first n) ≡ positionsAt s first n
 spots-positions s first zero = refl

@@ -4,8 +4,7 @@ use native.Mathlib.Omega.{arith}
 use mathlib.Core.Path.{_≡_, refl, sym, ap, ap₂, _∙_, subst}
 use mathlib.Core.Bool.{true}
 use mathlib.Core.List.{List, [], _∷_, _++_, map}
-use lib.ListN.{length, take, drop, set, getD, length-append, length-map, length-set, length-drop, drop-of-length-le}
-use lib.Seq.{getD-take}
+use lib.ListN.{length, take, drop, set, length-append, length-map, length-set, length-drop, drop-of-length-le}
 use Rattle.number.specs.Readers.{got, bad, times, spread}
 use Rattle.number.proofs.Laws.{not-bad, got-rest}
 use Rattle.number.proofs.Counted.{Each, times-length}
@@ -30,9 +29,9 @@ use Rattle.reader.specs.declared.ReadAnswer.{ReadAnswer}
 use Rattle.reader.specs.declared.Used.{Used}
 use Rattle.reader.specs.Heads.{readHead, Found}
 use Rattle.reader.specs.Filling.{spotsFrom, PartsIn, PartsOver, Room}
-use Rattle.reader.specs.Outcome.{Spotted, CellsIn, CellsOver}
+use Rattle.reader.specs.Outcome.{CellsIn, CellsOver}
 use Rattle.reader.proofs.Reading.{Reading, reading-start, reading-turn, reading-end, reading-ahead}
-use Rattle.reader.proofs.Adding.{added-one, begins-added, each-append, each-at, spots-length, spots-positions, spots-inside}
+use Rattle.reader.proofs.Adding.{added-one, begins-added, each-append, spots-length, spots-positions, spots-inside}
 use Rattle.reader.proofs.CellParts.{no-head, cellWith, cell-found, cell-parts, one-head, one-cycles, one-bends}
 
 -- xs are the cells that were read, and the bends of them stand at the places ps of the bytes
@@ -179,19 +178,6 @@ module _ (s : List ℕ) (at n i p : ℕ) (cells : List Cell) (counts steps spots
       let l = ap length t in
       let m = length-drop p s in
       omega arith
-
-  -- ---- the positions of the bends
-  pub filled-spots : Spotted s spots (used .bends)
-  filled-spots =
-      let e = F .usedBends in
-      let l = begins-length (F .spotted) in
-      record {
-        size = omega arith;
-        inside =
-            λ k h.
-            let m : getD spots k 0 ≡ getD (F .ps) k 0 = sym (getD-take (length (F .ps)) spots k 0 (omega arith)) ∙ ap (λ (q : List ℕ). getD q k 0) (F .spotted .front) in
-            subst (λ (q : ℕ). q + 16 ≤ length s) (sym m) (each-at (λ (q : ℕ). q + 16 ≤ length s) 0 (F .ps) k (F .inside) (omega arith));
-      }
 
   -- ---- all cells
   module _ (end : i ≡ n) (d : Drawing) (z : Sizes d) (few : n ≤ 256) (count : d .count ≡ n) (cs : d .cells ≡ cells) (ns : d .cycles ≡ counts) (st : d .steps ≡ steps)

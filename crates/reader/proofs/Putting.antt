@@ -1,14 +1,14 @@
--- Numbers, and the places of bends, put one after another into an array. Assumes nothing.
-use Prim.Native.Nat.{ℕ, _+_, _*_, _≤_, _<_}
+-- Numbers put one after another into an array. Assumes nothing.
+use Prim.Native.Nat.{ℕ, _+_, _≤_, _<_}
 use native.Mathlib.Omega.{arith}
 use mathlib.Core.Path.{_≡_, sym, ap}
 use mathlib.Core.List.{List, [], _∷_, _++_}
 use lib.ListN.{length, drop, set}
 use Rattle.number.specs.Readers.{got}
 use Rattle.number.specs.Numbers.{readNumber}
-use Rattle.reader.specs.Filling.{Added, NumbersIn, spotsFrom}
+use Rattle.reader.specs.Filling.{Added, NumbersIn}
 use Rattle.reader.proofs.Reading.{Reading, reading-start, reading-turn, reading-end}
-use Rattle.reader.proofs.Adding.{added-none, added-one, added-then, spots-length, spots-more}
+use Rattle.reader.proofs.Adding.{added-none, added-one, added-then}
 
 -- of m numbers i were read, and put into out
 pub record Putting (s : List ℕ) (at m : ℕ) (out₀ : List ℕ) (used i p : ℕ) (out : List ℕ) : Type 0 where
@@ -31,8 +31,3 @@ module _ (s : List ℕ) (at m : ℕ) (out₀ : List ℕ) (used i p : ℕ) (out :
 
   pub putting-end : i ≡ m → NumbersIn s at m out₀ used out p
   putting-end e = record { numbers = P .numbers; read = reading-end readNumber s at m i p (P .numbers) (P .reading) e; inside = P .reading .inside; added = P .added }
-
-pub spot-more : (out₀ : List ℕ) (used first i at : ℕ) (out : List ℕ) → at ≡ first + 16 * i → used + i < length out₀ → Added out₀ used (spotsFrom first i) out → Added out₀ used (spotsFrom first (i + 1)) (set out (used + i) at)
-spot-more out₀ used first i at out e h a =
-    let z = a .size in
-    rw (spots-more first i at e) (added-then (used + i) (ap (λ (k : ℕ). used + k) (sym (spots-length first i))) a (added-one out (used + i) at (omega arith)))

@@ -1,7 +1,7 @@
 -- The bends and the cycles of a shape, put into arrays. Assumes nothing.
 use Prim.Native.Nat.{ℕ, _+_, _*_, _≤_, _<_}
 use native.Mathlib.Omega.{arith}
-use mathlib.Core.Path.{_≡_, refl, sym, ap, _∙_, subst}
+use mathlib.Core.Path.{_≡_, sym, ap, _∙_}
 use mathlib.Core.List.{List}
 use lib.ListN.{length, drop}
 use Rattle.number.specs.Readers.{times}
@@ -14,9 +14,7 @@ use Rattle.complex.specs.Decode.{readCycle}
 use Rattle.store.specs.declared.Shape.{Shape}
 use Rattle.store.specs.View.{bendCount, cycleCount}
 use Rattle.reader.specs.declared.Used.{Used}
-use Rattle.reader.specs.declared.Loaded.{Loaded}
-use Rattle.reader.specs.declared.Loaded.the-variants.{Next, Refused}
-use Rattle.reader.specs.Filling.{Added, spotsFrom, withBends, CyclesOver, CyclesLoaded, PartsOver, PartsLoaded}
+use Rattle.reader.specs.Filling.{withBends, CyclesOver, PartsOver}
 
 module _ (s : List ℕ) (first : ℕ) (x : Shape) (used : Used) where
   pub too-many-bends : (b : ℕ) → b ≡ bendCount x → 2048 < used .bends + b → PartsOver s first x used
@@ -30,18 +28,3 @@ module _ (s : List ℕ) (first : ℕ) (x : Shape) (used : Used) where
   cycles-over h over bs ks t u f g i j k =
       let m : t ≡ drop (first + 16 * bendCount x) s = got-rest bs (positionsAt s first (bendCount x)) t (drop (first + 16 * bendCount x) s) (sym f ∙ positions-long s first (bendCount x) h) in
       over ks u (ap (times readCycle (cycleCount x)) (sym m) ∙ g) j k
-
-  module _ (spots counts steps spots′ counts′ steps′ : List ℕ) (r : Loaded) where
-    abbrev Loads : ℕ → ℕ → Type 0
-    Loads b k =
-        first + 16 * b ≤ length s → Added spots (used .bends) (spotsFrom first b) spots′ → CyclesLoaded (times readCycle k (drop (first + 16 * b) s)) s counts steps (withBends used b) counts′ steps′ r
-        → PartsLoaded s first x spots counts steps used spots′ counts′ steps′ r
-
-  shape-loaded : (spots counts steps spots′ counts′ steps′ : List ℕ) (r : Loaded) → Loads spots counts steps spots′ counts′ steps′ r (bendCount x) (cycleCount x)
-  shape-loaded spots counts steps spots′ counts′ steps′ (Next next used′) h a c = record { inside = h; spotted = a; filled = c }
-  shape-loaded spots counts steps spots′ counts′ steps′ Refused h a c = (refl, cycles-over h (c .1))
-
-  pub parts-loaded : (spots counts steps spots′ counts′ steps′ : List ℕ) (r : Loaded) (b k : ℕ) → b ≡ bendCount x → k ≡ cycleCount x → Loads spots counts steps spots′ counts′ steps′ r b k
-  parts-loaded spots counts steps spots′ counts′ steps′ r b k e f =
-      subst (λ (m : ℕ). Loads spots counts steps spots′ counts′ steps′ r m k) (sym e)
-      (subst (λ (m : ℕ). Loads spots counts steps spots′ counts′ steps′ r (bendCount x) m) (sym f) (shape-loaded spots counts steps spots′ counts′ steps′ r))

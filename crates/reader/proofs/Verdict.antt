@@ -5,26 +5,24 @@ use mathlib.Core.Path.{_≡_, refl, sym, ap, _∙_}
 use mathlib.Core.Logic.{inl, inr}
 use mathlib.Core.Bool.{Bool, true, false, _&&_, cond}
 use mathlib.Core.List.{List, [], _∷_}
-use lib.ListN.{length, take, length-append, length-map}
+use lib.ListN.{length, length-append, length-map}
 use lib.Dec.{T, leb, leb→le}
 use Rattle.number.specs.Readers.{Read, got, bad, andThen, times, spread}
 use Rattle.number.specs.Numbers.{readNumber}
 use Rattle.number.proofs.Laws.{got-thing, got-rest}
 use Rattle.number.proofs.Counted.{times-length}
 use Rattle.complex.specs.Lists.{total}
-use Rattle.complex.specs.Cells.{Cycle, lone, path, Figure, vertex, openEdge, closedEdge, face, LiveCell, Sheet, empty}
+use Rattle.complex.specs.Cells.{Cycle, lone, path, Figure, vertex, openEdge, closedEdge, face, LiveCell, Sheet}
 use Rattle.complex.specs.Sound.{sound, stepCount, cyclesIn, stepsIn, bendsIn, over, cellsMost, cyclesMost, stepsMost, bendsMost}
 use Rattle.complex.specs.File.{readCell, readSheet, judged, readFile}
 use Rattle.complex.specs.File.{ReadAnswer as Judgement}
 use Rattle.complex.proofs.FileReaders.{then-from}
 use Rattle.complex.proofs.Bools.{both}
 use Rattle.complex.proofs.Keep.{sound-parts}
-use Rattle.store.specs.declared.Drawing.{Drawing}
-use Rattle.store.specs.View.{sheetOf, Fits, cellsOf, cyclesOf, cycleTotal, bendTotal, stepTotal, cycleSum, bendSum, widthSum}
 use Rattle.store.specs.Places.{cyclesAt, bendsAt, word, stepsIn as stepsAt}
 use Rattle.store.proofs.Encode.{flat-append}
 use Rattle.reader.specs.declared.ReadAnswer.{ReadAnswer}
-use Rattle.reader.specs.Outcome.{refused, Refusal, RoomFor, CellsOver, CellsRead, SheetRead, FileRead}
+use Rattle.reader.specs.Outcome.{refused, RoomFor, CellsOver, CellsRead, SheetRead}
 
 -- ---- a sound drawing has room in the arrays
 cycle-places : (ks : List Cycle) → length (spread stepsAt ks) ≡ total stepCount ks
@@ -142,28 +140,7 @@ module _ (s t : List ℕ) (next : ℕ) (e : readNumber s ≡ got next t) where
     cells-read r (inl c) = inl (c .given .number, c .given .fits, counted-cells ∙ ap (sheeted next) (c .read) ∙ ap (λ (x : Sheet). got x []) (sym (c .given .sheet)))
     cells-read r (inr c) = inr (c .0, cells-over (c .1))
 
--- ---- no cell
-module _ (d : Drawing) (first : d .next ≡ 1) (none : d .count ≡ 0) where
-  pub empty-sheet : sheetOf d ≡ empty
-  unfolding sheetOf
-  empty-sheet = λ i. record { next = first i; cells = cellsOf (take (none i) (d .cells)) (cyclesOf (d .cycles) (d .steps)) (d .bends) }
-
-  pub empty-fits : Fits d
-  empty-fits =
-      let k : cycleTotal d ≡ 0 = ap (λ (n : ℕ). cycleSum (take n (d .cells))) none in
-      let b : bendTotal d ≡ 0 = ap (λ (n : ℕ). bendSum (take n (d .cells))) none in
-      let t : stepTotal d ≡ 0 = ap (λ (n : ℕ). widthSum (take n (d .cycles))) k in
-      record { cells = omega arith; cycles = omega arith; steps = omega arith; bends = omega arith }
-
 -- ---- answers
-pub refusal-read : (s : List ℕ) (r : ReadAnswer) → Refusal r → readFile s ≡ refused → FileRead s r
-refusal-read s r R e =
-    record {
-      number = R .number ∙ ap (λ (a : Judgement). a .number) (sym e);
-      sheet = R .sheet ∙ ap (λ (a : Judgement). a .sheet) (sym e);
-      fits = R .fits;
-    }
-
 module _ (s : List ℕ) (x : Sheet) (read : readSheet s ≡ got x []) where
   pub sound-read : sound x ≡ true → readFile s ≡ accepted x
   unfolding readFile

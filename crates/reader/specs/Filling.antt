@@ -93,10 +93,6 @@ PartsOver s first x used =
     → times readPosition (bendCount x) (drop first s) ≡ got bs t → times readCycle (cycleCount x) t ≡ got ks u
     → used .bends + length bs ≤ bendsMost → used .cycles + length ks ≤ cyclesMost → used .steps + length (spread stepsIn ks) ≤ stepsMost → ⊥
 
-abbrev pub PartsLoaded : List ℕ → ℕ → Shape → List ℕ → List ℕ → List ℕ → Used → List ℕ → List ℕ → List ℕ → Loaded → Type 0
-PartsLoaded s first x spots counts steps used spots′ counts′ steps′ r =
-    Says 10 (λ v. PartsIn s first x spots counts steps used spots′ counts′ steps′ (v .0) (v .1)) (PartsOver s first x used) (loadedSays r)
-
 -- the arrays have room for so much
 pub record Room (used : Used) (spots counts steps : List ℕ) : Type 0 where
   pub spotsSize : length spots ≡ bendsMost

@@ -1,9 +1,9 @@
 -- What reading a file answers. Definitions only.
-use Prim.Native.Nat.{ℕ, _+_, _≤_, _<_}
+use Prim.Native.Nat.{ℕ, _≤_}
 use mathlib.Core.Path.{_≡_}
 use mathlib.Core.Logic.{_⊎_}
 use mathlib.Core.List.{List, []}
-use lib.ListN.{length, getD}
+use lib.ListN.{length}
 use Rattle.number.specs.Readers.{Read, got, spread}
 use Rattle.complex.specs.Cells.{LiveCell, Sheet, empty}
 use Rattle.complex.specs.Sound.{cyclesMost, stepsMost, bendsMost}
@@ -11,11 +11,6 @@ use Rattle.complex.specs.File.{ReadAnswer as Judgement, readSheet, readFile}
 use Rattle.store.specs.View.{sheetOf, Fits}
 use Rattle.store.specs.Places.{cyclesAt, bendsAt, stepsIn}
 use Rattle.reader.specs.declared.ReadAnswer.{ReadAnswer}
-
--- a position stands at each of the first n places of spots
-pub record Spotted (s spots : List ℕ) (n : ℕ) : Type 0 where
-  pub size : n ≤ length spots
-  pub inside : (k : ℕ) → k < n → getD spots k 0 + 16 ≤ length s
 
 -- 10 and the empty drawing
 pub record Refusal (r : ReadAnswer) : Type 0 where

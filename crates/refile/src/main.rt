@@ -12,7 +12,7 @@ fn number_of(s: &[u8], n: usize) -> u64 {
     if s.len() < n {
         return 0;
     }
-    let a = reader::read(&s[..n]);
+    let a = core::read(&s[..n]);
     a.number as u64
 }
 
@@ -24,7 +24,14 @@ fn write_again(s: &[u8], n: usize, out: &mut [u8]) -> Written {
             count: 0,
         };
     }
-    files::write_again(&s[..n], out)
+    let a = core::read(&s[..n]);
+    if a.number != 0 {
+        return Written {
+            number: a.number,
+            count: 0,
+        };
+    }
+    core::write(a.drawing, out)
 }
 
 // Whether the first n bytes are the same.

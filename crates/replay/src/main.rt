@@ -1,5 +1,7 @@
 // Replays scripts: what is printed for each, and the file of the drawing at the end, against what is stored. The arguments
 // name three files of the data folder for each script: the script, what is printed, the drawing's file.
+ghost use Rattle.lent.specs.Arrays.{lent};
+ghost use Rattle.entry_calls.specs.Entries.{EmptyIn};
 ghost use Rattle.io.specs.Counts.{Counts};
 use libc::STDOUT_FILENO;
 use writer::Written;
@@ -32,19 +34,132 @@ fn load(argument: usize, space: &mut [u8]) -> usize
     n
 }
 
-// One more where what was made is not what is stored. Zeros follow each in its buffer.
-fn compare(argument: usize, w: Written, made: &[u8], differ: u64) -> u64 {
+// One more where what was made is not what is stored.
+fn differing(argument: usize, same: bool, differ: u64) -> u64 {
+    if same {
+        return differ;
+    }
+    tell(argument as u64, b": the argument's file differs\n");
+    std::num::wrapping_add_u64(differ, 1)
+}
+
+// Whether the file that was made is the stored one. Zeros follow each in its buffer.
+fn same_file(argument: usize, w: Written, made: &[u8]) -> bool {
     let mut stored = io::large_buffer();
     let n = load(argument, &mut stored);
     if w.number == 0 {
         if w.count == n {
-            if check::same(made, &stored) {
-                return differ;
-            }
+            return check::same(made, &stored);
         }
     }
-    tell(argument as u64, b": the argument's file differs\n");
-    std::num::wrapping_add_u64(differ, 1)
+    false
+}
+
+// Whether the first bytes of what was made stand in what is stored, from a place on.
+fn stands(made: &[u8], count: usize, stored: &[u8], from: usize) -> bool {
+    let end = std::num::wrapping_add_usize(from, count);
+    if end < from {
+        return false;
+    }
+    if stored.len() < end {
+        return false;
+    }
+    if made.len() < count {
+        return false;
+    }
+    check::same(&made[..count], &stored[from..end])
+}
+
+// Whether what is printed for a script from the empty drawing, a piece at a time, is what is stored.
+fn same_text(
+    next: &mut u32,
+    count: &mut usize,
+    ids: &mut [u32; 256],
+    kinds: &mut [u32; 256],
+    starts: &mut [u32; 256],
+    ends: &mut [u32; 256],
+    bends: &mut [u32; 256],
+    counts: &mut [u32; 256],
+    px: &mut [f64; 256],
+    py: &mut [f64; 256],
+    cycles: &mut [u32; 512],
+    steps: &mut [u32; 2048],
+    bx: &mut [f64; 2048],
+    by: &mut [f64; 2048],
+    script: &[u8],
+    stored: &[u8],
+) -> bool
+    requires { ⌜ EmptyIn (lent (now next) (now count) ids kinds starts ends bends counts px py cycles steps bx by) ⌝ }
+{
+    let mut out = io::buffer();
+    let mut at: usize = 0;
+    let mut from: usize = 0;
+    loop {
+        let p = printing::piece(
+            next,
+            count,
+            ids,
+            kinds,
+            starts,
+            ends,
+            bends,
+            counts,
+            px,
+            py,
+            cycles,
+            steps,
+            bx,
+            by,
+            script,
+            at,
+            &mut out,
+        );
+        if !stands(&out, p.count, stored, from) {
+            return false;
+        }
+        from = std::num::wrapping_add_usize(from, p.count);
+        if p.last {
+            return from == stored.len();
+        }
+        at = p.at;
+    }
+}
+
+// What is printed for a script, against a stored text.
+fn same_printed(script: &[u8], stored: &[u8]) -> bool {
+    let mut next: u32 = 0;
+    let mut count: usize = 0;
+    let mut ids = [0u32; 256];
+    let mut kinds = [0u32; 256];
+    let mut starts = [0u32; 256];
+    let mut ends = [0u32; 256];
+    let mut bends = [0u32; 256];
+    let mut counts = [0u32; 256];
+    let mut px = [0.0; 256];
+    let mut py = [0.0; 256];
+    let mut cycles = [0u32; 512];
+    let mut steps = [0u32; 2048];
+    let mut bx = [0.0; 2048];
+    let mut by = [0.0; 2048];
+    entry_calls::begin(&mut next, &mut count);
+    same_text(
+        &mut next,
+        &mut count,
+        &mut ids,
+        &mut kinds,
+        &mut starts,
+        &mut ends,
+        &mut bends,
+        &mut counts,
+        &mut px,
+        &mut py,
+        &mut cycles,
+        &mut steps,
+        &mut bx,
+        &mut by,
+        script,
+        stored,
+    )
 }
 
 // The drawing's file after a script.
@@ -56,7 +171,7 @@ fn replay_file(script: &[u8], stored: usize, t: Tally) -> Tally {
     Tally {
         scripts: t.scripts,
         commands: std::num::wrapping_add_u64(t.commands, r.commands as u64),
-        differ: compare(stored, w, &file, t.differ),
+        differ: differing(stored, same_file(stored, w, &file), t.differ),
     }
 }
 
@@ -65,11 +180,12 @@ fn replay(script: usize, printed: usize, stored: usize, t: Tally) -> Tally {
     let mut space = printing::script_space();
     let n = load(script, &mut space);
     let mut text = io::large_buffer();
-    let w = printing::edit(&space[..n], &mut text);
+    let k = load(printed, &mut text);
+    let same = same_printed(&space[..n], &text[..k]);
     let t = Tally {
         scripts: std::num::wrapping_add_u64(t.scripts, 1),
         commands: t.commands,
-        differ: compare(printed, w, &text, t.differ),
+        differ: differing(printed, same, t.differ),
     };
     if 65536 < n {
         return t;

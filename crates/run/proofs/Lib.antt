@@ -1,1 +1,3 @@
+pub mod Shorter
 pub mod Progress
+pub mod Arrays

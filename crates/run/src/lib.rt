@@ -1,8 +1,15 @@
-// A script from the empty drawing.
+// A script from the empty drawing. The drawing is in arrays of the function that begins the run.
 ghost use mathlib.Core.Path.{_≡_};
+ghost use lib.Dec.{T};
+ghost use Rattle.complex.specs.Calls.{filled};
+ghost use Rattle.complex.specs.File.{fileOf};
+ghost use Rattle.store.specs.View.{sheetOf};
 ghost use Rattle.writer.specs.Writes.{answered as written};
-ghost use Rattle.run.specs.Runs.{RanAll, savedTo};
-use command::Decoded;
+ghost use Rattle.lent.specs.Arrays.{heldBy, soundArrays, lent, entry, exit};
+ghost use Rattle.lent.specs.Replies.{Ready};
+ghost use Rattle.entry_calls.specs.Entries.{EmptyIn};
+ghost use Rattle.run.specs.Runs.{RanOn, RanAll, savedTo};
+use answer::Totals;
 use store::Drawing;
 use writer::Written;
 
@@ -12,26 +19,203 @@ pub struct Ran {
     pub commands: usize,
 }
 
+// The sums of sound arrays.
+pub fn sums(
+    next: u32,
+    count: usize,
+    ids: &[u32; 256],
+    kinds: &[u32; 256],
+    starts: &[u32; 256],
+    ends: &[u32; 256],
+    bends: &[u32; 256],
+    counts: &[u32; 256],
+    px: &[f64; 256],
+    py: &[f64; 256],
+    cycles: &[u32; 512],
+    steps: &[u32; 2048],
+    bx: &[f64; 2048],
+    by: &[f64; 2048],
+) -> Totals
+    requires { ⌜ T (soundArrays (lent next count ids kinds starts ends bends counts px py cycles steps bx by)) ⌝ }
+    ensures { λ r. ⌜ Ready (entry next count ids kinds starts ends bends counts px py cycles steps bx by) r ⌝ }
+{
+    lent::known(
+        next,
+        count,
+        ids,
+        kinds,
+        starts,
+        ends,
+        bends,
+        counts,
+        px,
+        py,
+        cycles,
+        steps,
+        bx,
+        by,
+    );
+    lent::totals(count, bends, counts, cycles)
+}
+
+// Runs the commands of a script from the empty drawing, each on the arrays as the one before it left them, until no byte is left or
+// one is not read: how many there were.
+fn run_on(
+    next: &mut u32,
+    count: &mut usize,
+    ids: &mut [u32; 256],
+    kinds: &mut [u32; 256],
+    starts: &mut [u32; 256],
+    ends: &mut [u32; 256],
+    bends: &mut [u32; 256],
+    counts: &mut [u32; 256],
+    px: &mut [f64; 256],
+    py: &mut [f64; 256],
+    cycles: &mut [u32; 512],
+    steps: &mut [u32; 2048],
+    bx: &mut [f64; 2048],
+    by: &mut [f64; 2048],
+    script: &[u8],
+) -> usize
+    requires { ⌜ EmptyIn (lent (now next) (now count) ids kinds starts ends bends counts px py cycles steps bx by) ⌝ }
+    ensures { λ r. ⌜ RanOn (entry (now (next .entry)) (now (count .entry)) ids kinds starts ends bends counts px py cycles steps bx by) (now (script .entry)) (exit (now (next .exit)) (now (count .exit)) ids kinds starts ends bends counts px py cycles steps bx by) r ⌝ }
+{
+    let mut at: usize = 0;
+    let mut commands: usize = 0;
+    while at < script.len() {
+        let t = entry_run::step_at(
+            next,
+            count,
+            ids,
+            kinds,
+            starts,
+            ends,
+            bends,
+            counts,
+            px,
+            py,
+            cycles,
+            steps,
+            bx,
+            by,
+            script,
+            at,
+        );
+        at = t.end;
+        commands = commands + 1;
+    }
+    commands
+}
+
+// The file of the drawing in sound arrays, in its buffer's first places.
+fn write_on(
+    next: u32,
+    count: usize,
+    ids: &[u32; 256],
+    kinds: &[u32; 256],
+    starts: &[u32; 256],
+    ends: &[u32; 256],
+    bends: &[u32; 256],
+    counts: &[u32; 256],
+    px: &[f64; 256],
+    py: &[f64; 256],
+    cycles: &[u32; 512],
+    steps: &[u32; 2048],
+    bx: &[f64; 2048],
+    by: &[f64; 2048],
+    file: &mut [u8],
+) -> Written
+    requires { ⌜ T (soundArrays (lent next count ids kinds starts ends bends counts px py cycles steps bx by)) ⌝ }
+    ensures { λ r. ⌜ written r (now (file .exit)) ≡ filled (fileOf (sheetOf (heldBy (entry next count ids kinds starts ends bends counts px py cycles steps bx by)))) (now (file .entry)) ⌝ }
+{
+    let t = sums(
+        next,
+        count,
+        ids,
+        kinds,
+        starts,
+        ends,
+        bends,
+        counts,
+        px,
+        py,
+        cycles,
+        steps,
+        bx,
+        by,
+    );
+    call_write::write(
+        next,
+        count,
+        ids,
+        kinds,
+        starts,
+        ends,
+        bends,
+        counts,
+        px,
+        py,
+        cycles,
+        steps,
+        bx,
+        by,
+        t,
+        file,
+    )
+}
+
 // Runs the commands of a script, each on the drawing that the one before it gave, until no byte is left or one is not read.
 pub fn run(script: &[u8]) -> Ran
     ensures { λ r. ⌜ RanAll (now (script .entry)) r ⌝ }
 {
-    let mut d = core::empty();
-    let mut at: usize = 0;
-    let mut commands: usize = 0;
-    while at < script.len() {
-        let left = &script[at..];
-        let Decoded::Whole(c, next) = command::decode(left) else {
-            return Ran {
-                drawing: d,
-                commands: commands + 1,
-            };
-        };
-        let a = obey::obey(d, left, c);
-        d = a.drawing;
-        at = at + next;
-        commands = commands + 1;
-    }
+    let mut next: u32 = 0;
+    let mut count: usize = 0;
+    let mut ids = [0u32; 256];
+    let mut kinds = [0u32; 256];
+    let mut starts = [0u32; 256];
+    let mut ends = [0u32; 256];
+    let mut bends = [0u32; 256];
+    let mut counts = [0u32; 256];
+    let mut px = [0.0; 256];
+    let mut py = [0.0; 256];
+    let mut cycles = [0u32; 512];
+    let mut steps = [0u32; 2048];
+    let mut bx = [0.0; 2048];
+    let mut by = [0.0; 2048];
+    entry_calls::begin(&mut next, &mut count);
+    let commands = run_on(
+        &mut next,
+        &mut count,
+        &mut ids,
+        &mut kinds,
+        &mut starts,
+        &mut ends,
+        &mut bends,
+        &mut counts,
+        &mut px,
+        &mut py,
+        &mut cycles,
+        &mut steps,
+        &mut bx,
+        &mut by,
+        script,
+    );
+    let d = door::put_together(
+        next,
+        count,
+        &ids,
+        &kinds,
+        &starts,
+        &ends,
+        &bends,
+        &counts,
+        &px,
+        &py,
+        &cycles,
+        &steps,
+        &bx,
+        &by,
+    );
     Ran {
         drawing: d,
         commands,
@@ -42,7 +226,53 @@ pub fn run(script: &[u8]) -> Ran
 pub fn save(script: &[u8], buffer: &mut [u8]) -> Written
     ensures { λ r. ⌜ written r (now (buffer .exit)) ≡ savedTo (now (script .entry)) (now (buffer .entry)) ⌝ }
 {
-    let r = run(script);
-    let d = r.drawing;
-    core::write(d, buffer)
+    let mut next: u32 = 0;
+    let mut count: usize = 0;
+    let mut ids = [0u32; 256];
+    let mut kinds = [0u32; 256];
+    let mut starts = [0u32; 256];
+    let mut ends = [0u32; 256];
+    let mut bends = [0u32; 256];
+    let mut counts = [0u32; 256];
+    let mut px = [0.0; 256];
+    let mut py = [0.0; 256];
+    let mut cycles = [0u32; 512];
+    let mut steps = [0u32; 2048];
+    let mut bx = [0.0; 2048];
+    let mut by = [0.0; 2048];
+    entry_calls::begin(&mut next, &mut count);
+    run_on(
+        &mut next,
+        &mut count,
+        &mut ids,
+        &mut kinds,
+        &mut starts,
+        &mut ends,
+        &mut bends,
+        &mut counts,
+        &mut px,
+        &mut py,
+        &mut cycles,
+        &mut steps,
+        &mut bx,
+        &mut by,
+        script,
+    );
+    write_on(
+        next,
+        count,
+        &ids,
+        &kinds,
+        &starts,
+        &ends,
+        &bends,
+        &counts,
+        &px,
+        &py,
+        &cycles,
+        &steps,
+        &bx,
+        &by,
+        buffer,
+    )
 }

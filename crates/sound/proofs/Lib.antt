@@ -1,5 +1,4 @@
 pub mod Testing
-pub mod Totals
 pub mod Looking
 pub mod Walking
 pub mod Parts

@@ -8,12 +8,11 @@ use native.Mathlib.Omega.{arith}
 use borrow.Author.Tests.{eq-eqb, ne-eqb}
 use lib.Dec.{eqb}
 use lib.ListN.{length, take, drop, getD, length-drop}
-use lib.Seq.{getD-drop, drop-cons, drop-drop}
+use lib.Seq.{getD-drop, drop-cons}
 use Rattle.complex.specs.Lists.{all}
 use Rattle.complex.proofs.Bools.{or-none}
-use Rattle.store.specs.View.{width, widthSum}
-use Rattle.store.proofs.Lists.{sum-more, sum-le}
-use Rattle.sound.specs.Rows.{Rows, isVertexIn, rowIn, tailIn, headIn, goesOn, leadsIn, joinsIn, cycleGood, cyclesGood}
+use Rattle.store.specs.View.{width}
+use Rattle.sound.specs.Rows.{Rows, isVertexIn, rowIn, tailIn, headIn, goesOn, leadsIn, joinsIn, cycleGood}
 use Rattle.sound.proofs.Testing.{and-true, and-false, left-cons, left-none}
 
 pub room : (l : List ℕ) (from m : ℕ) → from + m ≤ length l → m ≤ length (drop from l)
@@ -43,37 +42,6 @@ module _ (t : Rows) (l : List ℕ) (from m u w : ℕ) where
 
   pub leading-end : from + m ≤ length l → (at i : ℕ) → i ≡ m → Leading at i → eqb at w ≡ leadsIn t u (take m (drop from l)) w
   leading-end h at i e x = sym (x .rest ∙ ap (λ (y : List ℕ). leadsIn t at y w) (left-none (drop from l) m i (room l from m h) e))
-
--- the first i cycles are right, and the steps of the others begin at `from`
-module _ (t : Rows) (ns st : List ℕ) (m : ℕ) where
-  pub record Cycling (from i : ℕ) : Type 0 where
-    pub from-is : from ≡ widthSum (take i ns)
-    pub rest : cyclesGood t (take m ns) st ≡ cyclesGood t (drop i (take m ns)) (drop from st)
-
-  module _ (h : m ≤ length ns) (from i : ℕ) (k : i < m) (x : Cycling from i) where
-    following : cyclesGood t (take m ns) st ≡ cycleGood t (getD ns i 0) (drop from st) && cyclesGood t (drop (i + 1) (take m ns)) (drop (width (getD ns i 0)) (drop from st))
-    following = x .rest ∙ ap (λ (y : List ℕ). cyclesGood t y (drop from st)) (left-cons ns m i 0 h k)
-
-    cycling-sum : from + width (getD ns i 0) ≡ widthSum (take (i + 1) ns)
-    cycling-sum = ap (λ (y : ℕ). y + width (getD ns i 0)) (x .from-is) ∙ sym (sum-more width ns i 0 (omega arith))
-
-    pub cycling-room : (n : ℕ) → widthSum (take m ns) ≤ n → from + width (getD ns i 0) ≤ n
-    cycling-room n g = let a = cycling-sum in let b = sum-le width ns (i + 1) m (omega arith) in omega arith
-
-    pub cycling-fail : cycleGood t (getD ns i 0) (drop from st) ≡ false → false ≡ cyclesGood t (take m ns) st
-    cycling-fail e = sym (following ∙ and-false _ e)
-
-    pub cycling-turn : cycleGood t (getD ns i 0) (drop from st) ≡ true → (p : ℕ) → p ≡ width (getD ns i 0) → Cycling (from + p) (i + 1)
-    cycling-turn e p g =
-        record {
-          from-is = ap (λ (y : ℕ). from + y) g ∙ cycling-sum;
-          rest =
-              following ∙ and-true _ e
-              ∙ ap (cyclesGood t (drop (i + 1) (take m ns))) (drop-drop (width (getD ns i 0)) from st ∙ ap (λ (y : ℕ). drop (from + y) st) (sym g));
-        }
-
-  pub cycling-end : m ≤ length ns → (from i : ℕ) → i ≡ m → Cycling from i → true ≡ cyclesGood t (take m ns) st
-  cycling-end h from i e x = sym (x .rest ∙ ap (λ (y : List ℕ). cyclesGood t y (drop from st)) (left-none ns m i h e))
 
 -- ---- one cycle
 first-step : (st : List ℕ) (from m : ℕ) → 1 ≤ m → from + m ≤ length st → take m (drop from st) ≡ getD st from 0 ∷ take (m - 1) (drop (from + 1) st)

@@ -1,14 +1,13 @@
 -- Soundness of the rows of an index, and of the cycles in number arrays. Definitions only.
-use Prim.Native.Nat.{ℕ, zero, suc, _/_, _%_, _≤_}
-use mathlib.Core.Path.{_≡_}
+use Prim.Native.Nat.{ℕ, zero, suc, _/_, _%_}
 use mathlib.Core.Bool.{Bool, true, false, not, _&&_, _||_, cond}
 use mathlib.Core.List.{List, [], _∷_}
 use lib.Dec.{eqb, leb}
-use lib.ListN.{length, take, drop, getD}
+use lib.ListN.{take, drop, getD}
 use Rattle.complex.specs.Lists.{all, rising}
-use Rattle.complex.specs.Sound.{cellsMost, cyclesMost, stepsMost, idsEnd}
-use Rattle.store.specs.Index.{Rising, rowOf, valueAt}
-use Rattle.store.specs.View.{width, widthSum}
+use Rattle.complex.specs.Sound.{idsEnd}
+use Rattle.store.specs.Index.{rowOf, valueAt}
+use Rattle.store.specs.View.{width}
 
 -- a row for each cell
 pub record Rows : Type 0 where
@@ -19,20 +18,6 @@ pub record Rows : Type 0 where
 
 abbrev pub rowsOf : ℕ → List ℕ → List ℕ → List ℕ → List ℕ → Rows
 rowsOf n is ks ss es = record { ids = take n is; kinds = take n ks; starts = take n ss; ends = take n es }
-
--- the places of the hints at rows
-abbrev pub hintPlaces : ℕ
-hintPlaces = 8192
-
--- the arrays of n rows whose ids rise, and hints at the rows of ids
-pub record Lent (n : ℕ) (hs is ks ss es : List ℕ) : Type 0 where
-  pub few : n ≤ cellsMost
-  pub hints : length hs ≡ hintPlaces
-  pub ids : length is ≡ cellsMost
-  pub kinds : length ks ≡ cellsMost
-  pub starts : length ss ≡ cellsMost
-  pub ends : length es ≡ cellsMost
-  pub rising : Rising (take n is)
 
 -- ---- the rows of edges
 abbrev pub isVertexIn : List ℕ → List ℕ → ℕ → Bool
@@ -92,19 +77,6 @@ cyclesGood t [] st = true
 cyclesGood t (n ∷ ns) st = cycleGood t n st && cyclesGood t ns (drop (width n) st)
 
 -- ---- all of it
--- the arrays of n rows, with the numbers of their bends, and of m cycles
-pub record Numbers (n : ℕ) (is ks ss es bs : List ℕ) (m : ℕ) (ns st : List ℕ) : Type 0 where
-  pub few : n ≤ cellsMost
-  pub ids : length is ≡ cellsMost
-  pub kinds : length ks ≡ cellsMost
-  pub starts : length ss ≡ cellsMost
-  pub ends : length es ≡ cellsMost
-  pub bends : length bs ≡ cellsMost
-  pub cycles : length ns ≡ cyclesMost
-  pub steps : length st ≡ stepsMost
-  pub cyclesFit : m ≤ cyclesMost
-  pub stepsFit : widthSum (take m ns) ≤ stepsMost
-
 -- the ids rise below the next id, and the rows and the cycles ns are right
 abbrev pub numbersGood : Rows → List ℕ → ℕ → ℕ → List ℕ → List ℕ → Bool
 numbersGood t bs n next ns st = leb next idsEnd && (rising 0 (t .ids) next && (allFrom (rowGood t bs) 0 n && cyclesGood t ns st))

@@ -4,7 +4,7 @@ ghost use lib.ListN.{take, length, replicate};
 ghost use lib.Seq.{paste};
 ghost use Rattle.complex.specs.Lists.{total};
 ghost use Rattle.store.specs.View.{bendCount, cycleCount};
-ghost use Rattle.store.specs.Index.{kindOf, startOf, endOf, CellRows, Indexes, Rising, rowOf, valueAt};
+ghost use Rattle.store.specs.Index.{kindOf, startOf, endOf, Rising, rowOf, valueAt};
 ghost use Rattle.store.specs.Edits.{placesOf, spreadFlags};
 use coordinate::Position;
 
@@ -71,7 +71,7 @@ pub fn cycle_count(s: Shape) -> u32
     }
 }
 
-// What a call derives from the cells once, and lends: a row of numbers for each cell.
+// A row of numbers for each cell.
 pub struct Index {
     pub ids: [u32; 256],
     pub kinds: [u32; 256],
@@ -79,47 +79,6 @@ pub struct Index {
     pub ends: [u32; 256],
     pub bends: [u32; 256],
     pub cycles: [u32; 256],
-}
-
-// The numbers of the first n cells.
-fn index_cells(cells: [Cell; 256], n: usize) -> Index
-    requires { ⌜ n ≤ 256 ⌝ }
-    ensures { λ r. ⌜ CellRows cells n r ⌝ }
-{
-    let mut out = Index {
-        ids: [0; 256],
-        kinds: [0; 256],
-        starts: [0; 256],
-        ends: [0; 256],
-        bends: [0; 256],
-        cycles: [0; 256],
-    };
-    let mut i: usize = 0;
-    while i < n {
-        let c = cells[i];
-        let s = c.shape;
-        let k = kind_of(s);
-        let a = start_of(s);
-        let b = end_of(s);
-        let m = bend_count(s);
-        let f = cycle_count(s);
-        out.ids[i] = c.id;
-        out.kinds[i] = k;
-        out.starts[i] = a;
-        out.ends[i] = b;
-        out.bends[i] = m;
-        out.cycles[i] = f;
-        i = i + 1;
-    }
-    out
-}
-
-pub fn index_of(d: Drawing) -> Index
-    requires { ⌜ d .count ≤ 256 ⌝ }
-    ensures { λ r. ⌜ Indexes d r ⌝ }
-{
-    let cells = d.cells;
-    index_cells(cells, d.count)
 }
 
 // n places from `at` on get the flag v.

@@ -2,9 +2,10 @@
 use Prim.Native.Nat.{ℕ, _+_, _*_, _≤_, _<_}
 use native.Mathlib.Omega.{arith}
 use mathlib.Core.Path.{_≡_, ap, sym, _∙_, subst}
-use mathlib.Core.Bool.{Bool, true, false, _&&_, cond}
+use mathlib.Core.Bool.{Bool, true, _&&_, cond}
 use mathlib.Core.List.{List, [], _∷_, _++_, append-assoc}
 use lib.Dec.{T, ltb→lt, lt→ltb}
+use lib.Ieee.{Float}
 use lib.ListN.{length, take, drop, length-append}
 use lib.Seq.{length-take-le, sets-eq}
 use borrow.Author.Tests.{le-leb, lt-leb}
@@ -30,7 +31,6 @@ use Rattle.store.proofs.Encode.{take-cycles, length-cycles}
 use Rattle.store.proofs.Stands.{used-cycles}
 use Rattle.sound.specs.Soundness.{soundDrawing}
 use Rattle.sound.proofs.Meaning.{sound-fits, sound-sheet}
-use Rattle.writer.specs.declared.Points.{Points}
 use Rattle.writer.specs.Writes.{filledWith, writeOf}
 use Rattle.writer.specs.Places.{Put, spells, cycleSpells, figureSpells, cellSpells, points, PointsOf, Rings, AllReady, Writable, Heads, spellWidth, shapeSpells, headSpells, headWidth}
 use Rattle.writer.proofs.Cells.{length-cells}
@@ -103,9 +103,9 @@ module _ (d : Drawing) (z : Sizes d) (w : Writable d) where
         spelled = subst (λ (ks : List Cycle). T (all cycleSpells ks)) (used-cycles d z (w .fits)) (rings-spell (sheetOf d .cells) cells-spell);
       }
 
-  pub cells-ready : (p : Points) → PointsOf (d .bends) p → AllReady (d .cells) (d .count) (p .xs) (p .ys) (d .cycles) (d .steps)
+  pub cells-ready : (xs ys : List Float) → PointsOf (d .bends) xs ys → AllReady (d .cells) (d .count) xs ys (d .cycles) (d .steps)
   unfolding sheetOf
-  cells-ready p e =
+  cells-ready xs ys e =
       record {
         few = w .fits .cells;
         cells = z .cells;
@@ -164,9 +164,10 @@ module _ (d : Drawing) (z : Sizes d) (w : Writable d) where
       let v = width-most (d .count) in
       omega arith
 
-  pub cells-same : (p : Points) → PointsOf (d .bends) p → spread cellBytes (cellsOf (take (d .count) (d .cells)) (cyclesOf (d .cycles) (d .steps)) (points (p .xs) (p .ys))) ≡ spread cellBytes (sheetOf d .cells)
+  pub cells-same : (xs ys : List Float) → PointsOf (d .bends) xs ys
+      → spread cellBytes (cellsOf (take (d .count) (d .cells)) (cyclesOf (d .cycles) (d .steps)) (points xs ys)) ≡ spread cellBytes (sheetOf d .cells)
   unfolding sheetOf
-  cells-same p e = ap (λ (bs : List Position). spread cellBytes (cellsOf (take (d .count) (d .cells)) (cyclesOf (d .cycles) (d .steps)) bs)) (e .same)
+  cells-same xs ys e = ap (λ (bs : List Position). spread cellBytes (cellsOf (take (d .count) (d .cells)) (cyclesOf (d .cycles) (d .steps)) bs)) (e .same)
 
 -- ---- the answer
 -- a file can hold a sound drawing
@@ -178,9 +179,6 @@ unfolding writeCall
 write-sound d l e =
     let t = sound-sheet d (truth e) in
     sym (ap (λ (b : Bool). cond b (writeCall (sheetOf d) l) (unfilled 1 l)) e ∙ ap (λ (b : Bool). cond b (filledWith d l) (unfilled 1 l)) (true-of (sound (sheetOf d)) t))
-
-pub write-unsound : (d : Drawing) (l : List ℕ) → soundDrawing d ≡ false → unfilled 1 l ≡ writeOf d l
-write-unsound d l e = sym (ap (λ (b : Bool). cond b (writeCall (sheetOf d) l) (unfilled 1 l)) e)
 
 pub filled-put : {l m : List ℕ} {r : ℕ} (bs : List ℕ) → length bs ≤ length l → Put l 0 bs m r → _≡_ {A = Filled} (record { number = 0; count = r; buffer = m }) (filled bs l)
 filled-put {l} {m} {r} bs h a =

@@ -7,8 +7,8 @@ use native.Mathlib.Omega.{arith}
 use native.Mathlib.Numerals.{add-one}
 use lib.Dec.{T}
 use lib.Ieee.Fits.{and-l, and-r}
-use lib.ListN.{length, take, drop, getD, set, length-append, length-drop, length-set, drop-of-length-le}
-use lib.Seq.{sets, length-sets, take-suc, take-add, take-all, length-take-le, getD-take, getD-drop, take-suc-set, drop-drop, sets-eq}
+use lib.ListN.{length, take, drop, getD, length-append, length-drop, drop-of-length-le}
+use lib.Seq.{sets, length-sets, take-suc, take-add, take-all, length-take-le, getD-take, getD-drop, drop-drop, sets-eq}
 use borrow.Rule.Slice.PartMut.{putMid}
 use lib.Ieee.{Float, nan}
 use Rattle.number.specs.Readers.{spread, all}
@@ -150,41 +150,3 @@ module _ (xs ys : List Float) (from n : ℕ) (b : Bends xs ys from n) where
   -- a bend list: the count and the positions
   pub bends-bytes : bendBytes (run from n (points xs ys)) ≡ spell n ++ spread positionBytes (run from n (points xs ys))
   bends-bytes = ap (λ (k : ℕ). spell k ++ spread positionBytes (run from n (points xs ys))) bends-size
-
--- ---- positions taken apart
-points-set : (xs ys : List Float) (i : ℕ) (p : Position) → points (set xs i (p .x)) (set ys i (p .y)) ≡ set (points xs ys) i p
-points-set [] ys i p = refl
-points-set (x ∷ xs) [] zero p = refl
-points-set (x ∷ xs) [] (suc i) p = refl
-points-set (x ∷ xs) (y ∷ ys) zero p = refl
-points-set (x ∷ xs) (y ∷ ys) (suc i) p = ap (λ (r : List Position). record { x = x; y = y } ∷ r) (points-set xs ys i p)
-
--- the first i positions stand in xs and ys
-pub record Parting (bs : List Position) (i : ℕ) (xs ys : List Float) : Type 0 where
-  pub first : length xs ≡ 2048
-  pub second : length ys ≡ 2048
-  pub front : take i (points xs ys) ≡ take i bs
-
-module _ (bs : List Position) (i : ℕ) (xs ys : List Float) (a : Parting bs i xs ys) where
-  parting-length : length (points xs ys) ≡ 2048
-  parting-length = length-points xs ys (a .first ∙ sym (a .second)) ∙ a .first
-
-  pub parting-turn : (z : Position) → i < 2048 → length bs ≡ 2048 → Parting bs (i + 1) (set xs i (getD bs i z .x)) (set ys i (getD bs i z .y))
-  parting-turn z h k =
-      let p = getD bs i z in
-      let n = parting-length in
-      record {
-        first = length-set xs i (p .x) ∙ a .first;
-        second = length-set ys i (p .y) ∙ a .second;
-        front =
-            ap₂ (λ (m : ℕ) (r : List Position). take m r) (add-one i) (points-set xs ys i p)
-            ∙ take-suc-set (points xs ys) i p (omega arith)
-            ∙ ap (λ (r : List Position). r ++ (p ∷ [])) (a .front)
-            ∙ sym (take-suc bs i z (omega arith))
-            ∙ ap (λ (m : ℕ). take m bs) (sym (add-one i));
-      }
-
-  pub parting-end : 2048 ≤ i → length bs ≡ 2048 → points xs ys ≡ bs
-  parting-end h k =
-      let n = parting-length in
-      sym (take-all i (points xs ys) (omega arith)) ∙ a .front ∙ take-all i bs (omega arith)

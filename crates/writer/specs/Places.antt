@@ -13,15 +13,12 @@ use Rattle.coordinate.specs.declared.Position.{Position}
 use Rattle.coordinate.specs.Bounds.{within}
 use Rattle.complex.specs.Cells.{Halfedge, Cycle, lone, path, Figure, vertex, openEdge, closedEdge, face, LiveCell, Sheet}
 use Rattle.complex.specs.Decode.{stepNumber}
-use Rattle.complex.specs.Lists.{total}
 use Rattle.store.specs.declared.Shape.{Shape}
 use Rattle.store.specs.declared.Shape.the-variants.{Vertex, Open, Closed, Face}
 use Rattle.store.specs.declared.Cell.{Cell}
 use Rattle.store.specs.declared.Drawing.{Drawing}
 use Rattle.store.specs.View.{cyclesOf, cellsOf, figureOf, cycleCount, bendCount, cycleSum, bendSum, widthSum, sheetOf, Fits}
 use Rattle.writer.specs.declared.Place.{Place}
-use Rattle.writer.specs.declared.Points.{Points}
-use Rattle.writer.specs.declared.Measure.{Measure}
 
 -- l′ is l with bs at a place, and r the place after them
 pub record Put (l : List ℕ) (at : ℕ) (bs l′ : List ℕ) (r : ℕ) : Type 0 where
@@ -76,11 +73,11 @@ placeAfter s ns at =
       steps = at .steps + widthSum (run (at .cycles) (cycleCount s) ns);
     }
 
--- the points r are the positions bs
-pub record PointsOf (bs : List Position) (r : Points) : Type 0 where
-  pub first : length (r .xs) ≡ 2048
-  pub second : length (r .ys) ≡ 2048
-  pub same : points (r .xs) (r .ys) ≡ bs
+-- the positions bs stand in xs and ys
+pub record PointsOf (bs : List Position) (xs ys : List Float) : Type 0 where
+  pub first : length xs ≡ 2048
+  pub second : length ys ≡ 2048
+  pub same : points xs ys ≡ bs
 
 -- a shape's places keep within the arrays
 pub record PlaceFits (s : Shape) (ns : List ℕ) (at : Place) : Type 0 where
@@ -167,8 +164,3 @@ pub record Heads (cs : List Cell) (n : ℕ) : Type 0 where
   pub bends : bendSum (take n cs) ≤ 2048
   pub cycles : cycleSum (take n cs) ≤ 512
   pub spelled : T (all headSpells (take n cs))
-
-pub record Measured (cs : List Cell) (n : ℕ) (r : Measure) : Type 0 where
-  pub heads : r .heads ≡ total headWidth (take n cs)
-  pub bends : r .bends ≡ bendSum (take n cs)
-  pub cycles : r .cycles ≡ cycleSum (take n cs)

@@ -10,14 +10,12 @@ ghost use Rattle.coordinate.specs.Positions.{positionBytes};
 ghost use Rattle.bends.specs.Bends.{bendBytes};
 ghost use Rattle.complex.specs.Cells.{vertex, openEdge, closedEdge, face};
 ghost use Rattle.complex.specs.Decode.{cycleBytes};
-ghost use Rattle.complex.specs.File.{cellBytes, fileOf};
+ghost use Rattle.complex.specs.File.{cellBytes};
 ghost use Rattle.complex.specs.Lists.{total};
-ghost use Rattle.store.specs.View.{cycleOf, cyclesOf, cellsOf, width, widthSum, sheetOf};
-ghost use Rattle.writer.specs.Places.{Put, points, run, PointsOf, PlaceFits, cellIn, placeAfter, cycleSpells, Numbers, Bends, Rings, Ready, AllReady, Writable, spellWidth, shapeWidth, shapeSpells, headWidth, headSpells, Heads, Measured};
-ghost use Rattle.writer.specs.Writes.{answered, filledWith, writeOf};
+ghost use Rattle.store.specs.View.{cycleOf, cyclesOf, width, widthSum};
+ghost use Rattle.writer.specs.Places.{Put, points, run, PlaceFits, cellIn, placeAfter, cycleSpells, Numbers, Bends, Rings, Ready, spellWidth, shapeWidth, shapeSpells, headWidth, headSpells};
 use coordinate::Position;
 use store::Cell;
-use store::Drawing;
 use store::Shape;
 
 pub struct Written {
@@ -30,19 +28,6 @@ pub struct Place {
     pub bends: usize,
     pub cycles: usize,
     pub steps: usize,
-}
-
-// The coordinates of the bends.
-pub struct Points {
-    pub xs: [f64; 2048],
-    pub ys: [f64; 2048],
-}
-
-// Of some cells: the bytes that they take besides bends and cycles, their bends and their cycles.
-pub struct Measure {
-    pub heads: usize,
-    pub bends: usize,
-    pub cycles: usize,
 }
 
 // ---- numbers
@@ -285,56 +270,6 @@ pub fn place_after(s: Shape, cycles: &[u32; 512], at: Place) -> Place
     }
 }
 
-// The first n cells; each is lent what is left of the buffer.
-fn put_cells<'a, 'b>(
-    cells: [Cell; 256],
-    n: usize,
-    xs: &'a [f64; 2048],
-    ys: &'a [f64; 2048],
-    cycles: &'b [u32; 512],
-    steps: &'b [u32; 2048],
-    buffer: &mut [u8],
-    start: usize,
-) -> usize
-    requires { ⌜ AllReady cells n (now xs) (now ys) (now cycles) (now steps) ⌝ }
-    requires { ⌜ start + length (spread cellBytes (cellsOf (take n cells) (cyclesOf (now cycles) (now steps)) (points (now xs) (now ys)))) ≤ length (now buffer) ⌝ }
-    ensures { λ r. ⌜ Put (now (buffer .entry)) start (spread cellBytes (cellsOf (take n cells) (cyclesOf (now (cycles .entry)) (now (steps .entry))) (points (now (xs .entry)) (now (ys .entry))))) (now (buffer .exit)) r ⌝ }
-{
-    let mut at = start;
-    let mut place = Place {
-        bends: 0,
-        cycles: 0,
-        steps: 0,
-    };
-    let mut i: usize = 0;
-    while i < n {
-        let c = cells[i];
-        at += put_cell(c, place, xs, ys, cycles, steps, &mut buffer[at..]);
-        let s = c.shape;
-        place = place_after(s, cycles, place);
-        i = i + 1;
-    }
-    at
-}
-
-fn points_of(bends: [Position; 2048]) -> Points
-    requires { ⌜ length bends ≡ 2048 ⌝ }
-    ensures { λ r. ⌜ PointsOf bends r ⌝ }
-{
-    let mut out = Points {
-        xs: [0.0; 2048],
-        ys: [0.0; 2048],
-    };
-    let mut i: usize = 0;
-    while i < 2048 {
-        let p = bends[i];
-        out.xs[i] = p.x;
-        out.ys[i] = p.y;
-        i = i + 1;
-    }
-    out
-}
-
 // ---- how many bytes a file takes
 
 fn shape_length(s: Shape) -> usize
@@ -365,29 +300,6 @@ pub fn head_length(c: Cell) -> usize
     w + (1 + n)
 }
 
-fn measure_cells(cells: [Cell; 256], n: usize) -> Measure
-    requires { ⌜ Heads cells n ⌝ }
-    ensures { λ r. ⌜ Measured cells n r ⌝ }
-{
-    let mut heads: usize = 0;
-    let mut bends: usize = 0;
-    let mut cycles: usize = 0;
-    let mut i: usize = 0;
-    while i < n {
-        let c = cells[i];
-        let s = c.shape;
-        heads = heads + head_length(c);
-        bends = bends + store::wide(store::bend_count(s));
-        cycles = cycles + store::wide(store::cycle_count(s));
-        i = i + 1;
-    }
-    Measure {
-        heads,
-        bends,
-        cycles,
-    }
-}
-
 // The bytes of the first n numbers.
 pub fn widths(src: &[u32], n: usize) -> usize
     requires { ⌜ Numbers (now src) 0 n ⌝ }
@@ -402,73 +314,4 @@ pub fn widths(src: &[u32], n: usize) -> usize
         i = i + 1;
     }
     sum
-}
-
-// The bytes of the first n cycles.
-fn rings_length<'a>(cycles: &'a [u32; 512], n: usize, steps: &'a [u32; 2048]) -> usize
-    requires { ⌜ Rings (now cycles) 0 n (now steps) 0 ⌝ }
-    ensures { λ r. ⌜ r ≡ length (spread cycleBytes (cyclesOf (take n (now (cycles .entry))) (now (steps .entry)))) ⌝ }
-{
-    let m = step_run(cycles, 0, n);
-    let a = widths(cycles, n);
-    let b = widths(steps, m);
-    a + b
-}
-
-// The bytes of a drawing's file.
-fn file_length(d: Drawing) -> usize
-    requires { ⌜ Writable d ⌝ }
-    ensures { λ r. ⌜ r ≡ length (fileOf (sheetOf d)) ⌝ }
-{
-    let n = d.count;
-    let cells = d.cells;
-    let m = measure_cells(cells, n);
-    let k = m.cycles;
-    let cy = d.cycles;
-    let st = d.steps;
-    let rings = rings_length(&cy, k, &st);
-    let a = number::number_width(d.next);
-    let b = number::number_width(n as u32);
-    a + (b + (m.heads + (rings + 16 * m.bends)))
-}
-
-// ---- the file
-
-fn write_sound(d: Drawing, buffer: &mut [u8]) -> Written
-    requires { ⌜ Writable d ⌝ }
-    ensures { λ r. ⌜ answered r (now (buffer .exit)) ≡ filledWith d (now (buffer .entry)) ⌝ }
-{
-    let length = file_length(d);
-    if buffer.len() < length {
-        return Written {
-            number: 9,
-            count: length,
-        };
-    }
-    let bends = d.bends;
-    let p = points_of(bends);
-    let n = d.count;
-    let at = put_two(d.next, n as u32, buffer, 0);
-    let cells = d.cells;
-    let cy = d.cycles;
-    let st = d.steps;
-    let end = put_cells(cells, n, &p.xs, &p.ys, &cy, &st, buffer, at);
-    Written {
-        number: 0,
-        count: end,
-    }
-}
-
-// Writes the file of d into the first places of the buffer. Number 1: d is not sound; 9: the buffer
-// is too short; else 0. The count is of the places that the file needs.
-pub fn write(d: Drawing, buffer: &mut [u8]) -> Written
-    ensures { λ r. ⌜ answered r (now (buffer .exit)) ≡ writeOf d (now (buffer .entry)) ⌝ }
-{
-    if sound::sound(d) {
-        return write_sound(d, buffer);
-    }
-    Written {
-        number: 1,
-        count: 0,
-    }
 }

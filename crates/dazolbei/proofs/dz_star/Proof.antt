@@ -1,51 +1,16 @@
--- `dazolbei::dz_star` meets its contract: 10, or what star answers to the drawing that was read. Assumes nothing.
-use native.Mathlib.Omega.{arith}
+-- `dazolbei::dz_star` meets its contract: it hands on the star in a file's drawing. Assumes nothing.
 use borrow.Author.Needs.{needs}
-use denote.Ref.{now}
-use mathlib.Core.Path.{_≡_, ap, _∙_}
-use Rattle.number.proofs.Bytes.{Bytes}
-use Rattle.complex.specs.Calls.{Filled}
-use Rattle.dazolbei.proofs.Opening.{star-refused, star-is, star-few}
 use Rattle.dazolbei.proofs.dz_star.Statement.{statement}
 use Rattle.dazolbei.proofs.dz_star.Tie as tie
-
-read-requires : tie.Need-read-requires
-read-requires c κs = search needs
-
-returns : tie.Need-returns
-returns c =
-    let r = c .before .before in
-    let s = r .before .before .before in
-    star-refused (now (s .args .file)) (r .read .result) (r .read .ensures) (s .args .id) (now (s .args .buffer)) (c .if1 .taken)
 
 star-requires : tie.Need-star-requires
 star-requires c κs = search needs
 
-cast-count : tie.Need-cast-count
-cast-count c =
-    let t = c .before .before .before in
-    let i = t .before .before .before in
-    let r = i .before .before in
-    let k = r .before .before in
-    let s = k .before in
-    let B : Bytes (now (s .args .file)) = λ n. k .shared-slice-known .given n .fits in
-    let e = ap (λ (x : Filled). x .count) (t .star .ensures) in
-    let h = star-few (now (s .args .file)) (r .read .result) (r .read .ensures) B (i .if1 .left) (s .args .id) (now (s .args .buffer)) in
-    record { fits = omega arith }
-
 same-length : tie.Need-same-length
 same-length c = search needs
 
-returns-2 : tie.Need-returns-2
-returns-2 c =
-    let t = c .before .before .before in
-    let i = t .before .before .before in
-    let r = i .before .before in
-    let k = r .before .before in
-    let s = k .before in
-    let B : Bytes (now (s .args .file)) = λ n. k .shared-slice-known .given n .fits in
-    t .star .ensures ∙ star-is (now (s .args .file)) (r .read .result) (r .read .ensures) B (i .if1 .left) (s .args .id) (now (s .args .buffer))
+returns : tie.Need-returns
+returns c = c .before .before .star .ensures
 
 pub dz-star-spec : {M : Type 1} → statement M
-dz-star-spec =
-    tie.close (tie.spec read-requires returns star-requires cast-count same-length returns-2)
+dz-star-spec = tie.close (tie.spec star-requires same-length returns)

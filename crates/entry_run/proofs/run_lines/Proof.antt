@@ -51,15 +51,15 @@ loop-holds c =
     let s = c .before .before in
     come-start (arrays s) (now (s .args .script)) (now (s .args .lines)) (s .pre .0)
 
-mul-turn : tie.Need-mul-turn Inv-loop μ-loop
-mul-turn c =
+mul-put-turn : tie.Need-mul-put-turn Inv-loop μ-loop
+mul-put-turn c =
     let t = c .before .before .before .before .before .before .before .before .before .before .before .before .before .before .before in
     let s = t .before .before .before .before in
     let h = few-so-far (t .before .loop .inv) (t .loop-test .taken) (s .pre .1 .0) in
     record { fits = omega arith }
 
-turn-requires : tie.Need-turn-requires Inv-loop μ-loop
-turn-requires c κs =
+put-turn-requires : tie.Need-put-turn-requires Inv-loop μ-loop
+put-turn-requires c κs =
     let t = c .before .before .before .before .before .before .before .before .before .before .before .before .before .before .before in
     let s = t .before .before .before .before in
     let i = t .before .loop .inv in
@@ -74,7 +74,7 @@ add-commands c =
 
 loop-less : tie.Need-loop-less Inv-loop μ-loop
 loop-less c =
-    let o = c .before .before .turn .ensures .turned in
+    let o = c .before .before .put-turn .ensures .turned in
     let h = o .ahead in
     let g = o .within in
     omega arith
@@ -82,7 +82,7 @@ loop-less c =
 loop-again : tie.Need-loop-again Inv-loop μ-loop
 loop-again c =
     let t = c .before .before .before .before .before .before .before .before .before .before .before .before .before .before .before .before .before .before in
-    come-turn (t .before .loop .inv) (t .loop-test .taken) (c .before .before .turn .ensures)
+    come-turn (t .before .loop .inv) (t .loop-test .taken) (c .before .before .put-turn .ensures)
 
 same-length : tie.Need-same-length Inv-loop μ-loop
 same-length c = same-size (c .before .loop .inv .going)
@@ -97,8 +97,8 @@ run-lines-spec =
     Inv-loop
     μ-loop
     loop-holds
-    mul-turn
-    turn-requires
+    mul-put-turn
+    put-turn-requires
     add-commands
     loop-less
     loop-again

@@ -1,21 +1,19 @@
--- `run::save` meets its contract. Assumes nothing.
-use mathlib.Core.Path.{_≡_, sym, ap, _∙_}
+-- `run::save` meets its contract: a run on arrays from the empty drawing, and the file of what they hold. Assumes nothing.
 use borrow.Author.Needs.{needs}
 use denote.Ref.{now}
-use Rattle.complex.specs.Cells.{Sheet}
-use Rattle.complex.specs.Calls.{filled}
-use Rattle.complex.specs.File.{fileOf}
-use Rattle.complex.proofs.Bools.{true-of}
-use Rattle.sound.specs.Soundness.{soundDrawing}
-use Rattle.writer.proofs.Filing.{write-sound}
+use mathlib.Core.Path.{refl}
+use Rattle.run.proofs.Arrays.{saved}
 use Rattle.run.proofs.save.Statement.{statement}
 use Rattle.run.proofs.save.Tie as tie
 
-run-requires : tie.Need-run-requires
-run-requires c κs = search needs
+begin-requires : tie.Need-begin-requires
+begin-requires c κs = search needs
 
-write-requires : tie.Need-write-requires
-write-requires c κs = search needs
+run-on-requires : tie.Need-run-on-requires
+run-on-requires c κs = c .before .before .before .before .before .before .before .before .before .before .before .before .before .before .begin .ensures _ refl refl
+
+write-on-requires : tie.Need-write-on-requires
+write-on-requires c κs = c .before .before .before .before .before .before .before .before .before .before .before .before .before .run-on .ensures .sound
 
 same-length : tie.Need-same-length
 same-length c = search needs
@@ -23,11 +21,9 @@ same-length c = search needs
 returns : tie.Need-returns
 returns c =
     let w = c .before .before in
-    let r = w .before .before .before in
-    let l = now (r .before .before .before .args .buffer) in
-    w .write .ensures
-    ∙ sym (write-sound (r .run .result .drawing) l (true-of (soundDrawing (r .run .result .drawing)) (r .run .ensures .ends .stays-sound)))
-    ∙ ap (λ (s : Sheet). filled (fileOf s) l) (r .run .ensures .sheet)
+    let r = w .before .before .before .before .before .before .before .before .before .before .before .before .before .before in
+    let b = r .before .before .before .before .before .before .before .before .before .before .before .before .before .before .before in
+    saved (b .begin .ensures _ refl refl) (r .run-on .ensures) _ (now (b .before .before .before .before .before .args .buffer)) (w .write-on .ensures)
 
 pub save-spec : {M : Type 1} → statement M
-save-spec = tie.close (tie.spec run-requires write-requires same-length returns)
+save-spec = tie.close (tie.spec begin-requires run-on-requires write-on-requires same-length returns)

@@ -1,0 +1,17 @@
+-- `replay::same_printed` meets its contract: the arrays that are begun hold the empty drawing. Assumes nothing.
+use borrow.Author.Needs.{needs}
+use mathlib.Core.Path.{refl}
+use Rattle.replay.proofs.same_printed.Statement.{statement}
+use Rattle.replay.proofs.same_printed.Tie as tie
+
+begin-requires : tie.Need-begin-requires
+begin-requires c κs = search needs
+
+same-text-requires : tie.Need-same-text-requires
+same-text-requires c κs = c .before .before .before .before .before .before .before .before .before .before .before .before .before .before .begin .ensures _ refl refl
+
+returns : tie.Need-returns
+returns c = search needs
+
+pub same-printed-spec : {M : Type 1} → statement M
+same-printed-spec = tie.close (tie.spec begin-requires same-text-requires returns)
