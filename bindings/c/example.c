@@ -1,6 +1,7 @@
-/* Document 01's worked example: five commands on the empty drawing, a line of numbers each, then the Euler number and the
-   count of live cells. */
+/* Document 01's worked example on a block: five commands on the empty drawing, a line of numbers each, then the Euler number
+   and the count of live cells. Then the same as one script from file to file, which must end at the same file. */
 #include <stdio.h>
+#include <string.h>
 
 #include "dazolbei.h"
 
@@ -14,43 +15,49 @@ static const uint8_t script[] = {
     0x0E, 0x04,                                           /* uncut vertex 4 */
 };
 
+static dz_sheet sheet;
 static uint32_t lines[DZ_LINE_WIDTH * sizeof script];
-static uint8_t file[DZ_FILE_MOST];
+static uint8_t file[DZ_FILE_MOST], again[DZ_FILE_MOST];
 
-/* A number of a file: groups of seven bits, low group first, the top bit set on all but the last byte. */
-static uint32_t number_at(const uint8_t **at)
+/* Runs the script's commands one by one and prints the four numbers of each. */
+static void edit(void)
 {
-    uint32_t value = 0;
-    int shift = 0;
-    while (**at & 0x80) {
-        value |= (uint32_t)(*(*at)++ & 0x7F) << shift;
-        shift += 7;
+    const uint8_t *left = script;
+    size_t length = sizeof script;
+    dz_sheet_new(&sheet);
+    while (length > 0) {
+        uint32_t first, fresh, removed;
+        size_t rest = dz_sheet_rest(&sheet, left, length);
+        uint32_t number = dz_sheet_command(&sheet, left, length, &first, &fresh, &removed);
+        printf("%u %u %u %u\n", (unsigned)number, (unsigned)first, (unsigned)fresh, (unsigned)removed);
+        if (number == 2) return;
+        left += length - rest;
+        length = rest;
     }
-    return value | (uint32_t)*(*at)++ << shift;
+}
+
+/* Refuses to go on after a no. */
+static int done(const char *what, uint32_t number)
+{
+    if (number != 0) fprintf(stderr, "%s: %u\n", what, (unsigned)number);
+    return number == 0;
 }
 
 int main(void)
 {
-    uint32_t commands, bytes;
-    uint32_t number = dz_run(empty, sizeof empty, script, sizeof script, lines, sizeof lines / sizeof *lines,
-                             file, sizeof file, &commands, &bytes);
-    if (number != 0) {
-        fprintf(stderr, "dz_run: %u\n", (unsigned)number);
-        return 1;
-    }
-    for (uint32_t i = 0; i < commands; i++) {
-        const uint32_t *line = lines + DZ_LINE_WIDTH * i;
-        printf("%u %u %u %u\n", (unsigned)line[0], (unsigned)line[1], (unsigned)line[2], (unsigned)line[3]);
-    }
     int32_t euler;
-    number = dz_euler(file, bytes, &euler);
-    if (number != 0) {
-        fprintf(stderr, "dz_euler: %u\n", (unsigned)number);
+    uint32_t bytes, commands, length;
+    edit();
+    if (!done("dz_sheet_euler", dz_sheet_euler(&sheet, &euler))) return 1;
+    printf("euler %d cells %u\n", (int)euler, (unsigned)sheet.count);
+    if (!done("dz_sheet_write", dz_sheet_write(&sheet, file, sizeof file, &bytes))) return 1;
+    if (!done("dz_run", dz_run(empty, sizeof empty, script, sizeof script, lines, sizeof lines / sizeof *lines,
+                               again, sizeof again, &commands, &length)))
         return 1;
-    }
-    /* A file begins with the next id and the count of cells. */
-    const uint8_t *at = file;
-    number_at(&at);
-    printf("euler %d cells %u\n", (int)euler, (unsigned)number_at(&at));
+    printf("%u commands, %s file\n", (unsigned)commands,
+           length == bytes && memcmp(file, again, bytes) == 0 ? "the same" : "another");
+    /* A damaged block gets 1. */
+    sheet.ids[0] = sheet.next;
+    printf("damaged: %u\n", (unsigned)dz_sheet_euler(&sheet, &euler));
     return 0;
 }

@@ -108,7 +108,7 @@ impl Core for Flawed {
         self.core.file(buffer)
     }
 
-    fn time(&mut self, call: Call, rounds: u32) -> Duration {
+    fn time(&mut self, call: Call, rounds: usize) -> Duration {
         self.core.time(call, rounds)
     }
 }

@@ -1,5 +1,5 @@
 //! One trait over the cores that are compared, and its implementors: the ordinary one, the proved one (feature
-//! `proved`), and flawed ones that a comparison must find out.
+//! `proved`), its calls on structs (feature `structs`), and flawed ones that a comparison must find out.
 
 use std::time::Duration;
 
@@ -7,10 +7,14 @@ pub mod flawed;
 mod ordinary;
 #[cfg(feature = "proved")]
 mod proved;
+#[cfg(feature = "structs")]
+mod structs;
 
 pub use ordinary::Ordinary;
 #[cfg(feature = "proved")]
 pub use proved::Proved;
+#[cfg(feature = "structs")]
+pub use structs::Structs;
 
 /// What one command answers, and how many bytes its rest has.
 #[derive(Clone, Copy, PartialEq, Eq, Debug)]
@@ -25,6 +29,11 @@ pub struct Line {
 /// A core that holds one drawing, at first the empty one.
 pub trait Core {
     fn name(&self) -> &'static str;
+
+    /// Whether star and Euler can be asked of it.
+    fn has_queries(&self) -> bool {
+        true
+    }
 
     /// Reads a file: 0, or 10 and the empty drawing.
     fn open(&mut self, file: &[u8]) -> u32;
@@ -41,8 +50,9 @@ pub trait Core {
     /// The drawing's file, written to the buffer: number and count.
     fn file(&mut self, buffer: &mut [u8]) -> (u32, usize);
 
-    /// The time of `rounds` calls, each on the drawing as it is now, which stays as it is.
-    fn time(&mut self, call: Call, rounds: u32) -> Duration;
+    /// The time of `rounds` calls between two readings of the clock, each on a state like the one that is held now, which
+    /// stays as it is.
+    fn time(&mut self, call: Call, rounds: usize) -> Duration;
 }
 
 /// A call to be timed.
@@ -52,20 +62,23 @@ pub enum Call<'a> {
     Star(u32),
     Euler,
     Write,
+    /// The file replaces the state.
     Read(&'a [u8]),
+    /// The commands of a script, one after another, from the empty drawing.
+    Script(&'a [u8]),
+    /// A file in, the commands of a script, the file at the end out.
+    FileToFile(&'a [u8], &'a [u8]),
 }
 
 /// Longer than any file: 256 cells, 512 cycles, 2,048 steps and as many bends with every number at its longest.
 pub const LONGEST_FILE: usize = 65_536;
 
-/// The other core to compare with, where one is linked.
-#[cfg(feature = "proved")]
-pub fn other() -> Option<Box<dyn Core>> {
-    Some(Box::new(Proved::new()))
-}
-
-/// The other core to compare with, where one is linked.
-#[cfg(not(feature = "proved"))]
-pub fn other() -> Option<Box<dyn Core>> {
-    None
+/// The other cores to compare with: those that are linked.
+pub fn others() -> Vec<Box<dyn Core>> {
+    vec![
+        #[cfg(feature = "proved")]
+        Box::new(Proved::new()),
+        #[cfg(feature = "structs")]
+        Box::new(Structs::new()),
+    ]
 }

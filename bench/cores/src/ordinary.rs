@@ -23,11 +23,6 @@ impl Ordinary {
         Line { number, first, new, removed, rest }
     }
 
-    /// How many copies of the drawing are made at a time: few enough for the cache.
-    fn batch(&self) -> u32 {
-        (131_072 / plain::file_of(&self.drawing).len() as u32).clamp(8, 128)
-    }
-
     /// A copy with places free, as a drawing has that grew by commands.
     fn roomy_copy(&self) -> Drawing {
         let mut copy = self.drawing.clone();
@@ -35,20 +30,28 @@ impl Ordinary {
         copy
     }
 
-    /// Commands change the drawing in place, so each gets a copy that was made before the clock started.
-    fn time_commands(&self, bytes: &[u8], rounds: u32) -> Duration {
-        let batch = self.batch();
-        let (mut total, mut left) = (Duration::ZERO, rounds);
-        while left > 0 {
-            let mut copies: Vec<Drawing> = (0..batch.min(left)).map(|_| self.roomy_copy()).collect();
-            left -= copies.len() as u32;
-            let start = Instant::now();
-            for copy in &mut copies {
-                black_box(plain::edit(black_box(copy), black_box(bytes)));
-            }
-            total += start.elapsed();
+    /// Commands change the drawing in place, so each gets a copy that was made, and read once, before the clock started.
+    fn time_commands(&self, bytes: &[u8], rounds: usize) -> Duration {
+        let mut copies: Vec<Drawing> = (0..rounds).map(|_| self.roomy_copy()).collect();
+        for copy in &copies {
+            black_box(plain::euler(black_box(copy)));
         }
-        total
+        let start = Instant::now();
+        for copy in &mut copies {
+            black_box(plain::edit(black_box(copy), black_box(bytes)));
+        }
+        start.elapsed()
+    }
+}
+
+/// Reads the file, runs the script and writes the file at the end.
+fn file_to_file(file: &[u8], script: &[u8], out: &mut [u8]) -> (u32, usize) {
+    match plain::read(file) {
+        Ok(mut drawing) => {
+            black_box(plain::run(&mut drawing, script));
+            plain::write(&drawing, out)
+        }
+        Err(refusal) => (refusal.number(), 0),
     }
 }
 
@@ -77,16 +80,13 @@ impl Core for Ordinary {
     }
 
     fn run(&mut self, script: &[u8]) -> Vec<Line> {
-        let (mut lines, mut left) = (Vec::new(), script);
-        while !left.is_empty() {
-            let line = self.step(left);
-            lines.push(line);
-            if line.number == 1 || line.number == 2 {
-                break;
-            }
-            left = &left[left.len() - line.rest..];
-        }
-        lines
+        let mut left = script;
+        let outcomes = plain::run(&mut self.drawing, script);
+        let lines = outcomes.iter().map(|&Outcome { number, first, new, removed }| {
+            left = plain::decode(left).map_or(left, |(_, rest)| rest);
+            Line { number, first, new, removed, rest: left.len() }
+        });
+        lines.collect()
     }
 
     fn star(&mut self, id: u32, buffer: &mut [u32]) -> (u32, usize) {
@@ -101,8 +101,8 @@ impl Core for Ordinary {
         plain::write(&self.drawing, buffer)
     }
 
-    fn time(&mut self, call: Call, rounds: u32) -> Duration {
-        let drawing = &self.drawing;
+    fn time(&mut self, call: Call, rounds: usize) -> Duration {
+        let drawing = &mut self.drawing;
         match call {
             Call::Command(bytes) => self.time_commands(bytes, rounds),
             Call::Star(id) => {
@@ -114,12 +114,20 @@ impl Core for Ordinary {
                 let mut buffer = vec![0; LONGEST_FILE];
                 timed(rounds, || plain::write(black_box(drawing), &mut buffer))
             }
-            Call::Read(file) => timed(rounds, || plain::read(black_box(file))),
+            Call::Read(file) => timed(rounds, || match plain::read(black_box(file)) {
+                Ok(read) => *black_box(&mut *drawing) = read,
+                Err(refusal) => panic!("{refusal:?}"),
+            }),
+            Call::Script(script) => timed(rounds, || plain::run(&mut Drawing::empty(), black_box(script))),
+            Call::FileToFile(file, script) => {
+                let mut buffer = vec![0; LONGEST_FILE];
+                timed(rounds, || file_to_file(black_box(file), black_box(script), &mut buffer))
+            }
         }
     }
 }
 
-fn timed<T>(rounds: u32, mut call: impl FnMut() -> T) -> Duration {
+fn timed<T>(rounds: usize, mut call: impl FnMut() -> T) -> Duration {
     let start = Instant::now();
     for _ in 0..rounds {
         black_box(call());

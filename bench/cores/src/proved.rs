@@ -1,37 +1,124 @@
-//! The proved core, through the Rust wrapper of its static library. A drawing crosses as its file, so the core is handed
-//! the file at each call and hands one back.
+//! The proved core, through the Rust wrapper of its static library: a block that is edited in place. Now and then a call goes
+//! through the functions on files, or a script command by command, so that a comparison tries these too.
 
 use std::hint::black_box;
 use std::time::{Duration, Instant};
 
-use dazolbei::{raw, LINE_WIDTH};
+use dazolbei::raw::{self, Block, Told};
+use dazolbei::LINE_WIDTH;
 
 use crate::{Call, Core, Line, LONGEST_FILE};
 
-/// The file of the drawing that the core is at.
+/// The block of the drawing that the core is at, and memory for what is timed.
 pub struct Proved {
-    file: Vec<u8>,
+    block: Box<Block>,
+    copies: Vec<Place>,
+    lines: Vec<u32>,
+    out: Vec<u8>,
+    /// How many calls were made.
+    calls: usize,
 }
 
-/// The file of the empty drawing.
-const EMPTY: [u8; 2] = [0x01, 0x00];
+/// The way that a call goes.
+enum Way {
+    /// On the block.
+    Block,
+    /// On the block, one command at a time.
+    Steps,
+    /// By the functions on files.
+    Files,
+}
+
+/// Blocks in a row that begin at lines of the cache, so that equal parts of neighbours do not meet in one place of it.
+#[repr(align(64))]
+#[derive(Clone)]
+struct Place(Block);
 
 impl Proved {
     pub fn new() -> Proved {
-        Proved { file: EMPTY.to_vec() }
+        Proved {
+            block: Box::new(Block::EMPTY),
+            copies: Vec::new(),
+            lines: Vec::new(),
+            out: vec![0; LONGEST_FILE],
+            calls: 0,
+        }
     }
 
-    fn repeat(&self, call: Call, rounds: u32) -> Duration {
-        let (what, id, bytes): (u32, u32, &[u8]) = match call {
-            Call::Command(bytes) => (0, 0, bytes),
-            Call::Star(id) => (1, id, &[]),
-            Call::Euler => (2, 0, &[]),
-            Call::Write => (3, 0, &[]),
-            Call::Read(file) => (4, 0, file),
-        };
+    /// Files in one of four calls, steps in another.
+    fn way(&mut self) -> Way {
+        self.calls += 1;
+        match self.calls % 4 {
+            0 => Way::Files,
+            1 => Way::Steps,
+            _ => Way::Block,
+        }
+    }
+
+    /// The file of the drawing that the block holds.
+    fn whole_file(&self) -> Vec<u8> {
+        let mut file = vec![0; LONGEST_FILE];
+        let (number, count) = raw::block_write(&self.block, &mut file);
+        assert_eq!(number, 0, "dz_block_write");
+        file.truncate(count);
+        file
+    }
+
+    fn run_block(&mut self, script: &[u8]) -> Vec<Line> {
+        // No command is shorter than a byte.
+        let mut lines = vec![0; LINE_WIDTH * script.len()];
+        let (number, commands) = raw::block_run(&mut self.block, script, &mut lines);
+        assert_eq!(number, 0, "dz_block_run");
+        lines.chunks_exact(LINE_WIDTH).take(commands).map(line).collect()
+    }
+
+    fn run_steps(&mut self, script: &[u8]) -> Vec<Line> {
+        let (mut lines, mut left) = (Vec::new(), script);
+        while !left.is_empty() {
+            let rest = raw::block_rest(&self.block, left);
+            let Told { number, first, new, removed } = raw::block_command(&mut self.block, left);
+            lines.push(Line { number, first, new, removed, rest });
+            if number == 1 || number == 2 {
+                break;
+            }
+            left = &left[left.len() - rest..];
+        }
+        lines
+    }
+
+    fn run_files(&mut self, script: &[u8]) -> Vec<Line> {
+        let mut lines = vec![0; LINE_WIDTH * script.len()];
+        let mut out = vec![0; LONGEST_FILE];
+        let ran = raw::run(&self.whole_file(), script, &mut lines, &mut out);
+        assert_eq!(ran.number, 0, "dz_run");
+        assert_eq!(raw::block_open(&mut self.block, &out[..ran.bytes]), 0, "dz_block_open of what dz_run gave");
+        lines.chunks_exact(LINE_WIDTH).take(ran.commands).map(line).collect()
+    }
+
+    /// Commands change the block in place, so each gets a copy that was made, and read once, before the clock started.
+    fn time_commands(&mut self, bytes: &[u8], rounds: usize) -> Duration {
+        self.copies.resize_with(rounds, || Place(Block::EMPTY));
+        for copy in &mut self.copies {
+            copy.0.clone_from(&self.block);
+        }
+        for copy in &self.copies {
+            black_box(raw::block_euler(black_box(&copy.0)));
+        }
         let start = Instant::now();
-        black_box(raw::repeat(&self.file, what, id, bytes, rounds));
+        for copy in &mut self.copies {
+            black_box(raw::block_command(black_box(&mut copy.0), black_box(bytes)));
+        }
         start.elapsed()
+    }
+
+    fn time_script(&mut self, script: &[u8], rounds: usize) -> Duration {
+        // No command is shorter than a byte.
+        self.lines.resize(LINE_WIDTH * script.len(), 0);
+        let mut block = Box::new(Block::EMPTY);
+        timed(rounds, || {
+            raw::block_new(&mut block);
+            raw::block_run(black_box(&mut block), black_box(script), &mut self.lines)
+        })
     }
 }
 
@@ -47,40 +134,78 @@ impl Core for Proved {
     }
 
     fn open(&mut self, file: &[u8]) -> u32 {
-        let number = raw::open(file);
-        self.file = if number == 0 { file.to_vec() } else { EMPTY.to_vec() };
+        let mut number = 0;
+        if let Way::Files = self.way() {
+            number = raw::open(file);
+        }
+        if number == 0 {
+            number = raw::block_open(&mut self.block, file);
+        }
+        if number != 0 {
+            raw::block_new(&mut self.block);
+        }
         number
     }
 
     fn run(&mut self, script: &[u8]) -> Vec<Line> {
-        // No command is shorter than a byte.
-        let mut lines = vec![0; LINE_WIDTH * script.len()];
-        let mut out = vec![0; LONGEST_FILE];
-        let ran = raw::run(&self.file, script, &mut lines, &mut out);
-        assert_eq!(ran.number, 0, "dz_run");
-        out.truncate(ran.bytes);
-        self.file = out;
-        lines.chunks_exact(LINE_WIDTH).take(ran.commands).map(line).collect()
+        match self.way() {
+            Way::Block => self.run_block(script),
+            Way::Steps => self.run_steps(script),
+            Way::Files => self.run_files(script),
+        }
     }
 
     fn star(&mut self, id: u32, buffer: &mut [u32]) -> (u32, usize) {
-        raw::star(&self.file, id, buffer)
+        match self.way() {
+            Way::Files => raw::star(&self.whole_file(), id, buffer),
+            _ => raw::block_star(&self.block, id, buffer),
+        }
     }
 
     fn euler(&mut self) -> (u32, i64) {
-        let (number, value) = raw::euler(&self.file);
+        let (number, value) = match self.way() {
+            Way::Files => raw::euler(&self.whole_file()),
+            _ => raw::block_euler(&self.block),
+        };
         (number, i64::from(value))
     }
 
     fn file(&mut self, buffer: &mut [u8]) -> (u32, usize) {
-        raw::write(&self.file, buffer)
+        match self.way() {
+            Way::Files => raw::write(&self.whole_file(), buffer),
+            _ => raw::block_write(&self.block, buffer),
+        }
     }
 
-    /// The library reads the file before the first round: that time, the least of a few, is taken off.
-    fn time(&mut self, call: Call, rounds: u32) -> Duration {
-        let opening = (0..5).map(|_| self.repeat(call, 0)).min().unwrap_or_default();
-        self.repeat(call, rounds).saturating_sub(opening)
+    fn time(&mut self, call: Call, rounds: usize) -> Duration {
+        match call {
+            Call::Command(bytes) => self.time_commands(bytes, rounds),
+            Call::Star(id) => {
+                let mut buffer = [0; 256];
+                timed(rounds, || raw::block_star(black_box(&self.block), id, &mut buffer))
+            }
+            Call::Euler => timed(rounds, || raw::block_euler(black_box(&self.block))),
+            Call::Write => timed(rounds, || raw::block_write(black_box(&self.block), &mut self.out)),
+            Call::Read(file) => timed(rounds, || raw::block_open(black_box(&mut self.block), black_box(file))),
+            Call::Script(script) => self.time_script(script, rounds),
+            Call::FileToFile(file, script) => {
+                self.lines.resize(LINE_WIDTH * script.len(), 0);
+                let (lines, out) = (&mut self.lines, &mut self.out);
+                let mut number = 0;
+                let time = timed(rounds, || number = raw::run(black_box(file), black_box(script), lines, out).number);
+                assert_eq!(number, 0, "dz_run");
+                time
+            }
+        }
     }
+}
+
+fn timed<T>(rounds: usize, mut call: impl FnMut() -> T) -> Duration {
+    let start = Instant::now();
+    for _ in 0..rounds {
+        black_box(call());
+    }
+    start.elapsed()
 }
 
 fn line(numbers: &[u32]) -> Line {

@@ -2,6 +2,7 @@
 
 use plain::{put_bends, put_cycles, put_number, put_position, Drawing, Halfedge, Position, Shape, Sizes};
 
+use crate::script::script;
 use crate::sheets::{bends, sheet, Sheet, Size};
 
 /// A call and the drawing it is made on.
@@ -16,6 +17,21 @@ pub enum Timed {
     Euler,
     Write,
     Read,
+    Script(Vec<u8>),
+    FileToFile(Vec<u8>),
+}
+
+/// The rows of one size alone: label, and the size's name.
+pub const SINGLES: [(&str, &str); 2] = [("script from empty", "1000 commands"), ("file to file, one 05", "100 cells")];
+
+/// The case of a row of one size.
+pub fn single(place: usize) -> Case {
+    if place == 0 {
+        return Case { drawing: Drawing::empty(), call: Timed::Script(script(1_000)) };
+    }
+    let sheet = sheet(Size::Cells(100), Sizes::default());
+    let command = with_position(bytes(0x05, &[sheet.vertex]));
+    Case { drawing: sheet.drawing, call: Timed::FileToFile(command) }
 }
 
 /// The rows of the table.

@@ -1,8 +1,10 @@
-//! `speed PLOT`: times every call in every core that is linked, prints the tables and writes the plot to the file PLOT.
+//! `speed [--quick] PLOT`: times every call in every core that is linked, prints the tables, writes the plot to the file
+//! PLOT, and ends with the worst ratio.
 
 mod cases;
 mod measure;
 mod plot;
+mod script;
 mod sheets;
 mod table;
 
@@ -10,60 +12,71 @@ use std::process::ExitCode;
 
 use cores::{Core, Ordinary};
 
-use cases::{case, ROWS};
+use cases::{case, single, ROWS, SINGLES};
+use measure::{measure, Effort};
 use sheets::SIZES;
 use table::Times;
 
 fn main() -> ExitCode {
-    let Some(path) = std::env::args().nth(1) else {
-        eprintln!("usage: speed PLOT");
-        return ExitCode::from(2);
+    let arguments: Vec<String> = std::env::args().skip(1).collect();
+    let (path, effort) = match &arguments[..] {
+        [path] => (path, Effort::WHOLE),
+        [quick, path] if quick == "--quick" => (path, Effort::QUICK),
+        _ => {
+            eprintln!("usage: speed [--quick] PLOT");
+            return ExitCode::from(2);
+        }
     };
     let mut cores: Vec<Box<dyn Core>> = vec![Box::new(Ordinary::new())];
-    cores.extend(cores::other());
-    let times = match times(&mut cores) {
+    cores.extend(cores::others());
+    let times = match times(&mut cores, effort) {
         Ok(times) => times,
         Err(what) => {
             eprintln!("{what}");
             return ExitCode::FAILURE;
         }
     };
-    about(&times);
+    about(&times, effort);
     table::print(&times);
-    if let Err(error) = std::fs::write(&path, plot::svg(&times)) {
+    if let Err(error) = std::fs::write(path, plot::svg(&times)) {
         eprintln!("{path}: {error}");
         return ExitCode::FAILURE;
     }
     println!("plot: {path}");
+    println!("{}", table::worst(&times));
     ExitCode::SUCCESS
 }
 
-fn times(cores: &mut [Box<dyn Core>]) -> Result<Times, String> {
+fn times(cores: &mut [Box<dyn Core>], effort: Effort) -> Result<Times, String> {
     let mut rows = Vec::new();
     for (row, label) in ROWS {
         let mut times = Vec::new();
         for size in SIZES {
-            let measured = measure::measure(&case(row, size), cores);
+            let measured = measure(&case(row, size), cores, effort);
             times.push(measured.map_err(|what| format!("{label}, {}: {what}", size.name()))?);
         }
         rows.push(times);
     }
-    Ok(Times { cores: cores.iter().map(|core| core.name()).collect(), rows })
+    let mut singles = Vec::new();
+    for (place, (label, size)) in SINGLES.iter().enumerate() {
+        let measured = measure(&single(place), cores, effort);
+        singles.push(measured.map_err(|what| format!("{label}, {size}: {what}"))?);
+    }
+    Ok(Times { cores: cores.iter().map(|core| core.name()).collect(), rows, singles })
 }
 
-fn about(times: &Times) {
+fn about(times: &Times, effort: Effort) {
+    println!("Every call asks question 1 first; a run of a script asks it once, before its first command. Each case is tried for");
     println!(
-        "Every call asks question 1 first. Each time is the fastest of {} samples, the cores in turn, one thread.",
-        measure::SAMPLES
+        "{} ms, the cores in turn, one thread, {} calls (1 run of a script) between two readings of the clock; the fastest count.",
+        effort.time.as_millis(),
+        measure::BATCH
     );
     println!("Sizes are those of the drawing, or of the result where the command adds cells or steps.");
-    println!("Buffers: star and write fill a buffer made once and not cleared between calls.");
-    println!("Drawings: plain changes the drawing in place, on copies with free places, made before the clock starts.");
+    println!("State: both cores edit a drawing that is there, in place. Commands get copies made before the clock starts; star, Euler");
+    println!("and write read one drawing again and again, read replaces it. Buffers are made once and not cleared between calls.");
     if times.cores.len() == 1 {
         println!("No proved core is linked (DAZOLBEI_LIB): plain alone.");
-    } else {
-        println!("proved takes the drawing by value and gives one back; passing it is part of the time. Reading the file that");
-        println!("the drawing crosses in is not.");
     }
     println!();
 }

@@ -2,7 +2,7 @@
 
 use std::fmt::Write;
 
-use crate::cases::ROWS;
+use crate::cases::{ROWS, SINGLES};
 use crate::sheets::SIZES;
 use crate::table::Times;
 
@@ -17,6 +17,9 @@ const GAP: f64 = 64.0;
 const PANELS: [(&str, [usize; 3]); 2] =
     [("drawings of 16, 64 and 256 cells", [0, 1, 2]), ("600 and 2,048 steps", [3, 4, 4])];
 
+/// The rows of all sizes, then those of one size.
+const LINES: usize = ROWS.len() + SINGLES.len();
+
 /// The decades that hold every time.
 struct Axis {
     low: f64,
@@ -25,7 +28,7 @@ struct Axis {
 
 impl Axis {
     fn new(times: &Times) -> Axis {
-        let all = || times.rows.iter().flatten().flatten().map(|time| time.log10());
+        let all = || times.rows.iter().flatten().chain(&times.singles).flatten().map(|time| time.log10());
         Axis { low: all().fold(f64::INFINITY, f64::min).floor(), high: all().fold(0.0, f64::max).ceil() }
     }
 
@@ -38,7 +41,7 @@ impl Axis {
 pub fn svg(times: &Times) -> String {
     let axis = Axis::new(times);
     let width = LEFT + 2.0 * PANEL + GAP + 30.0;
-    let height = TOP + ROW * ROWS.len() as f64 + 50.0;
+    let height = TOP + ROW * LINES as f64 + 50.0;
     let mut out = format!(
         "<svg xmlns=\"http://www.w3.org/2000/svg\" width=\"{width}\" height=\"{height}\" viewBox=\"0 0 {width} {height}\" \
          font-family=\"sans-serif\" font-size=\"13\" fill=\"#222\">\n<rect width=\"{width}\" height=\"{height}\" fill=\"#fff\"/>\n"
@@ -53,8 +56,10 @@ pub fn svg(times: &Times) -> String {
             }
         }
     }
-    for (row, (_, label)) in ROWS.iter().enumerate() {
-        text(&mut out, LEFT - 14.0, TOP + ROW * (row as f64 + 0.5) + 4.0, "end", 13, label);
+    singles(&mut out, times, &axis);
+    let labels = ROWS.iter().map(|(_, label)| *label).chain(SINGLES.iter().map(|(label, _)| *label));
+    for (row, label) in labels.enumerate() {
+        text(&mut out, LEFT - 14.0, middle(row) + 4.0, "end", 13, label);
     }
     out + "</svg>\n"
 }
@@ -88,9 +93,9 @@ fn legend(out: &mut String, times: &Times) {
 
 /// Decades as lines, rows as bands.
 fn grid(out: &mut String, axis: &Axis, panel: usize, title: &str) {
-    let bottom = TOP + ROW * ROWS.len() as f64;
+    let bottom = TOP + ROW * LINES as f64;
     let left = axis.x(panel, 10f64.powf(axis.low));
-    for row in (0..ROWS.len()).step_by(2) {
+    for row in (0..LINES).step_by(2) {
         let y = TOP + ROW * row as f64;
         let _ =
             writeln!(out, "<rect x=\"{left:.1}\" y=\"{y:.1}\" width=\"{PANEL}\" height=\"{ROW}\" fill=\"#f4f5f7\"/>");
@@ -110,9 +115,22 @@ fn named(decade: i32) -> String {
     format!("{} {}", 10u32.pow(decade.max(0) as u32 % 3), units[unit.min(3)])
 }
 
+/// Where the middle of a row is.
+fn middle(row: usize) -> f64 {
+    TOP + ROW * (row as f64 + 0.5)
+}
+
+/// How far a core's dots are from the middle of the row.
+fn apart(times: &Times, core: usize) -> f64 {
+    if times.cores.len() == 1 {
+        0.0
+    } else {
+        5.0 * (2.0 * core as f64 - 1.0)
+    }
+}
+
 fn dots(out: &mut String, times: &Times, axis: &Axis, panel: usize, sizes: &[usize], row: usize, core: usize) {
-    let apart = if times.cores.len() == 1 { 0.0 } else { 5.0 * (2.0 * core as f64 - 1.0) };
-    let y = TOP + ROW * (row as f64 + 0.5) + apart;
+    let y = middle(row) + apart(times, core);
     let x = |size: usize| axis.x(panel, times.time(row, size, core));
     for pair in sizes.windows(2) {
         line(out, (x(pair[0]), y), (x(pair[1]), y), COLOURS[core], 1.5);
@@ -121,4 +139,22 @@ fn dots(out: &mut String, times: &Times, axis: &Axis, panel: usize, sizes: &[usi
         dot(out, x(size), y, 2.5 + i as f64, COLOURS[core]);
     }
     debug_assert!(sizes.iter().all(|&size| size < SIZES.len()));
+}
+
+/// A dot for each row of one size, and the size beside it, where there is room.
+fn singles(out: &mut String, times: &Times, axis: &Axis) {
+    for (place, (single, (_, size))) in times.singles.iter().zip(SINGLES).enumerate() {
+        let y = middle(ROWS.len() + place);
+        let (mut left, mut right) = (f64::INFINITY, 0f64);
+        for (core, &time) in single.iter().enumerate() {
+            let x = axis.x(0, time);
+            dot(out, x, y + apart(times, core), 3.5, COLOURS[core]);
+            (left, right) = (left.min(x), right.max(x));
+        }
+        if right < LEFT + 0.7 * PANEL {
+            text(out, right + 10.0, y + 4.0, "start", 12, size);
+        } else {
+            text(out, left - 10.0, y + 4.0, "end", 12, size);
+        }
+    }
 }

@@ -152,7 +152,7 @@ impl<'a> Campaign<'a> {
         let euler = self.model.euler();
         self.histogram.call("euler", euler.0);
         let lawful = euler == (0, laws::euler(&self.model.drawing));
-        let same = self.other.as_mut().is_none_or(|other| other.euler() == euler);
+        let same = self.asked().is_none_or(|other| other.euler() == euler);
         self.check(if lawful && same { Ok(()) } else { Err(format!("euler is not {euler:?}")) });
         for _ in 0..4 {
             let id = self.some_id();
@@ -162,6 +162,14 @@ impl<'a> Campaign<'a> {
         }
         let result = self.short_write();
         self.check(result);
+    }
+
+    /// The other core, if star and Euler can be asked of it.
+    fn asked(&mut self) -> Option<&mut dyn Core> {
+        match &mut self.other {
+            Some(other) if other.has_queries() => Some(&mut **other),
+            _ => None,
+        }
     }
 
     fn some_id(&mut self) -> u32 {
@@ -190,7 +198,7 @@ impl<'a> Campaign<'a> {
         if (answer, &buffer) != (lawful, &right) {
             return Err(format!("law: {what}: {answer:?}"));
         }
-        let Some(other) = self.other.as_mut() else { return Ok(()) };
+        let Some(other) = self.asked() else { return Ok(()) };
         let mut buffer = vec![HELD; places];
         let got = other.star(id, &mut buffer);
         if (got, &buffer) == (answer, &right) {

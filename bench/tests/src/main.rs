@@ -5,7 +5,7 @@ use std::io;
 use std::path::Path;
 use std::process::ExitCode;
 
-use cores::Ordinary;
+use cores::{Core, Ordinary};
 use differ::campaign::Campaign;
 use differ::vectors;
 
@@ -37,7 +37,13 @@ fn main() -> io::Result<ExitCode> {
     let (commands, seed) = (whole(commands)?, whole(seed)?);
     let mut tally = try_vectors(Path::new(folder), Path::new(programs))?;
     println!("vectors: {} passed, {} failed", tally.passed, tally.failed);
-    try_scripts(commands, seed, &mut tally);
+    let mut others = cores::others();
+    for other in &mut others {
+        try_scripts(commands, seed, Some(other.as_mut()), &mut tally);
+    }
+    if others.is_empty() {
+        try_scripts(commands, seed, None, &mut tally);
+    }
     println!("{} passed, {} failed", tally.passed, tally.failed);
     Ok(if tally.failed == 0 { ExitCode::SUCCESS } else { ExitCode::FAILURE })
 }
@@ -52,20 +58,16 @@ fn try_vectors(folder: &Path, programs: &Path) -> io::Result<Tally> {
         tally.count("plain-edit", &name, vectors::try_program(&programs.join("plain-edit"), &name, "expected")?);
         tally.count("plain-save", &name, vectors::try_program(&programs.join("plain-save"), &name, "file")?);
         tally.count("plain", &name, vectors::try_core(&mut Ordinary::new(), &name)?);
-        if let Some(mut other) = cores::other() {
+        for mut other in cores::others() {
             tally.count(other.name(), &name, vectors::try_core(other.as_mut(), &name)?);
         }
     }
     Ok(tally)
 }
 
-fn try_scripts(commands: u64, seed: u64, tally: &mut Tally) {
-    let mut other = cores::other();
+fn try_scripts(commands: u64, seed: u64, other: Option<&mut dyn Core>, tally: &mut Tally) {
     let pair = other.as_ref().map(|other| other.name());
-    let mut campaign = match other.as_mut() {
-        Some(other) => Campaign::new(seed, Some(other.as_mut())),
-        None => Campaign::new(seed, None),
-    };
+    let mut campaign = Campaign::new(seed, other);
     campaign.run(commands);
     for failure in &campaign.failures {
         println!("{failure}");

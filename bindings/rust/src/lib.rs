@@ -1,7 +1,7 @@
 //! A sheet of the boundary register, edited by the proved core.
 //!
-//! The core is proved to do what document 01 says, whatever the bytes. This crate lends it slices and turns its numbers
-//! into Rust's types; it has no dependencies.
+//! The core is proved to do what document 01 says, whatever the bytes. This crate lends it a block of memory for each drawing
+//! and slices, and turns its numbers into Rust's types; it has no dependencies.
 //!
 //! ```
 //! use dazolbei::{Done, Question, Sheet};
@@ -19,6 +19,11 @@
 //! assert_eq!(sheet.euler(), 1);
 //! assert_eq!(sheet.star(1)?, [2, 3]);
 //!
+//! // Move vertex 1; the edge and the face stay at it.
+//! let mut move_vertex = vec![0x05, 0x01];
+//! move_vertex.extend([1.0f64, 2.0].map(f64::to_le_bytes).concat());
+//! assert_eq!(sheet.command(&move_vertex), Ok(Done { first: 0, new: 0, removed: 0 }));
+//!
 //! // Cut edge 2 halfway, uncut vertex 4; there is no cell 9 to delete, and 0F is no kind.
 //! let lines = sheet.run(&[0x0A, 0x02, 0x00, 0x0E, 0x04, 0x06, 0x09, 0x0F])?;
 //! assert_eq!(lines[0].answer, Ok(Done { first: 4, new: 3, removed: 1 }));
@@ -28,17 +33,18 @@
 //! assert_eq!(lines[3].rest, 1);
 //!
 //! // A drawing has one file.
-//! let again = Sheet::open(sheet.save())?;
+//! let again = Sheet::open(&sheet.save())?;
 //! assert_eq!(again, sheet);
 //! assert_eq!(Sheet::open(&[0x01]), Err(Question::File));
 //! # Ok::<(), Question>(())
 //! ```
 //!
-//! A call uses less than 2 MB of stack (1.0 MB is the most that was measured); the main thread has 8 MB, and a thread of
-//! Rust's 2 MB unless it asks for more.
+//! A call of the core uses less than 256 KB of stack; the main thread has 8 MB, and a thread of Rust's 2 MB unless it asks
+//! for less.
 
 use std::error::Error;
 use std::fmt;
+use std::hash::{Hash, Hasher};
 
 pub mod raw;
 
@@ -185,23 +191,37 @@ impl Line {
     }
 }
 
-/// A sound drawing.
-#[derive(Clone, Debug, PartialEq, Eq, Hash)]
+/// A sound drawing, in a block of its own that the core edits in place.
+///
+/// Two sheets are equal if their drawings are, which is to say their files.
+#[derive(Clone)]
 pub struct Sheet {
-    /// The drawing's file: one that was opened, or that a run gave.
-    file: Vec<u8>,
+    block: Box<raw::Block>,
 }
 
 impl Sheet {
     /// The empty drawing.
     pub fn new() -> Sheet {
-        Sheet { file: vec![0x01, 0x00] }
+        Sheet { block: Box::new(raw::Block::EMPTY) }
     }
 
     /// The drawing of a file.
     pub fn open(file: &[u8]) -> Result<Sheet, Question> {
-        asked(raw::open(file))?;
-        Ok(Sheet { file: file.to_vec() })
+        let mut sheet = Sheet::new();
+        asked(raw::block_open(&mut sheet.block, file))?;
+        Ok(sheet)
+    }
+
+    /// Runs the command at the front of a script. One that is refused leaves the drawing as it was.
+    pub fn command(&mut self, script: &[u8]) -> Result<Done, Question> {
+        let told = raw::block_command(&mut self.block, script);
+        asked(told.number)?;
+        Ok(Done { first: told.first, new: told.new, removed: told.removed })
+    }
+
+    /// The bytes after the command at the front of a script; all of them where it is not read (2).
+    pub fn rest<'a>(&self, script: &'a [u8]) -> &'a [u8] {
+        &script[script.len() - raw::block_rest(&self.block, script)..]
     }
 
     /// Runs the commands of a script, each on the drawing that the one before it gave, until no byte is left or one is not
@@ -211,32 +231,62 @@ impl Sheet {
     pub fn run(&mut self, script: &[u8]) -> Result<Vec<Line>, Question> {
         // No command is shorter than a byte.
         let mut lines = vec![0; LINE_WIDTH * script.len()];
-        let mut out = vec![0; FILE_MOST];
-        let ran = raw::run(&self.file, script, &mut lines, &mut out);
-        asked(ran.number)?;
-        self.file = out[..ran.bytes].to_vec();
-        Ok(lines.chunks_exact(LINE_WIDTH).take(ran.commands).map(Line::new).collect())
+        let (number, commands) = raw::block_run(&mut self.block, script, &mut lines);
+        asked(number)?;
+        Ok(lines.chunks_exact(LINE_WIDTH).take(commands).map(Line::new).collect())
     }
 
     /// The ids, rising, of the cells whose boundary holds the cell.
     pub fn star(&self, id: u32) -> Result<Vec<u32>, Question> {
         let mut buffer = [0; STAR_MOST];
-        let (number, count) = raw::star(&self.file, id, &mut buffer);
+        let (number, count) = raw::block_star(&self.block, id, &mut buffer);
         asked(number)?;
         Ok(buffer[..count].to_vec())
     }
 
     /// The Euler number: vertices minus open edges plus 2 - k for each face of k cycles.
     pub fn euler(&self) -> i32 {
-        let (number, value) = raw::euler(&self.file);
-        // The only no is that the bytes are no file, and these are one.
+        let (number, value) = raw::block_euler(&self.block);
+        // The only no is that the drawing is not sound, and every call leaves it sound.
         assert_eq!(number, 0);
         value
     }
 
-    /// The drawing's file. A drawing has one file, so it is the one that was opened or that the last run gave.
-    pub fn save(&self) -> &[u8] {
-        &self.file
+    /// The drawing's file. A drawing has one file, so a sheet that was opened and not edited gives the very bytes again.
+    pub fn save(&self) -> Vec<u8> {
+        let mut file = vec![0; FILE_MOST];
+        // Every file fits.
+        let length = self.save_to(&mut file).unwrap_or_else(|question| panic!("{question}"));
+        file.truncate(length);
+        file
+    }
+
+    /// The drawing's file, in the first places of a buffer: its length. The other places stay as they are, and all of them
+    /// where the file does not fit (9).
+    pub fn save_to(&self, buffer: &mut [u8]) -> Result<usize, Question> {
+        let (number, count) = raw::block_write(&self.block, buffer);
+        asked(number)?;
+        Ok(count)
+    }
+}
+
+impl PartialEq for Sheet {
+    fn eq(&self, other: &Sheet) -> bool {
+        self.save() == other.save()
+    }
+}
+
+impl Eq for Sheet {}
+
+impl Hash for Sheet {
+    fn hash<H: Hasher>(&self, state: &mut H) {
+        self.save().hash(state);
+    }
+}
+
+impl fmt::Debug for Sheet {
+    fn fmt(&self, f: &mut fmt::Formatter) -> fmt::Result {
+        f.debug_struct("Sheet").field("file", &self.save()).finish()
     }
 }
 

@@ -1,6 +1,7 @@
 //! The C functions themselves: a no leaves the lent buffers as they were, and counts 0 save what 9 gives.
 
-use dazolbei::{raw, Sheet};
+use dazolbei::raw::{self, Block, Told};
+use dazolbei::Sheet;
 
 /// Vertex 1 at zero and the loop 2 at it.
 fn file() -> Vec<u8> {
@@ -9,7 +10,7 @@ fn file() -> Vec<u8> {
     script.extend([0x02, 0x01, 0x01, 0x00]);
     let mut sheet = Sheet::new();
     sheet.run(&script).unwrap();
-    sheet.save().to_vec()
+    sheet.save()
 }
 
 const NO_FILE: [u8; 1] = [0x01];
@@ -75,22 +76,104 @@ fn runs() {
     }
 }
 
+/// A block that holds the drawing of the file.
+fn block() -> Box<Block> {
+    let mut block = Box::new(Block::EMPTY);
+    assert_eq!(raw::block_open(&mut block, &file()), 0);
+    block
+}
+
+/// The block with an id that does not rise.
+fn damaged() -> Box<Block> {
+    let mut block = block();
+    block.ids[1] = 1;
+    block
+}
+
+/// The parts of a block, one behind the other.
+fn parts(b: &Block) -> (u32, usize, Vec<u32>, Vec<u64>) {
+    let rows = [b.ids, b.kinds, b.starts, b.ends, b.bends, b.counts].concat();
+    let coordinates = [&b.px[..], &b.py, &b.bx, &b.by].concat();
+    (b.next, b.count, [&rows, &b.cycles[..], &b.steps].concat(), coordinates.iter().map(|x| x.to_bits()).collect())
+}
+
 #[test]
-fn rounds() {
-    let file = file();
-    let repeat = |what, id, bytes: &[u8], rounds| raw::repeat(&file, what, id, bytes, rounds);
-    for rounds in [1, 2, 3] {
-        assert_eq!(repeat(0, 0, &[0x06, 0x01], rounds), 0);
-        assert_eq!(repeat(0, 0, &[0x06, 0x05], rounds), 4);
-        assert_eq!(repeat(0, 0, &[], rounds), 2);
-        assert_eq!(repeat(1, 1, &[], rounds), 0);
-        assert_eq!(repeat(1, 3, &[], rounds), 4);
-        assert_eq!(repeat(2, 0, &[], rounds), 0);
-        assert_eq!(repeat(3, 0, &[], rounds), 0);
-        assert_eq!(repeat(4, 0, &file, rounds), 0);
-        assert_eq!(repeat(4, 0, &NO_FILE, rounds), 10);
-        assert_eq!(repeat(5, 0, &[], rounds), 5);
+fn blocks_are_opened() {
+    let mut opened = block();
+    assert_eq!((opened.next, opened.count, &opened.ids[..2], &opened.kinds[..2]), (3, 2, &[1, 2][..], &[0, 1][..]));
+    assert_eq!((opened.starts[1], opened.ends[1], opened.bends[1], opened.counts[1]), (1, 1, 0, 0));
+    // What the block held is not asked, and stays at 10.
+    for mut any in [damaged(), block()] {
+        let before = parts(&any);
+        assert_eq!(raw::block_open(&mut any, &NO_FILE), 10);
+        assert_eq!(parts(&any), before);
+        assert_eq!(raw::block_open(&mut any, &file()), 0);
+        assert_eq!(raw::block_euler(&any), (0, 0));
     }
-    assert_eq!(repeat(1, 3, &[], 0), 0);
-    assert_eq!(raw::repeat(&NO_FILE, 2, 0, &[], 1), 10);
+    raw::block_new(&mut opened);
+    assert_eq!((opened.next, opened.count), (1, 0));
+    assert_eq!(raw::block_write(&opened, &mut [77; 4]), (0, 2));
+}
+
+#[test]
+fn commands_on_blocks() {
+    let told = |number, first, new, removed| Told { number, first, new, removed };
+    let mut edited = block();
+    // a loop again, then a cell that is not there, then bytes that are no command
+    assert_eq!(raw::block_command(&mut edited, &[0x02, 0x01, 0x01, 0x00, 0x06]), told(0, 3, 1, 0));
+    assert_eq!(raw::block_rest(&edited, &[0x02, 0x01, 0x01, 0x00, 0x06]), 1);
+    let before = parts(&edited);
+    assert_eq!(raw::block_command(&mut edited, &[0x06, 0x09]), told(4, 0, 0, 0));
+    assert_eq!(raw::block_command(&mut edited, &[0x06]), told(2, 0, 0, 0));
+    assert_eq!(raw::block_rest(&edited, &[0x06]), 1);
+    assert_eq!(parts(&edited), before);
+    let mut bad = damaged();
+    let before = parts(&bad);
+    assert_eq!(raw::block_command(&mut bad, &[0x06, 0x01]), told(1, 0, 0, 0));
+    assert_eq!(raw::block_rest(&bad, &[0x06, 0x01]), 2);
+    assert_eq!(parts(&bad), before);
+}
+
+#[test]
+fn runs_on_blocks() {
+    // delete 2, then a kind that is none
+    let script = [0x06, 0x02, 0x00];
+    let run = |mut block: Box<Block>, places| {
+        let mut lines = vec![77; places];
+        let ran = raw::block_run(&mut block, &script, &mut lines);
+        (ran, lines, block)
+    };
+    let (ran, lines, after) = run(block(), 16);
+    assert_eq!((ran, after.count), ((0, 2), 1));
+    assert_eq!(lines, [0, 0, 0, 1, 1, 2, 0, 0, 0, 1, 77, 77, 77, 77, 77, 77]);
+    for (start, places, no) in [(block(), 14, 9), (damaged(), 15, 1), (damaged(), 14, 1)] {
+        let before = parts(&start);
+        let (ran, lines, after) = run(start, places);
+        assert_eq!((ran, lines), ((no, 0), vec![77; places]));
+        assert_eq!(parts(&after), before);
+    }
+}
+
+#[test]
+fn calls_on_blocks() {
+    let star = |block: &Block, id, places| {
+        let mut buffer = vec![77; places];
+        let (number, count) = raw::block_star(block, id, &mut buffer);
+        (number, count, buffer)
+    };
+    assert_eq!(star(&block(), 1, 3), (0, 1, vec![2, 77, 77]));
+    assert_eq!(star(&block(), 1, 0), (9, 1, vec![]));
+    assert_eq!(star(&block(), 3, 2), (4, 0, vec![77, 77]));
+    assert_eq!(star(&damaged(), 1, 2), (1, 0, vec![77, 77]));
+    assert_eq!(raw::block_euler(&block()), (0, 0));
+    assert_eq!(raw::block_euler(&damaged()), (1, 0));
+    let write = |block: &Block, places| {
+        let mut buffer = vec![77; places];
+        let (number, count) = raw::block_write(block, &mut buffer);
+        (number, count, buffer)
+    };
+    let (file, n) = (file(), file().len());
+    assert_eq!(write(&block(), n + 2), (0, n, [&file[..], &[77, 77]].concat()));
+    assert_eq!(write(&block(), n - 1), (9, n, vec![77; n - 1]));
+    assert_eq!(write(&damaged(), n), (1, 0, vec![77; n]));
 }

@@ -1,5 +1,8 @@
 //! The wrapper on document 01's sheets.
 
+use std::collections::hash_map::DefaultHasher;
+use std::hash::{Hash, Hasher};
+
 use dazolbei::{Done, Line, Question, Sheet, FILE_MOST};
 
 /// A vertex at (x, y).
@@ -27,6 +30,54 @@ fn worked_example() {
     assert_eq!(sheet.euler(), 1);
     // next id 8, 3 cells
     assert_eq!(sheet.save()[..2], [8, 3]);
+}
+
+#[test]
+fn commands() {
+    let mut script = vertex(0.0, 0.0);
+    script.extend([0x02, 0x01, 0x01, 0x00, 0x07, 0x01, 0x01, 0x80]);
+    let (mut sheet, mut answers, mut left) = (Sheet::new(), Vec::new(), &script[..]);
+    while left.len() > 1 {
+        answers.push(sheet.command(left));
+        left = sheet.rest(left);
+    }
+    assert_eq!(answers, [done(1, 1, 0), done(2, 1, 0), Err(Question::Rule)]);
+    assert_eq!(sheet.command(left), Err(Question::Whole));
+    assert_eq!(sheet.rest(left), [0x80]);
+    assert_eq!(sheet.command(&[]), Err(Question::Whole));
+    let mut whole = Sheet::new();
+    whole.run(&script).unwrap();
+    assert_eq!(whole, sheet);
+}
+
+#[test]
+fn equal_sheets() {
+    let hash = |sheet: &Sheet| {
+        let mut hasher = DefaultHasher::new();
+        sheet.hash(&mut hasher);
+        hasher.finish()
+    };
+    // Cells that are gone leave the drawing as if they had never been, but for the next id.
+    let mut sheet = Sheet::new();
+    sheet.run(&[vertex(1.0, 2.0), vertex(3.0, 4.0), vec![0x06, 0x01]].concat()).unwrap();
+    let again = Sheet::open(&sheet.save()).unwrap();
+    assert_eq!((&again, hash(&again)), (&sheet, hash(&sheet)));
+    let mut copy = sheet.clone();
+    copy.command(&[0x06, 0x02]).unwrap();
+    assert_ne!(copy, sheet);
+    assert_eq!(format!("{:?}", Sheet::new()), "Sheet { file: [1, 0] }");
+}
+
+#[test]
+fn saves() {
+    let mut sheet = Sheet::new();
+    sheet.run(&vertex(1.0, 2.0)).unwrap();
+    let file = sheet.save();
+    let mut buffer = [77; 22];
+    assert_eq!(sheet.save_to(&mut buffer[..19]), Err(Question::Buffer));
+    assert_eq!(buffer, [77; 22]);
+    assert_eq!(sheet.save_to(&mut buffer), Ok(20));
+    assert_eq!(buffer, [&file[..], &[77, 77]].concat()[..]);
 }
 
 #[test]
