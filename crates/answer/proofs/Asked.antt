@@ -28,10 +28,10 @@ use Rattle.store.specs.Sizes.{Sizes}
 use Rattle.store.specs.View.{sheetOf, Fits, cycleTotal, stepTotal}
 use Rattle.store.proofs.Stands.{stands, count-is, cycle-total, step-total}
 use Rattle.sound.specs.Soundness.{soundDrawing}
-use Rattle.sound.specs.Looks.{told}
+use Rattle.sound.specs.Looks.{indexValue}
 use Rattle.sound.proofs.Meaning.{sound-fits, sound-sheet, looks, vertex-at}
-use Rattle.append.specs.Appends.{remade, RoomIn}
-use Rattle.append.proofs.Rooms.{room-rebuilt, over-cycles, over-steps}
+use Rattle.rows_new.specs.Appends.{remade, RoomIn}
+use Rattle.rows_new.proofs.Rooms.{room-rebuilt, over-cycles, over-steps}
 use Rattle.answer.specs.declared.Answer.{Answer}
 use Rattle.answer.specs.declared.Totals.{Totals}
 use Rattle.answer.specs.Answers.{saidBy, refusal, outcome, Counts, Answers}
@@ -47,7 +47,7 @@ module _ (d : Drawing) (w : T (soundDrawing d)) where
   next-in = leb→le (d .next) idsEnd (sound-in .inIds)
 
 -- the kind in the row of an id
-pub kind-vertex : (d : Drawing) → Sizes d → T (soundDrawing d) → (ix : Index) → Indexes d ix → (v k : ℕ) → k ≡ told 4 d ix (ix .kinds) v → eqb k 0 ≡ isVertex (cellAt (sheetOf d) v)
+pub kind-vertex : (d : Drawing) → Sizes d → T (soundDrawing d) → (ix : Index) → Indexes d ix → (v k : ℕ) → k ≡ indexValue 4 d ix (ix .kinds) v → eqb k 0 ≡ isVertex (cellAt (sheetOf d) v)
 kind-vertex d z w ix x v k e = ap (λ (n : ℕ). eqb n 0) e ∙ vertex-at (looks d z ix x w) v
 
 -- no more are chosen than there are

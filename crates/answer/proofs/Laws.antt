@@ -17,7 +17,7 @@ use Rattle.store.specs.View.{sheetOf, Fits, bendCount, cycleCount, bendTotal, c
 use Rattle.store.specs.Edits.{placesOf}
 use Rattle.store.proofs.Lists.{places-sum, width-places}
 use Rattle.store.proofs.Stands.{stands, count-is, cycle-total, bend-total, step-total}
-use Rattle.append.proofs.Rooms.{over-cycles, over-steps, over-bends}
+use Rattle.rows_new.proofs.Rooms.{over-cycles, over-steps, over-bends}
 use Rattle.answer.specs.declared.Answer.{Answer}
 use Rattle.answer.specs.declared.Totals.{Totals}
 use Rattle.answer.specs.Late.{sizesBy, Small, Summed}

@@ -17,7 +17,7 @@ use Rattle.complex.specs.Edits.{keepIds, rebuild, asItIs, rewiredCycle, rewired
 use Rattle.complex.specs.Delete.{moved, goes, deleted}
 use Rattle.complex.specs.Glue.{renamed, gluedVertices, gluedEdges}
 use Rattle.complex.specs.Commands.{question3, question4, question5, question6, result}
-use Rattle.answer.specs.Sizes.{Sizes, sized, sizesOf, sizesFit, Change, changedBy, bendCount, changeOf, sizesAfter}
+use Rattle.answer.specs.Sizes.{SheetSizes, sized, sizesOf, sizesFit, Change, changedBy, cellBends, changeOf, sizesAfter}
 use Rattle.complex.proofs.Bools.{both, pair}
 use Rattle.complex.proofs.Keep.{Sound}
 use Rattle.complex.proofs.Sums.{total-zero, total-ones, total-by}
@@ -78,13 +78,13 @@ move-sizes s S v p q =
     sums-sizes s (result s (move v p)) (changeOf s (move v p)) (λ g. g (vertex (u .0))) (λ g. g (vertex p)) (λ g. let a = over-changed g v (vertex p) (vertex (u .0)) [] s S (u .1) in omega arith) (omega arith)
 
 -- ---- 06: no larger
-pub record NoLarger (y z : Sizes) : Type 0 where
+pub record NoLarger (y z : SheetSizes) : Type 0 where
   pub cells : y .cells ≤ z .cells
   pub cycles : y .cycles ≤ z .cycles
   pub steps : y .steps ≤ z .steps
   pub bends : y .bends ≤ z .bends
 
-pub fits-under : (y z : Sizes) → NoLarger y z → T (sizesFit z) → T (sizesFit y)
+pub fits-under : (y z : SheetSizes) → NoLarger y z → T (sizesFit z) → T (sizesFit y)
 fits-under y z l t =
     let a = both (leb (z .cells) cellsMost) _ t in
     let b = both (leb (z .cycles) cyclesMost) _ (a .1) in
@@ -202,8 +202,8 @@ glue-edges-sizes s S a b flag q = go (cellAt s b) refl (both (isEdge (cellAt s a
     go : (o : Option Figure) → cellAt s b ≡ o → T (isEdge o) → sizesOf (result s (glueEdges a b flag) .cells) ≡ sizesAfter s (glueEdges a b flag)
     go none e k = absurd k
     go (some (vertex p)) e k = absurd k
-    go (some (openEdge u w bs)) e k = gone (openEdge u w bs) e (let z = ap bendCount e in omega arith)
-    go (some (closedEdge bs)) e k = gone (closedEdge bs) e (let z = ap bendCount e in omega arith)
+    go (some (openEdge u w bs)) e k = gone (openEdge u w bs) e (let z = ap cellBends e in omega arith)
+    go (some (closedEdge bs)) e k = gone (closedEdge bs) e (let z = ap cellBends e in omega arith)
     go (some (face ks)) e k = absurd k
 
 -- 07 and 08 take away only

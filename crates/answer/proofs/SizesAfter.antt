@@ -17,7 +17,7 @@ use Rattle.complex.specs.Unglue.{copies, parts, unglued}
 use Rattle.complex.specs.Cut.{splitInTwo, bridged, cutFigure, edgeCut, faceCutAt, faceCutAlong, faceCutRound}
 use Rattle.complex.specs.Uncut.{Uncut, refused, lonely, loop, joint, twoFaces, oneCycle, rings, uncutCase, uncutResult, uncutAt}
 use Rattle.complex.specs.Commands.{result}
-use Rattle.answer.specs.Sizes.{Sizes, sized, sizesOf, sizesFit, newByCut, newByUncut, newCells, noChange, changedBy, sizesAfter}
+use Rattle.answer.specs.Sizes.{SheetSizes, sized, sizesOf, sizesFit, newByCut, newByUncut, newCells, noChange, changedBy, sizesAfter}
 use Rattle.complex.proofs.Bools.{true-of}
 use Rattle.complex.proofs.Keep.{Sound}
 use Rattle.answer.proofs.Sizes.{Asked6, create-sizes, move-sizes, delete-fits, glue-sizes, glue-edges-sizes}
@@ -65,7 +65,7 @@ next-after s (cutFaceClosed f bs ms) = refl
 next-after s (uncut i) = uncut-next s i (uncutCase s i)
 
 -- ---- 8: the ceilings
-unchanged : (z : Sizes) → z ≡ changedBy z noChange
+unchanged : (z : SheetSizes) → z ≡ changedBy z noChange
 unchanged z =
     let p : z .cells ≡ z .cells + 0 - 0 = omega arith in
     let q : z .cycles ≡ z .cycles + 0 - 0 = omega arith in

@@ -19,7 +19,7 @@ use Rattle.complex.specs.Uses.{endsAt, edgeUse, loneUse, usesBy, Use, usesOf}
 use Rattle.complex.specs.Cut.{noCycle, noStep}
 use Rattle.complex.specs.Uncut.{Uncut, lonely, loop, joint, twoFaces, oneCycle, rings, opposite, withoutLone, inOne, bendsAlong, joined, pathOr, cycleOfUse, following, followingTo, uncutCase, uncutResult, uncutAt}
 use Rattle.complex.specs.Commands.{result}
-use Rattle.answer.specs.Sizes.{sizesOf, newByUncut, newCells, changedBy, aloneLeft, bendCount, uncutChange, changeOf, sizesAfter}
+use Rattle.answer.specs.Sizes.{sizesOf, newByUncut, newCells, changedBy, aloneLeft, cellBends, uncutChange, changeOf, sizesAfter}
 use Rattle.complex.proofs.Walks.{Ring, joins-cases}
 use Rattle.complex.proofs.Keep.{Sound, same-eq}
 use Rattle.complex.proofs.Split.{all-getD, apart}
@@ -82,21 +82,21 @@ ring-one s S e c x r only = go (leb (length (cycleOfUse (cellAt s) x)) 1) refl
     go false q = absurd (other (leb-false (length (cycleOfUse (cellAt s) x)) 1 q) (eqb (x .step) 0) refl)
 
 -- ---- the edge that two become
-along-length : (look : Look) (h : Halfedge) → length (bendsAlong look h) ≡ bendCount (look (h .edge))
+along-length : (look : Look) (h : Halfedge) → length (bendsAlong look h) ≡ cellBends (look (h .edge))
 along-length look h = go (h .backward)
   where
-    go : (b : Bool) → length (cond b (reverse (bendsOf (look (h .edge)))) (bendsOf (look (h .edge)))) ≡ bendCount (look (h .edge))
+    go : (b : Bool) → length (cond b (reverse (bendsOf (look (h .edge)))) (bendsOf (look (h .edge)))) ≡ cellBends (look (h .edge))
     go true = length-reverse (bendsOf (look (h .edge)))
     go false = refl
 
-joined-counts : (look : Look) (p : Position) (x y : Halfedge) → (cyclesIn (joined look p x y) ≡ 0) × (stepsIn (joined look p x y) ≡ 0) × (bendsIn (joined look p x y) ≡ bendCount (look (x .edge)) + bendCount (look (y .edge)) + 1)
+joined-counts : (look : Look) (p : Position) (x y : Halfedge) → (cyclesIn (joined look p x y) ≡ 0) × (stepsIn (joined look p x y) ≡ 0) × (bendsIn (joined look p x y) ≡ cellBends (look (x .edge)) + cellBends (look (y .edge)) + 1)
 joined-counts look p x y = go (x .backward)
   where
     bs : List Position
     bs = bendsAlong look y
 
     go : (b : Bool) → let t = cond b (openEdge (startOf (look (x .edge))) (headOf look y) (bendsOf (look (x .edge)) ++ (p ∷ bs))) (openEdge (headOf look y) (endOf (look (x .edge))) (reverse bs ++ (p ∷ bendsOf (look (x .edge))))) in
-        (cyclesIn t ≡ 0) × (stepsIn t ≡ 0) × (bendsIn t ≡ bendCount (look (x .edge)) + bendCount (look (y .edge)) + 1)
+        (cyclesIn t ≡ 0) × (stepsIn t ≡ 0) × (bendsIn t ≡ cellBends (look (x .edge)) + cellBends (look (y .edge)) + 1)
     go true = let a = length-append (bendsOf (look (x .edge))) (p ∷ bs) in let b = along-length look y in (refl, refl, omega arith)
     go false = let a = length-append (reverse bs) (p ∷ bendsOf (look (x .edge))) in let b = along-length look y in let c = length-reverse bs in (refl, refl, omega arith)
 
@@ -160,7 +160,7 @@ module _ (s : Sheet) (S : Sound s) (i : ℕ) where
       let s8 = length-append (following (cellAt s) u) (following (cellAt s) w) in
       let s9 : length left ≡ length (cycleOfUse (cellAt s) u) + length (cycleOfUse (cellAt s) w) - 2 = omega arith in
       let s10 = left-count (headOf (cellAt s) (u .halfedge)) left ∙ ap (λ (x : ℕ). length left + aloneLeft x) s9 in
-      let z = ap bendCount at in
+      let z = ap cellBends at in
       sums-sizes s (uncutResult s i (twoFaces u w)) (uncutChange s i (twoFaces u w)) (λ g. g (face ks1) + g (face ks2) + g (openEdge a b bs)) (λ g. g (face ks′)) (λ g. let h = two-less s S i u w q E k n g (openEdge a b bs) at ks′ in omega arith) (omega arith)
 
   ring-sizes : (bs : List Position) → cellAt s i ≡ some (closedEdge bs) → (u w : Use) → usesOf (s .cells) i ≡ u ∷ w ∷ [] → T (opposite u w) → (u .face ≡ w .face → ⊥) → Right (rings u w)
@@ -180,7 +180,7 @@ module _ (s : Sheet) (S : Sound s) (i : ℕ) where
       let s5 = step-count (getD ks2 (w .cycle) noCycle) (w .step) (rw′ .2) in
       let s6 = ring-one s S i C u ru (u-only s S i u w q E k n) in
       let s7 = ring-one s S i C w rw′ (w-only s S i u w q E k n) in
-      let z = ap bendCount at in
+      let z = ap cellBends at in
       sums-sizes s (uncutResult s i (rings u w)) (uncutChange s i (rings u w)) (λ g. g (face ks1) + g (face ks2) + g (closedEdge bs)) (λ g. g (face ks′)) (λ g. let h = two-less s S i u w q E k n g (closedEdge bs) at ks′ in omega arith) (omega arith)
 
   one-sizes : (a b : ℕ) (bs : List Position) → cellAt s i ≡ some (openEdge a b bs) → (u w : Use) → Placed (cellAt s) i u → Placed (cellAt s) i w → Only s i u w → T (opposite u w) → u .face ≡ w .face → u .cycle ≡ w .cycle → Right (oneCycle u w)
@@ -204,7 +204,7 @@ module _ (s : Sheet) (S : Sound s) (i : ℕ) where
       let s5 = ap length (Y-is s S i E o u w ru rw′ L k ef ec) in
       let s6 = left-count (headOf (cellAt s) (u .halfedge)) X ∙ ap (λ (n : ℕ). length X + aloneLeft n) (stretch-length hs (u .step) (w .step) (ru .2) lw d) in
       let s7 = left-count (headOf (cellAt s) (w .halfedge)) Y ∙ ap (λ (n : ℕ). length Y + aloneLeft n) (s5 ∙ stretch-length hs (w .step) (u .step) lw (ru .2) (λ z. d (sym z))) in
-      let z = ap bendCount at in
+      let z = ap cellBends at in
       sums-sizes s (uncutResult s i (oneCycle u w)) (uncutChange s i (oneCycle u w)) (λ g. g (face ks) + g (openEdge a b bs)) (λ g. g (face ks′)) (λ g. let h = one-less s S i E o u w ru rw′ L k ef ec g (openEdge a b bs) at in omega arith) (omega arith)
 
   case-sizes : (c : Uncut) → Holds s i c → Right c
@@ -212,7 +212,7 @@ module _ (s : Sheet) (S : Sound s) (i : ℕ) where
   case-sizes c (is-loop p at x y e n k z) =
       let o = open-at (cellAt s) (x .edge) (real-ends s S i p at x y e n .0 .0) in
       let t = openEdge (o .0) (o .1) (o .2) in
-      let b = ap bendCount (o .3) in
+      let b = ap cellBends (o .3) in
       rewired-sizes sameVertex (inPlaceOf (x .edge) (s .next) false) noStepMore noStepMore (λ h. refl) s (neither i (x .edge)) (vertex p ∷ t ∷ [])
       (closedEdge (positionOf (cellAt s i) ∷ bendsOf (cellAt s (x .edge))) ∷ []) (loop-gone s S i p at x y e n k z t (o .3)) (uncutChange s i (loop (x .edge))) (omega arith)
   case-sizes c (is-joint p at x y e n k z) =
@@ -221,8 +221,8 @@ module _ (s : Sheet) (S : Sound s) (i : ℕ) where
       let t = openEdge (o .0) (o .1) (o .2) in
       let t′ = openEdge (o′ .0) (o′ .1) (o′ .2) in
       let j = joined-counts (cellAt s) (positionOf (cellAt s i)) x y in
-      let b = ap bendCount (o .3) in
-      let b′ = ap bendCount (o′ .3) in
+      let b = ap cellBends (o .3) in
+      let b′ = ap cellBends (o′ .3) in
       let d = none-used (s .cells) in
       rewired-sizes sameVertex (inOne (x .edge) (y .edge) (s .next)) (edgeUse (y .edge)) noStepMore (one-fair (x .edge) (y .edge) (s .next)) s (λ (m : ℕ). others i m && neither (x .edge) (y .edge) m) (vertex p ∷ t ∷ t′ ∷ [])
       (joined (cellAt s) (positionOf (cellAt s i)) x y ∷ []) (joint-gone s S i p at x y e n k z t t′ (o .3) (o′ .3)) (uncutChange s i (joint x y)) (omega arith)

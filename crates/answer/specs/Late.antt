@@ -7,15 +7,15 @@ use lib.Dec.{leb}
 use lib.ListN.{length, take}
 use Rattle.complex.specs.Lists.{total}
 use Rattle.complex.specs.Sound.{idsEnd, cyclesMost, stepsMost, bendsMost}
-use Rattle.answer.specs.Sizes.{Sizes, sized, sizesFit}
+use Rattle.answer.specs.Sizes.{SheetSizes, sized, sizesFit}
 use Rattle.store.specs.Edits.{placesOf}
 use Rattle.answer.specs.declared.Totals.{Totals}
 
-abbrev pub sizesBy : Totals → Sizes
+abbrev pub sizesBy : Totals → SheetSizes
 sizesBy t = sized (t .cells) (t .cycles) (t .steps) (t .bends)
 
 -- the number of the first no to 7 and 8, or 0
-abbrev pub lateNo : ℕ → ℕ → Sizes → ℕ
+abbrev pub lateNo : ℕ → ℕ → SheetSizes → ℕ
 lateNo next new z = cond (leb (next + new) idsEnd) (cond (sizesFit z) 0 8) 7
 
 -- sizes that can be added without overflow

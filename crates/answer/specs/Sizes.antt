@@ -15,20 +15,20 @@ use Rattle.complex.specs.Unglue.{parts}
 use Rattle.complex.specs.Cut.{noCycle}
 use Rattle.complex.specs.Uncut.{Uncut, refused, lonely, loop, joint, twoFaces, oneCycle, rings, uncutCase, cycleOfUse}
 
-pub record Sizes : Type 0 where
+pub record SheetSizes : Type 0 where
   pub cells : ℕ
   pub cycles : ℕ
   pub steps : ℕ
   pub bends : ℕ
 
-abbrev pub sized : ℕ → ℕ → ℕ → ℕ → Sizes
+abbrev pub sized : ℕ → ℕ → ℕ → ℕ → SheetSizes
 sized c k h b = record { cells = c; cycles = k; steps = h; bends = b }
 
-abbrev pub sizesOf : List LiveCell → Sizes
+abbrev pub sizesOf : List LiveCell → SheetSizes
 sizesOf cs = sized (length cs) (over cyclesIn cs) (over stepsIn cs) (over bendsIn cs)
 
 -- whether sizes keep the ceilings, in the order of `ceilings`
-abbrev pub sizesFit : Sizes → Bool
+abbrev pub sizesFit : SheetSizes → Bool
 sizesFit z = leb (z .cells) cellsMost && (leb (z .cycles) cyclesMost && (leb (z .steps) stepsMost && leb (z .bends) bendsMost))
 
 -- ---- how many ids a command issues
@@ -64,20 +64,20 @@ newCells s (uncut i) = newByUncut (uncutCase s i)
 
 -- ---- how much more and how much less a command makes
 pub record Change : Type 0 where
-  pub more : Sizes
-  pub less : Sizes
+  pub more : SheetSizes
+  pub less : SheetSizes
 
-abbrev pub moreLess : Sizes → Sizes → Change
+abbrev pub moreLess : SheetSizes → SheetSizes → Change
 moreLess m l = record { more = m; less = l }
 
-abbrev pub nothing : Sizes
+abbrev pub nothing : SheetSizes
 nothing = sized 0 0 0 0
 
 abbrev pub noChange : Change
 noChange = moreLess nothing nothing
 
 -- first more, then less
-abbrev pub changedBy : Sizes → Change → Sizes
+abbrev pub changedBy : SheetSizes → Change → SheetSizes
 changedBy z d =
     sized (z .cells + d .more .cells - d .less .cells) (z .cycles + d .more .cycles - d .less .cycles)
     (z .steps + d .more .steps - d .less .steps) (z .bends + d .more .bends - d .less .bends)
@@ -91,12 +91,12 @@ aloneIn (path hs) = 0
 abbrev pub aloneLeft : ℕ → ℕ
 aloneLeft n = cond (eqb n 0) 1 0
 
-abbrev pub bendCount : Option Figure → ℕ
-bendCount o = length (bendsOf o)
+abbrev pub cellBends : Option Figure → ℕ
+cellBends o = length (bendsOf o)
 
 -- 09: n copies, each with the bends of what it copies
 abbrev pub unglueChange : ℕ → Option Figure → Change
-unglueChange n o = moreLess (sized n 0 0 (n * bendCount o)) nothing
+unglueChange n o = moreLess (sized n 0 0 (n * cellBends o)) nothing
 
 -- 0A: an open edge's steps, so many, become two each; a cut at a bend takes it away
 abbrev pub cutChange : ℕ → ℕ → Option Figure → Change
@@ -119,12 +119,12 @@ uncutChange s i (loop e) = moreLess (sized 0 0 0 1) (sized 1 0 0 0)
 uncutChange s i (joint x y) = moreLess (sized 0 0 0 1) (sized 2 0 (usesBy (stepUse (y .edge)) (s .cells)) 0)
 uncutChange s i (twoFaces u w) =
     let left = length (cycleOfUse (cellAt s) u) + length (cycleOfUse (cellAt s) w) - 2 in
-    moreLess (sized 0 0 (aloneLeft left) 0) (sized 2 1 2 (bendCount (cellAt s i)))
+    moreLess (sized 0 0 (aloneLeft left) 0) (sized 2 1 2 (cellBends (cellAt s i)))
 uncutChange s i (oneCycle u w) =
     let n = length (cycleOfUse (cellAt s) u) in
     moreLess (sized 0 1 (aloneLeft (distance n (suc (u .step)) (w .step)) + aloneLeft (distance n (suc (w .step)) (u .step))) 0)
-    (sized 1 0 2 (bendCount (cellAt s i)))
-uncutChange s i (rings u w) = moreLess nothing (sized 2 2 2 (bendCount (cellAt s i)))
+    (sized 1 0 2 (cellBends (cellAt s i)))
+uncutChange s i (rings u w) = moreLess nothing (sized 2 2 2 (cellBends (cellAt s i)))
 
 -- by kind. What a delete takes away is left out: its result is no larger than the drawing
 unfoldable pub changeOf : Sheet → Command → Change
@@ -133,7 +133,7 @@ changeOf s (create x) = moreLess (sized 1 (cyclesIn x) (stepsIn x) (bendsIn x)) 
 changeOf s (move v p) = noChange
 changeOf s (delete i) = noChange
 changeOf s (glueVertices a b) = moreLess nothing (sized 1 0 0 0)
-changeOf s (glueEdges a b flag) = moreLess nothing (sized 1 0 0 (bendCount (cellAt s b)))
+changeOf s (glueEdges a b flag) = moreLess nothing (sized 1 0 0 (cellBends (cellAt s b)))
 changeOf s (unglue i) = unglueChange (parts (s .cells) i (cellAt s i) - 1) (cellAt s i)
 changeOf s (cutEdge e q) = cutChange (usesBy (stepUse e) (s .cells)) q (cellAt s e)
 changeOf s (cutFaceVertex f p) = moreLess (sized 1 1 1 0) nothing
@@ -142,6 +142,6 @@ changeOf s (cutFaceOpen f c1 s1 c2 s2 bs ms) =
 changeOf s (cutFaceClosed f bs ms) = moreLess (sized 2 2 2 (length bs)) nothing
 changeOf s (uncut i) = uncutChange s i (uncutCase s i)
 
-unfoldable pub sizesAfter : Sheet → Command → Sizes
+unfoldable pub sizesAfter : Sheet → Command → SheetSizes
 unfolding changeOf
 sizesAfter s c = changedBy (sizesOf (s .cells)) (changeOf s c)

@@ -15,7 +15,7 @@ use Rattle.number.proofs.Laws.{lt-or-le, read-left, not-done, done-one}
 use Rattle.number.proofs.Counted.{Each, each-all, counted-back, counted-from}
 use Rattle.coordinate.specs.declared.Position.{Position}
 use Rattle.coordinate.specs.Bounds.{within}
-use Rattle.coordinate.specs.Positions.{Fits, coordinateIn, positionAt, readPosition, positionBytes}
+use Rattle.coordinate.specs.Positions.{FloatFits, coordinateIn, positionAt, readPosition, positionBytes}
 use Rattle.coordinate.proofs.Laws.{position-at, position-short, read-position, position-read}
 use Rattle.bends.specs.Bends.{readBends, bendBytes, listed, bendListIn, positionsAt}
 
@@ -128,8 +128,8 @@ malformed-in s e = go (readBends s) e
     go bad p = refl
 
 -- ---- bytes and bends
-pub bends-back : (bs : List Position) (t : List ℕ) → Each Fits bs → length bs < numbersEnd → readBends (bendBytes bs ++ t) ≡ got bs t
-bends-back bs t h l = counted-back readPosition positionBytes Fits (λ p f u. read-position p u f) bs h l t
+pub bends-back : (bs : List Position) (t : List ℕ) → Each FloatFits bs → length bs < numbersEnd → readBends (bendBytes bs ++ t) ≡ got bs t
+bends-back bs t h l = counted-back readPosition positionBytes FloatFits (λ p f u. read-position p u f) bs h l t
 
 pub bends-from : (s t : List ℕ) (bs : List Position) → Bytes s → readBends s ≡ got bs t → T (all within bs) → (s ≡ bendBytes bs ++ t) × (length bs < numbersEnd)
 bends-from s t bs B e h = counted-from readPosition positionBytes (λ p. T (within p)) position-read s t bs B e (each-all within bs h)

@@ -26,5 +26,5 @@ pub fn euler(
     requires { ⌜ Ready (lent next count ids kinds starts ends bends counts px py cycles steps bx by) t ⌝ }
     ensures { λ r. ⌜ r ≡ euler (sheetOf (heldBy (entry next count ids kinds starts ends bends counts px py cycles steps bx by)) .cells) ⌝ }
 {
-    query::euler_rows(kinds, counts, count)
+    rows_euler::euler_rows(kinds, counts, count)
 }

@@ -16,49 +16,70 @@ use Rattle.bends.specs.Bends.{positionsAt}
 use Rattle.bends.proofs.Laws.{positions-length}
 use Rattle.complex.specs.Cells.{LiveCell}
 use Rattle.complex.specs.Decode.{readCycle}
-use Rattle.complex.specs.File.{readCell}
+use Rattle.complex.specs.File.{readCell, readFile}
 use Rattle.store.specs.declared.Shape.{Shape}
 use Rattle.store.specs.declared.Cell.{Cell}
 use Rattle.store.specs.declared.Drawing.{Drawing}
-use Rattle.store.specs.View.{bendCount, cycleCount}
-use Rattle.store.specs.Index.{kindOf, startOf, endOf}
+use Rattle.store.specs.View.{bendCount, cycleCount, bendTotal}
+use Rattle.store.specs.Index.{kindOf, shapeStart, shapeEnd}
 use Rattle.store.proofs.Lists.{map-append}
-use Rattle.reader.specs.declared.Used.{Used}
-use Rattle.reader.specs.declared.Loaded.{Loaded}
-use Rattle.reader.specs.declared.Loaded.the-variants.{Next, Refused}
-use Rattle.reader.specs.declared.CellFound.{CellFound}
-use Rattle.reader.specs.declared.CellFound.the-variants.{Begun, NoCell}
-use Rattle.reader.specs.Heads.{readHead, Found, HeadRead}
-use Rattle.reader.specs.Filling.{Added, spotsFrom, withBends, CyclesLoaded}
-use Rattle.reader.specs.Outcome.{CellsOver, SheetRead}
-use Rattle.reader.proofs.Adding.{spots-length, spots-positions}
-use Rattle.reader.proofs.ShapeParts.{cycles-over}
-use Rattle.reader.proofs.Filled.{Filled, filled-start, filled-room, filled-turn, head-bad, parts-over, bytes-left, filled-given}
-use Rattle.reader.proofs.Verdict.{cells-read}
-use Rattle.kind_create.specs.Comes.{BendsPut}
+use Rattle.file_read.specs.declared.Used.{Used}
+use Rattle.file_read.specs.declared.Loaded.{Loaded}
+use Rattle.file_read.specs.declared.Loaded.the-variants.{Next, Refused}
+use Rattle.file_read.specs.declared.CellFound.{CellFound}
+use Rattle.file_read.specs.declared.CellFound.the-variants.{Begun, NoCell}
+use Rattle.file_read.specs.Heads.{readHead, ReadAt, HeadRead}
+use Rattle.file_read.specs.Filling.{Added, spotsFrom, bendsMore, CyclesLoaded}
+use Rattle.file_read.specs.Outcome.{CellsOver, SheetRead, refused}
+use Rattle.file_read.proofs.Adding.{spots-length, spots-positions}
+use Rattle.file_read.proofs.ShapeParts.{cycles-over}
+use Rattle.file_read.proofs.Filled.{Filled, filled-start, filled-room, filled-turn, head-bad, parts-over, bytes-left, filled-given, filled-total}
+use Rattle.file_read.proofs.Verdict.{cells-read}
+use Rattle.kernel_add.specs.Comes.{BendsPut}
 use Rattle.sound.specs.Rows.{allFrom}
 use Rattle.lent.specs.Arrays.{Arrays, positionsIn, heldBy, normalAt, normal, Lengths}
 use Rattle.lent.proofs.Held.{held-sizes, positions-length as places-length}
-use Rattle.call_load.specs.Loads.{acrossWith, upWith, RowPut, PartsPut, PartsStored, RoomIn, answerOf, CellsHeld, CellsTold, SheetIn}
+use Rattle.call_load.specs.declared.Counts.{Counts}
+use Rattle.call_load.specs.declared.Counts.the-variants.{From, Refused as Unread}
+use Rattle.call_load.specs.Loads.{acrossWith, upWith, RowPut, PartsPut, PartsStored, LoadRoom}
+use Rattle.call_load.specs.Loads.{answerOf, CellsHeld, CellsTold, CountsIn, CountsRead, SheetIn}
 use Rattle.call_load.proofs.Rows.{shape-long, shape-held, shape-normal}
 
 -- ---- the bends and the cycles of a shape
-module _ (s : List ℕ) (first : ℕ) (x : Shape) (xs ys : List Float) (counts steps : List ℕ) (used : Used) (xs′ ys′ : List Float) (counts′ steps′ : List ℕ)
-  where
-    abbrev Stores : Loaded → ℕ → ℕ → ℕ → Type 0
-    Stores r m b k =
-        first + 16 * b ≤ length s → used .bends + b ≤ 2048 → BendsPut xs ys (used .bends) (positionsAt s first m) m xs′ ys′
-        → CyclesLoaded (times readCycle k (drop (first + 16 * b) s)) s counts steps (withBends used b) counts′ steps′ r
-        → PartsStored s first x xs ys counts steps used xs′ ys′ counts′ steps′ r
+module _ (s : List ℕ) (first : ℕ) (x : Shape) (counts steps : List ℕ) (used : Used) (counts′ steps′ : List ℕ) where
+  abbrev Stores : Loaded → ℕ → ℕ → Type 0
+  Stores r b k =
+      first + 16 * b ≤ length s → used .bends + b ≤ 2048
+      → CyclesLoaded (times readCycle k (drop (first + 16 * b) s)) s counts steps (bendsMore used b) counts′ steps′ r
+      → PartsStored s first x counts steps used counts′ steps′ r
 
-    shape-stored : (r : Loaded) → Stores r (bendCount x) (bendCount x) (cycleCount x)
-    shape-stored (Next next used′) h f p c = record { inside = h; room = f; bends = p; filled = c }
-    shape-stored Refused h f p c = (refl, cycles-over s first x used h (c .1))
+  shape-stored : (r : Loaded) → Stores r (bendCount x) (cycleCount x)
+  shape-stored (Next next used′) h f c = record { inside = h; room = f; filled = c }
+  shape-stored Refused h f c = (refl, cycles-over s first x used h (c .1))
 
-    pub parts-stored : (r : Loaded) (m b k : ℕ) → m ≡ bendCount x → b ≡ bendCount x → k ≡ cycleCount x → Stores r m b k
-    parts-stored r m b k d e f =
-        subst (λ (z : ℕ). Stores r z b k) (sym d) (subst (λ (z : ℕ). Stores r (bendCount x) z k) (sym e)
-        (subst (Stores r (bendCount x) (bendCount x)) (sym f) (shape-stored r)))
+  pub parts-stored : (r : Loaded) (b k : ℕ) → b ≡ bendCount x → k ≡ cycleCount x → Stores r b k
+  parts-stored r b k e f = subst (λ (z : ℕ). Stores r z k) (sym e) (subst (Stores r (bendCount x)) (sym f) (shape-stored r))
+
+  -- as many bends as were counted stand in the bytes, and have room
+  module _ (next : ℕ) (used′ : Used) (P : PartsPut s first x counts steps used counts′ steps′ next used′) (k : ℕ) (e : k ≡ bendCount x) where
+    pub bends-inside : first + 16 * k ≤ length s
+    bends-inside = omega (arith, e, P .inside)
+
+    pub bends-room : used .bends + k ≤ 2048
+    bends-room = omega (arith, e, P .room)
+
+-- the bends as the shape counts them
+pub bends-as : (s : List ℕ) (first : ℕ) (x : Shape) (xs ys : List Float) (u : ℕ) (xs′ ys′ : List Float) (k : ℕ) → k ≡ bendCount x
+    → BendsPut xs ys u (positionsAt s first k) k xs′ ys′ → BendsPut xs ys u (positionsAt s first (bendCount x)) (bendCount x) xs′ ys′
+bends-as s first x xs ys u xs′ ys′ k e = subst (λ (n : ℕ). BendsPut xs ys u (positionsAt s first n) n xs′ ys′) e
+
+-- the places in use with bends put after them
+pub bends-after : (xs ys : List Float) (u b : ℕ) (bs : List Position) (xs′ ys′ : List Float) → length xs ≡ 2048 → length ys ≡ 2048
+    → u + b ≤ 2048 → length bs ≡ b → BendsPut xs ys u bs b xs′ ys′ → take (u + b) (positionsIn xs′ ys′) ≡ take u (positionsIn xs ys) ++ bs
+bends-after xs ys u b bs xs′ ys′ lx ly h lb B =
+    let old : length (positionsIn xs ys) ≡ 2048 = places-length xs ys (lx ∙ sym ly) ∙ lx in
+    ap (take (u + b)) (B .positions) ∙ take-paste (positionsIn xs ys) u bs b (omega arith) (omega arith)
+    ∙ ap (λ (y : List Position). take u (positionsIn xs ys) ++ y) (take-all b bs (omega arith))
 
 -- ---- rows: the first cells of the file are in them, and their bends stand at the places `spots` of the bytes
 pub record Rowed (s : List ℕ) (at n p : ℕ) (a : Arrays) (used : Used) : Type 0 where
@@ -97,8 +118,8 @@ withHead a c counts′ steps′ xs′ ys′ =
       count = a .count + 1;
       ids = set (a .ids) (a .count) (c .id);
       kinds = set (a .kinds) (a .count) (kindOf (c .shape));
-      starts = set (a .starts) (a .count) (startOf (c .shape));
-      ends = set (a .ends) (a .count) (endOf (c .shape));
+      starts = set (a .starts) (a .count) (shapeStart (c .shape));
+      ends = set (a .ends) (a .count) (shapeEnd (c .shape));
       bends = set (a .bends) (a .count) (bendCount (c .shape));
       counts = set (a .counts) (a .count) (cycleCount (c .shape));
       px = acrossWith (a .px) (a .count) (c .shape);
@@ -110,7 +131,7 @@ withHead a c counts′ steps′ xs′ ys′ =
     }
 
 -- a with the next id j and k cells
-abbrev numbered : Arrays → ℕ → ℕ → Arrays
+abbrev pub numbered : Arrays → ℕ → ℕ → Arrays
 numbered a j k =
     record {
       next = j;
@@ -129,7 +150,7 @@ numbered a j k =
       by = a .by;
     }
 
-numbered-long : (a : Arrays) (j k : ℕ) → Lengths a → Lengths (numbered a j k)
+pub numbered-long : (a : Arrays) (j k : ℕ) → Lengths a → Lengths (numbered a j k)
 numbered-long a j k l =
     record {
       ids = l .ids;
@@ -173,13 +194,11 @@ rowed-start s at n a z h l =
     none b e = rw e refl
 
 module _ (s : List ℕ) (at n p : ℕ) (a : Arrays) (used : Used) (R : Rowed s at n p a used) where
-  pub rowed-room : RoomIn used (a .bx) (a .by) (a .cycles) (a .steps)
+  pub rowed-room : LoadRoom used (a .cycles) (a .steps)
   rowed-room =
       let r = filled-room s at n (a .count) p (heldBy a .cells) (a .cycles) (a .steps) (R .spots) used (R .filled) in
       let l = R .long in
       record {
-        across = l .bx;
-        up = l .by;
         countsSize = l .cycles;
         stepsSize = l .steps;
         bendsFit = r .bendsFit;
@@ -189,8 +208,9 @@ module _ (s : List ℕ) (at n p : ℕ) (a : Arrays) (used : Used) (R : Rowed s a
       }
 
   -- ---- one cell more
-  module _ (c : Cell) (first : ℕ) (H : Found (readHead (drop p s)) s c first) (xs′ ys′ : List Float) (counts′ steps′ : List ℕ) (next : ℕ) (used′ : Used)
-      (P : PartsPut s first (c .shape) (a .bx) (a .by) (a .cycles) (a .steps) used xs′ ys′ counts′ steps′ next used′) (h : a .count < n)
+  module _ (c : Cell) (first : ℕ) (H : ReadAt (readHead (drop p s)) s c first) (xs′ ys′ : List Float) (counts′ steps′ : List ℕ) (next : ℕ) (used′ : Used)
+      (P : PartsPut s first (c .shape) (a .cycles) (a .steps) used counts′ steps′ next used′)
+      (B : BendsPut (a .bx) (a .by) (used .bends) (positionsAt s first (bendCount (c .shape))) (bendCount (c .shape)) xs′ ys′) (h : a .count < n)
       (g : a .count < 256) where
     pub rowed-turn : Rowed s at n next (withHead a c counts′ steps′ xs′ ys′) used′
     rowed-turn =
@@ -211,10 +231,8 @@ module _ (s : List ℕ) (at n p : ℕ) (a : Arrays) (used : Used) (R : Rowed s a
         (record { inside = P .inside; spotted = A; filled = P .filled }) h g in
         let w = shape-long a′ l′ x in
         let more : used′ .bends ≡ u + b = P .filled .sameBends in
-        let old : length (positionsIn (a .bx) (a .by)) ≡ 2048 = places-length (a .bx) (a .by) (l .bx ∙ sym (l .by)) ∙ l .bx in
         let left : take (u + b) (positionsIn xs′ ys′) ≡ take u (positionsIn (a .bx) (a .by)) ++ bs =
-        ap (take (u + b)) (P .bends .positions) ∙ take-paste (positionsIn (a .bx) (a .by)) u bs b (omega (arith, P .room)) (omega arith)
-        ∙ ap (λ (y : List Position). take u (positionsIn (a .bx) (a .by)) ++ y) (take-all b bs (omega arith)) in
+        bends-after (a .bx) (a .by) u b bs xs′ ys′ (l .bx) (l .by) (P .room) lb B in
         let right : map (positionAt s) (take (u + b) spots′) ≡ map (positionAt s) (take u (R .spots)) ++ bs =
         ap (λ (k : ℕ). map (positionAt s) (take (u + k) spots′)) (sym ls) ∙ ap (map (positionAt s)) (A .front)
         ∙ map-append (positionAt s) (take u (R .spots)) sp
@@ -238,8 +256,8 @@ module _ (s : List ℕ) (at n p : ℕ) (a : Arrays) (used : Used) (R : Rowed s a
                 py = w .py;
                 cycles = P .filled .counted .size ∙ l .cycles;
                 steps = P .filled .stepped .size ∙ l .steps;
-                bx = P .bends .across ∙ l .bx;
-                by = P .bends .up ∙ l .by;
+                bx = B .across ∙ l .bx;
+                by = B .up ∙ l .by;
               };
         }
 
@@ -253,19 +271,18 @@ module _ (s : List ℕ) (at n p : ℕ) (a : Arrays) (used : Used) (R : Rowed s a
         steps′ xs′ ys′)) rowed-turn
 
   -- ---- a cell's head
-  pub head-some : (r : CellFound) → HeadRead s p r → (c : Cell) (first : ℕ) → r ≡ Begun c first → Found (readHead (drop p s)) s c first
+  pub head-some : (r : CellFound) → HeadRead s p r → (c : Cell) (first : ℕ) → r ≡ Begun c first → ReadAt (readHead (drop p s)) s c first
   head-some r h c first e = subst (HeadRead s p) e h
 
   pub head-none : (r : CellFound) → HeadRead s p r → r ≡ NoCell → a .count < n → CellsOver (times readCell n (drop at s))
   head-none r h e l = head-bad s at n (a .count) p (heldBy a .cells) (a .cycles) (a .steps) (R .spots) used (R .filled) l (subst (HeadRead s p) e h .1)
 
-  module _ (c : Cell) (first : ℕ) (H : Found (readHead (drop p s)) s c first) (xs′ ys′ : List Float) (counts′ steps′ : List ℕ) (r : Loaded)
-      (P : PartsStored s first (c .shape) (a .bx) (a .by) (a .cycles) (a .steps) used xs′ ys′ counts′ steps′ r) where
+  module _ (c : Cell) (first : ℕ) (H : ReadAt (readHead (drop p s)) s c first) (counts′ steps′ : List ℕ) (r : Loaded)
+      (P : PartsStored s first (c .shape) (a .cycles) (a .steps) used counts′ steps′ r) where
     abbrev Stored : Loaded → Type 0
-    Stored = PartsStored s first (c .shape) (a .bx) (a .by) (a .cycles) (a .steps) used xs′ ys′ counts′ steps′
+    Stored = PartsStored s first (c .shape) (a .cycles) (a .steps) used counts′ steps′
 
-    pub parts-some : (next : ℕ) (used′ : Used) → r ≡ Next next used′ → PartsPut s first (c .shape) (a .bx) (a .by) (a .cycles) (a .steps) used xs′ ys′
-        counts′ steps′ next used′
+    pub parts-some : (next : ℕ) (used′ : Used) → r ≡ Next next used′ → PartsPut s first (c .shape) (a .cycles) (a .steps) used counts′ steps′ next used′
     parts-some next used′ e = subst Stored e P
 
     pub parts-none : r ≡ Refused → a .count < n → CellsOver (times readCell n (drop at s))
@@ -285,7 +302,20 @@ module _ (s : List ℕ) (at n p : ℕ) (a : Arrays) (used : Used) (R : Rowed s a
         rows = λ j. ap (allFrom (normalAt (a .kinds) (a .starts) (a .ends) (a .bends) (a .counts)) 0) (sym e) ∙ R .rows;
       }
 
+  -- the bends in use are those of the drawing
+  pub rowed-total : a .count ≡ n → n ≤ 256 → (j : ℕ) → used .bends ≡ bendTotal (heldBy (numbered a j n))
+  rowed-total e few j =
+      filled-total s at n (a .count) p (heldBy a .cells) (a .cycles) (a .steps) (R .spots) used (R .filled) e (heldBy (numbered a j n))
+      (held-sizes (numbered a j n) (numbered-long a j n (R .long))) few refl refl refl refl (R .bends)
+
 -- ---- the file
+module _ (s : List ℕ) (r : Counts) (c : CountsRead s r) where
+  pub counts-some : (next n at : ℕ) → r ≡ From next n at → CountsIn s next n at
+  counts-some next n at e = subst (CountsRead s) e c
+
+  pub counts-none : r ≡ Unread → readFile s ≡ refused
+  counts-none e = subst (CountsRead s) e c
+
 pub told-yes : (q : Read (List LiveCell)) (b : ℕ → Arrays) (r : Bool) → CellsTold q b r → r ≡ true → CellsHeld q b
 told-yes q b r t e = subst (CellsTold q b) e t
 

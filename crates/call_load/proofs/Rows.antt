@@ -8,8 +8,8 @@ use lib.ListN.{set}
 use Rattle.store.specs.declared.Shape.{Shape}
 use Rattle.store.specs.declared.Shape.the-variants.{Vertex, Open, Closed, Face}
 use Rattle.store.specs.View.{bendCount, cycleCount}
-use Rattle.store.specs.Index.{kindOf, startOf, endOf}
-use Rattle.append.specs.Appends.{withCell}
+use Rattle.store.specs.Index.{kindOf, shapeStart, shapeEnd}
+use Rattle.rows_new.specs.Appends.{withCell}
 use Rattle.lent.specs.Arrays.{Arrays, heldBy, normal, Lengths}
 use Rattle.lent.specs.Growing.{withRow}
 use Rattle.lent.proofs.Grown.{vertex-long, vertex-held, vertex-normal, open-long, open-held, open-normal}
@@ -17,7 +17,7 @@ use Rattle.lent.proofs.Grown.{closed-long, closed-held, closed-normal, face-lon
 use Rattle.call_load.specs.Loads.{acrossWith, upWith, RowPut}
 
 abbrev pub withShape : Arrays → Shape → Arrays
-withShape a x = withRow a (kindOf x) (startOf x) (endOf x) (bendCount x) (cycleCount x) (acrossWith (a .px) (a .count) x) (upWith (a .py) (a .count) x)
+withShape a x = withRow a (kindOf x) (shapeStart x) (shapeEnd x) (bendCount x) (cycleCount x) (acrossWith (a .px) (a .count) x) (upWith (a .py) (a .count) x)
 
 module _ (a : Arrays) (l : Lengths a) where
   pub shape-long : (x : Shape) → Lengths (withShape a x)
@@ -42,7 +42,7 @@ module _ (a : Arrays) (l : Lengths a) where
 -- ---- a row that is written, of the shape y that x is
 module _ (row i : ℕ) (x y : Shape) (e : x ≡ y) (is ks ss es bs cs : List ℕ) (xs ys : List Float) (is′ ks′ ss′ es′ bs′ cs′ : List ℕ) (xs′ ys′ : List Float)
   where
-    pub row-as : is′ ≡ set is row i → ks′ ≡ set ks row (kindOf y) → ss′ ≡ set ss row (startOf y) → es′ ≡ set es row (endOf y)
+    pub row-as : is′ ≡ set is row i → ks′ ≡ set ks row (kindOf y) → ss′ ≡ set ss row (shapeStart y) → es′ ≡ set es row (shapeEnd y)
         → bs′ ≡ set bs row (bendCount y) → cs′ ≡ set cs row (cycleCount y)
         → xs′ ≡ acrossWith xs row y → ys′ ≡ upWith ys row y → RowPut row i x is ks ss es bs cs xs ys is′ ks′ ss′ es′ bs′ cs′ xs′ ys′
     row-as e0 e1 e2 e3 e4 e5 e6 e7 =

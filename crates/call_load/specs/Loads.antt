@@ -6,23 +6,24 @@ use mathlib.Core.List.{List, []}
 use lib.Ieee.{Float}
 use lib.ListN.{length, drop, set}
 use Rattle.number.specs.Readers.{Read, got, times}
+use Rattle.number.specs.Numbers.{readNumber}
 use Rattle.number.specs.Said.{Said, done, no, Says}
-use Rattle.bends.specs.Bends.{positionsAt}
 use Rattle.complex.specs.Cells.{LiveCell}
 use Rattle.complex.specs.Decode.{readCycle}
-use Rattle.complex.specs.Sound.{cyclesMost, stepsMost, bendsMost}
+use Rattle.complex.specs.Sound.{cellsMost, cyclesMost, stepsMost, bendsMost}
 use Rattle.complex.specs.File.{readSheet, readFile}
 use Rattle.store.specs.declared.Shape.{Shape}
 use Rattle.store.specs.declared.Shape.the-variants.{Vertex, Open, Closed, Face}
-use Rattle.store.specs.Index.{kindOf, startOf, endOf}
+use Rattle.store.specs.Index.{kindOf, shapeStart, shapeEnd}
 use Rattle.store.specs.View.{sheetOf, Fits, bendCount, cycleCount}
-use Rattle.reader.specs.declared.ReadAnswer.{ReadAnswer}
-use Rattle.reader.specs.declared.Used.{Used}
-use Rattle.reader.specs.declared.Loaded.{Loaded}
-use Rattle.reader.specs.Filling.{CyclesIn, loadedSays, withBends, PartsOver}
-use Rattle.reader.specs.Outcome.{CellsIn, CellsOver, refused}
+use Rattle.file_read.specs.declared.ReadAnswer.{ReadAnswer}
+use Rattle.file_read.specs.declared.Used.{Used}
+use Rattle.file_read.specs.declared.Loaded.{Loaded}
+use Rattle.file_read.specs.Filling.{CyclesIn, loadedSays, bendsMore, PartsOver}
+use Rattle.file_read.specs.Outcome.{CellsIn, CellsOver, refused}
 use Rattle.lent.specs.Arrays.{Arrays, heldBy, normal}
-use Rattle.kind_create.specs.Comes.{BendsPut}
+use Rattle.call_load.specs.declared.Counts.{Counts}
+use Rattle.call_load.specs.declared.Counts.the-variants.{From, Refused as Unread}
 use Rattle.call_load.specs.declared.Held.{Held}
 use Rattle.call_load.specs.declared.Held.the-variants.{Cells, Refused}
 
@@ -45,31 +46,27 @@ pub record RowPut (row i : ℕ) (x : Shape) (is ks ss es bs cs : List ℕ) (xs y
     (is′ ks′ ss′ es′ bs′ cs′ : List ℕ) (xs′ ys′ : List Float) : Type 0 where
   pub ids : is′ ≡ set is row i
   pub kinds : ks′ ≡ set ks row (kindOf x)
-  pub starts : ss′ ≡ set ss row (startOf x)
-  pub ends : es′ ≡ set es row (endOf x)
+  pub starts : ss′ ≡ set ss row (shapeStart x)
+  pub ends : es′ ≡ set es row (shapeEnd x)
   pub bends : bs′ ≡ set bs row (bendCount x)
   pub counts : cs′ ≡ set cs row (cycleCount x)
   pub px : xs′ ≡ acrossWith xs row x
   pub py : ys′ ≡ upWith ys row x
 
--- ---- what follows the counts of a shape: its bends, then its cycles
-pub record PartsPut (s : List ℕ) (first : ℕ) (x : Shape) (xs ys : List Float) (counts steps : List ℕ) (used : Used)
-    (xs′ ys′ : List Float) (counts′ steps′ : List ℕ) (next : ℕ) (used′ : Used) : Type 0 where
+-- ---- what follows the counts of a shape: its bends, then its cycles, which are put into arrays
+pub record PartsPut (s : List ℕ) (first : ℕ) (x : Shape) (counts steps : List ℕ) (used : Used) (counts′ steps′ : List ℕ) (next : ℕ)
+    (used′ : Used) : Type 0 where
   pub inside : first + 16 * bendCount x ≤ length s
   pub room : used .bends + bendCount x ≤ bendsMost
-  pub bends : BendsPut xs ys (used .bends) (positionsAt s first (bendCount x)) (bendCount x) xs′ ys′
   pub filled : CyclesIn (times readCycle (cycleCount x) (drop (first + 16 * bendCount x) s))
-      s counts steps (withBends used (bendCount x)) counts′ steps′ next used′
+      s counts steps (bendsMore used (bendCount x)) counts′ steps′ next used′
 
-abbrev pub PartsStored : List ℕ → ℕ → Shape → List Float → List Float → List ℕ → List ℕ → Used
-    → List Float → List Float → List ℕ → List ℕ → Loaded → Type 0
-PartsStored s first x xs ys counts steps used xs′ ys′ counts′ steps′ r =
-    Says 10 (λ v. PartsPut s first x xs ys counts steps used xs′ ys′ counts′ steps′ (v .0) (v .1)) (PartsOver s first x used) (loadedSays r)
+abbrev pub PartsStored : List ℕ → ℕ → Shape → List ℕ → List ℕ → Used → List ℕ → List ℕ → Loaded → Type 0
+PartsStored s first x counts steps used counts′ steps′ r =
+    Says 10 (λ v. PartsPut s first x counts steps used counts′ steps′ (v .0) (v .1)) (PartsOver s first x used) (loadedSays r)
 
 -- the arrays have room for so much
-pub record RoomIn (used : Used) (xs ys : List Float) (counts steps : List ℕ) : Type 0 where
-  pub across : length xs ≡ bendsMost
-  pub up : length ys ≡ bendsMost
+pub record LoadRoom (used : Used) (counts steps : List ℕ) : Type 0 where
   pub countsSize : length counts ≡ cyclesMost
   pub stepsSize : length steps ≡ stepsMost
   pub bendsFit : used .bends ≤ bendsMost
@@ -91,6 +88,18 @@ CellsTold q b true = CellsHeld q b
 CellsTold q b false = CellsOver q
 
 -- ---- the file
+-- the next id, the number of cells and the place after them
+pub record CountsIn (s : List ℕ) (next n at : ℕ) : Type 0 where
+  pub after : List ℕ
+  pub first : readNumber s ≡ got next after
+  pub second : readNumber after ≡ got n (drop at s)
+  pub few : n ≤ cellsMost
+  pub inside : at ≤ length s
+
+abbrev pub CountsRead : List ℕ → Counts → Type 0
+CountsRead s (From next n at) = CountsIn s next n at
+CountsRead s Unread = readFile s ≡ refused
+
 -- all bytes are read as the sheet that the arrays hold
 pub record SheetIn (s : List ℕ) (b : Arrays) : Type 0 where
   pub read : readSheet s ≡ got (sheetOf (heldBy b)) []

@@ -1,14 +1,19 @@
-ghost use Prim.Native.Nat.{_<_, _≤_};
+ghost use mathlib.Core.Path.{_≡_};
+ghost use mathlib.Core.Bool.{_&&_};
+ghost use Prim.Native.Nat.{_+_, _*_, _<_, _≤_};
 ghost use lib.ListN.{length, drop};
-ghost use Rattle.number.specs.Readers.{times};
+ghost use Rattle.number.specs.Readers.{times, all};
+ghost use Rattle.coordinate.specs.Bounds.{within};
+ghost use Rattle.bends.specs.Bends.{positionsAt};
 ghost use Rattle.complex.specs.Sound.{cellsMost};
 ghost use Rattle.complex.specs.File.{readCell};
 ghost use Rattle.lent.specs.Arrays.{exit};
-ghost use Rattle.call_load.specs.Loads.{RowPut, RoomIn, PartsStored, CellsTold, SheetLoaded};
+ghost use Rattle.call_load.specs.Loads.{RowPut, LoadRoom, PartsStored, CellsTold, CountsRead, SheetLoaded};
+ghost use Rattle.call_load.specs.Bare.{exitWith, RowsTold, RowsLoaded};
+use file_read::CellFound;
+use file_read::Loaded;
+use file_read::Used;
 use number::Number;
-use reader::CellFound;
-use reader::Loaded;
-use reader::Used;
 use store::Cell;
 use store::Shape;
 
@@ -20,6 +25,24 @@ const BENDS_MOST: usize = 2048;
 // The next id and the number of cells, or the bytes are no sound drawing's file.
 pub enum Held {
     Cells(u32, usize),
+    Refused,
+}
+
+// The next id, the number of cells and whether their bends lie in bounds, or the bytes are no sound drawing's file.
+pub enum Outline {
+    Cells(u32, usize, bool),
+    Refused,
+}
+
+// What a file begins with: the next id, the number of cells and the place after them; or it is no sound drawing's.
+enum Counts {
+    From(u32, usize, usize),
+    Refused,
+}
+
+// Whether the bends of some cells lie in bounds, or the cells are no sound drawing's.
+enum Looked {
+    Bends(bool),
     Refused,
 }
 
@@ -118,39 +141,45 @@ fn put_cell(
     }
 }
 
-// The bends and the cycles of a shape, from a place on: at most one of the two has any.
+// The cycles of a shape, from a place on where its bends stand before them. There must be room and bytes for both.
 fn load_parts(
     s: &[u8],
     first: usize,
     shape: Shape,
-    bx: &mut [f64; 2048],
-    by: &mut [f64; 2048],
     cycles: &mut [u32; 512],
     steps: &mut [u32; 2048],
     used: Used,
 ) -> Loaded
     requires { ⌜ first ≤ length (now s) ⌝ }
-    requires { ⌜ RoomIn used (now bx) (now by) (now cycles) (now steps) ⌝ }
-    ensures { λ r. ⌜ PartsStored (now (s .entry)) first shape (now (bx .entry)) (now (by .entry)) (now (cycles .entry)) (now (steps .entry)) used (now (bx .exit)) (now (by .exit)) (now (cycles .exit)) (now (steps .exit)) r ⌝ }
+    requires { ⌜ LoadRoom used (now cycles) (now steps) ⌝ }
+    ensures { λ r. ⌜ PartsStored (now (s .entry)) first shape (now (cycles .entry)) (now (steps .entry)) used (now (cycles .exit)) (now (steps .exit)) r ⌝ }
 {
-    let n = store::bend_count(shape);
-    let b = store::wide(n);
+    let b = store::wide(store::bend_count(shape));
     let k = store::wide(store::cycle_count(shape));
-    let t = used.bends;
-    if BENDS_MOST - t < b {
+    if BENDS_MOST - used.bends < b {
         return Loaded::Refused;
     }
     let bytes = 16 * b;
     if s.len() - first < bytes {
         return Loaded::Refused;
     }
-    kind_create::put_bends(s, first, n, bx, by, t);
     let more = Used {
-        bends: t + b,
+        bends: used.bends + b,
         cycles: used.cycles,
         steps: used.steps,
     };
-    reader::load_cycles(s, first + bytes, k, cycles, steps, more)
+    file_read::load_cycles(s, first + bytes, k, cycles, steps, more)
+}
+
+// Whether n bends from a place on lie in bounds, and those before them do.
+fn bends_good(s: &[u8], first: usize, n: u32, good: bool) -> bool
+    requires { ⌜ first + 16 * n ≤ length (now s) ⌝ }
+    ensures { λ r. ⌜ r ≡ good && all within (positionsAt (now (s .entry)) first n) ⌝ }
+{
+    if good {
+        return bends::bends_within(s, first, n);
+    }
+    false
 }
 
 // The n cells from a place on, with nothing after them; or they are no sound drawing's.
@@ -199,13 +228,14 @@ fn load_cells(
     let mut p = at;
     let mut i: usize = 0;
     while i < n {
-        let CellFound::Begun(cell, first) = reader::head_at(s, p) else {
+        let CellFound::Begun(cell, first) = file_read::head_at(s, p) else {
             return false;
         };
         let shape = cell.shape;
-        let Loaded::Next(q, more) = load_parts(s, first, shape, bx, by, cycles, steps, used) else {
+        let Loaded::Next(q, more) = load_parts(s, first, shape, cycles, steps, used) else {
             return false;
         };
+        kernel_add::put_bends(s, first, store::bend_count(shape), bx, by, used.bends);
         put_cell(ids, kinds, starts, ends, bends, counts, px, py, i, cell);
         used = more;
         p = q;
@@ -215,6 +245,85 @@ fn load_cells(
         return false;
     }
     true
+}
+
+// The n cells from a place on, with nothing after them, without their bends, which are looked at in the bytes; or they are no sound drawing's.
+fn load_bare(
+    s: &[u8],
+    at: usize,
+    n: usize,
+    ids: &mut [u32; 256],
+    kinds: &mut [u32; 256],
+    starts: &mut [u32; 256],
+    ends: &mut [u32; 256],
+    bends: &mut [u32; 256],
+    counts: &mut [u32; 256],
+    px: &mut [f64; 256],
+    py: &mut [f64; 256],
+    cycles: &mut [u32; 512],
+    steps: &mut [u32; 2048],
+) -> Looked
+    requires { ⌜ at ≤ length (now s) ⌝ }
+    requires { ⌜ n ≤ cellsMost ⌝ }
+    ensures { λ r. ⌜ RowsTold (times readCell n (drop at (now (s .entry)))) (exitWith n ids kinds starts ends bends counts px py cycles steps) r ⌝ }
+{
+    lent_row::known(
+        0,
+        0,
+        ids,
+        kinds,
+        starts,
+        ends,
+        bends,
+        counts,
+        px,
+        py,
+        cycles,
+        steps,
+    );
+    let mut used = Used {
+        bends: 0,
+        cycles: 0,
+        steps: 0,
+    };
+    let mut good = true;
+    let mut place = at;
+    let mut i: usize = 0;
+    while i < n {
+        let CellFound::Begun(cell, first) = file_read::head_at(s, place) else {
+            return Looked::Refused;
+        };
+        let shape = cell.shape;
+        let Loaded::Next(q, more) = load_parts(s, first, shape, cycles, steps, used) else {
+            return Looked::Refused;
+        };
+        good = bends_good(s, first, store::bend_count(shape), good);
+        put_cell(ids, kinds, starts, ends, bends, counts, px, py, i, cell);
+        used = more;
+        place = q;
+        i = i + 1;
+    }
+    if place < s.len() {
+        return Looked::Refused;
+    }
+    Looked::Bends(good)
+}
+
+// What a file begins with.
+fn counts_at(bytes: &[u8]) -> Counts
+    ensures { λ r. ⌜ CountsRead (now (bytes .entry)) r ⌝ }
+{
+    let Number::Value(next, a) = number::read_number(bytes, 0) else {
+        return Counts::Refused;
+    };
+    let Number::Value(count, b) = number::read_number(bytes, a) else {
+        return Counts::Refused;
+    };
+    let n = store::wide(count);
+    if CELLS_MOST < n {
+        return Counts::Refused;
+    }
+    Counts::From(next, n, b)
 }
 
 // The drawing whose file the bytes are, sound or not, whatever the arrays held.
@@ -235,16 +344,9 @@ pub fn load(
 ) -> Held
     ensures { λ r. ⌜ SheetLoaded (now (bytes .entry)) (λ next n. exit next n ids kinds starts ends bends counts px py cycles steps bx by) r ⌝ }
 {
-    let Number::Value(next, a) = number::read_number(bytes, 0) else {
+    let Counts::From(next, n, b) = counts_at(bytes) else {
         return Held::Refused;
     };
-    let Number::Value(count, b) = number::read_number(bytes, a) else {
-        return Held::Refused;
-    };
-    let n = store::wide(count);
-    if CELLS_MOST < n {
-        return Held::Refused;
-    }
     if load_cells(
         bytes,
         b,
@@ -265,4 +367,43 @@ pub fn load(
         return Held::Cells(next, n);
     }
     Held::Refused
+}
+
+// The rows, cycles and steps of the drawing whose file the bytes are, sound or not, whatever the arrays held; its bends are only looked at.
+pub fn load_rows(
+    bytes: &[u8],
+    ids: &mut [u32; 256],
+    kinds: &mut [u32; 256],
+    starts: &mut [u32; 256],
+    ends: &mut [u32; 256],
+    bends: &mut [u32; 256],
+    counts: &mut [u32; 256],
+    px: &mut [f64; 256],
+    py: &mut [f64; 256],
+    cycles: &mut [u32; 512],
+    steps: &mut [u32; 2048],
+) -> Outline
+    ensures { λ r. ⌜ RowsLoaded (now (bytes .entry)) (λ next n xs ys. exitWith n ids kinds starts ends bends counts px py cycles steps xs ys next) r ⌝ }
+{
+    let Counts::From(next, n, b) = counts_at(bytes) else {
+        return Outline::Refused;
+    };
+    let Looked::Bends(good) = load_bare(
+        bytes,
+        b,
+        n,
+        ids,
+        kinds,
+        starts,
+        ends,
+        bends,
+        counts,
+        px,
+        py,
+        cycles,
+        steps,
+    ) else {
+        return Outline::Refused;
+    };
+    Outline::Cells(next, n, good)
 }

@@ -5,24 +5,35 @@ use mathlib.Core.Path.{_≡_, refl, sym, ap, _∙_, subst}
 use mathlib.Core.Bool.{Bool, true, false, _&&_}
 use mathlib.Core.List.{List}
 use lib.Dec.{eqb}
+use lib.Ieee.{Float}
+use lib.ListN.{take}
 use borrow.Author.Tests.{eqb-true, eqb-false, eq-eqb, ne-eqb}
+use Rattle.number.specs.Readers.{all}
+use Rattle.coordinate.specs.Bounds.{within}
 use Rattle.complex.specs.Sound.{sound}
 use Rattle.complex.specs.File.{ReadAnswer as Judgement, readFile}
 use Rattle.complex.proofs.Bools.{truth, true-of}
 use Rattle.complex.proofs.Files.{read-refused}
 use Rattle.store.specs.View.{sheetOf}
 use Rattle.sound.specs.Soundness.{soundDrawing}
-use Rattle.reader.specs.Outcome.{refused}
-use Rattle.reader.proofs.Verdict.{accepted, sound-read, unsound-read}
-use Rattle.reader.proofs.Judging.{fitting-sound}
+use Rattle.sound.proofs.Testing.{and-true, and-false}
+use Rattle.file_read.specs.Outcome.{refused}
+use Rattle.file_read.proofs.Verdict.{accepted, sound-read, unsound-read}
+use Rattle.file_read.proofs.Judging.{fitting-sound}
 use Rattle.answer.specs.declared.Totals.{Totals}
 use Rattle.lent.specs.Arrays.{Arrays, heldBy, soundArrays}
+use Rattle.lent.proofs.Sums.{bends-held}
 use Rattle.lent_sound.specs.declared.Walked.{Walked}
 use Rattle.lent_sound.specs.declared.Walked.the-variants.{Sound, Fault}
-use Rattle.entry_calls.specs.Entries.{Asked}
+use Rattle.lent_sound.specs.Walk.{walkRight}
+use Rattle.lent_sound.proofs.Whole.{sound-rows}
+use Rattle.call_asked.specs.Entries.{Asked}
 use Rattle.call_load.specs.declared.Held.{Held}
 use Rattle.call_load.specs.declared.Held.the-variants.{Cells, Refused}
+use Rattle.call_load.specs.declared.Outline.{Outline}
+use Rattle.call_load.specs.declared.Outline.the-variants.{Cells as Rowed, Refused as Unrowed}
 use Rattle.call_load.specs.Loads.{SheetIn, SheetLoaded}
+use Rattle.call_load.specs.Bare.{RowsIn, RowsLoaded}
 use Rattle.call_read.specs.Taken.{FileIn, OpenedIn, ReadIn}
 
 -- ---- what loading says
@@ -37,6 +48,9 @@ module _ (s : List ℕ) (b : ℕ → ℕ → Arrays) (r : Held) (l : SheetLoaded
 pub no-file : (s : List ℕ) → readFile s ≡ refused → readFile s .number ≡ 10
 no-file s e = ap (λ (j : Judgement). j .number) e
 
+no-number : (s : List ℕ) → readFile s ≡ refused → eqb (readFile s .number) 0 ≡ false
+no-number s e = ne-eqb (readFile s .number) 0 (λ z. let h = no-file s e in omega (arith, h, z))
+
 -- what question 10 said
 module _ (s : List ℕ) (b : Arrays) (r : Walked) (o : OpenedIn s b r) where
   pub opened-file : (t : Totals) → r ≡ Sound t → FileIn s b t
@@ -44,12 +58,6 @@ module _ (s : List ℕ) (b : Arrays) (r : Walked) (o : OpenedIn s b r) where
 
   pub opened-none : r ≡ Fault → readFile s .number ≡ 10
   opened-none e = subst (OpenedIn s b) e o
-
-  pub opened-told : (t : Totals) → r ≡ Sound t → true ≡ eqb (readFile s .number) 0
-  opened-told t e = sym (eq-eqb (readFile s .number) 0 (opened-file t e .number))
-
-  pub none-told : r ≡ Fault → false ≡ eqb (readFile s .number) 0
-  none-told e = sym (ne-eqb (readFile s .number) 0 (λ z. let h = opened-none e in omega (arith, h, z)))
 
 -- a file that is accepted is loaded
 pub no-refusal : (s : List ℕ) → eqb (readFile s .number) 0 ≡ true → readFile s ≡ refused → ⊥
@@ -86,6 +94,35 @@ module _ (s : List ℕ) (b : Arrays) (S : SheetIn s b) where
             sound = λ z. truth e;
           }
       go false e = absurd (no-refusal s y (file-fault e))
+
+-- ---- a file whose bends were only looked at
+module _ (s : List ℕ) (b : ℕ → ℕ → List Float → List Float → Arrays) (r : Outline) (l : RowsLoaded s b r) where
+  pub rows-some : (next n : ℕ) (g : Bool) → r ≡ Rowed next n g → RowsIn s (b next n) g
+  rows-some next n g e = subst (RowsLoaded s b) e l
+
+  pub rows-none : r ≡ Unrowed → false ≡ eqb (readFile s .number) 0
+  rows-none e = sym (no-number s (subst (RowsLoaded s b) e l))
+
+module _ (s : List ℕ) (b : List Float → List Float → Arrays) (g : Bool) (R : RowsIn s b g) where
+  abbrev held : Arrays
+  held = b (R .bx) (R .by)
+
+  -- its rows and its bends are all that question 1 asks about
+  rows-decide : soundArrays held ≡ g && walkRight false held
+  rows-decide =
+      sound-rows held (R .long)
+      ∙ ap (λ (t : Bool). t && walkRight false held)
+      (ap (λ (k : ℕ). all within (take k (heldBy held .bends))) (bends-held held (R .long) (R .sheet .rows)) ∙ sym (R .right))
+
+  told : (t : Bool) → soundArrays held ≡ t → t ≡ eqb (readFile s .number) 0
+  told true e = sym (eq-eqb (readFile s .number) 0 (ap (λ (j : Judgement). j .number) (file-whole s held (R .sheet) e)))
+  told false e = sym (no-number s (file-fault s held (R .sheet) e))
+
+  pub rows-right : g ≡ true → (t : Bool) → t ≡ walkRight false held → t ≡ eqb (readFile s .number) 0
+  rows-right y t e = told t (rows-decide ∙ and-true _ y ∙ sym e)
+
+  pub rows-bent : g ≡ false → false ≡ eqb (readFile s .number) 0
+  rows-bent n = told false (rows-decide ∙ and-false _ n)
 
 -- ---- a refusal
 pub not-in : (s : List ℕ) (a : Arrays) → eqb (readFile s .number) 0 ≡ false → ReadIn s a a 10

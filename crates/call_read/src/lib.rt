@@ -4,6 +4,7 @@ ghost use Rattle.complex.specs.File.{readFile};
 ghost use Rattle.lent.specs.Arrays.{entry, exit};
 ghost use Rattle.call_read.specs.Taken.{OpenedIn, ReadIn};
 use call_load::Held;
+use call_load::Outline;
 use lent_sound::Walked;
 
 // Question 10: the drawing whose file the bytes are goes into the lent arrays, and its sums are given. On a no the arrays may hold anything.
@@ -45,7 +46,7 @@ pub fn open(
     };
     *next = id;
     *count = n;
-    entry_calls::asked(
+    call_asked::asked(
         id,
         n,
         ids,
@@ -63,12 +64,10 @@ pub fn open(
     )
 }
 
-// Question 10 alone, on arrays of its own.
-fn readable(bytes: &[u8]) -> bool
+// Question 10 alone, on arrays of its own but for those of the bends, which are not looked at: bends are looked at in the bytes.
+fn readable(bytes: &[u8], bx: &[f64; 2048], by: &[f64; 2048]) -> bool
     ensures { λ r. ⌜ r ≡ eqb (readFile (now (bytes .entry)) .number) 0 ⌝ }
 {
-    let mut next: u32 = 1;
-    let mut count: usize = 0;
     let mut ids = [0u32; 256];
     let mut kinds = [0u32; 256];
     let mut starts = [0u32; 256];
@@ -79,11 +78,8 @@ fn readable(bytes: &[u8]) -> bool
     let mut py = [0.0; 256];
     let mut cycles = [0u32; 512];
     let mut steps = [0u32; 2048];
-    let mut bx = [0.0; 2048];
-    let mut by = [0.0; 2048];
-    let Walked::Sound(_) = open(
-        &mut next,
-        &mut count,
+    let Outline::Cells(next, cells, good) = call_load::load_rows(
+        bytes,
         &mut ids,
         &mut kinds,
         &mut starts,
@@ -94,13 +90,30 @@ fn readable(bytes: &[u8]) -> bool
         &mut py,
         &mut cycles,
         &mut steps,
-        &mut bx,
-        &mut by,
-        bytes,
     ) else {
         return false;
     };
-    true
+    if good {
+        let mut table = [0u8; 1024];
+        return lent_sound::rows_sound(
+            next,
+            cells,
+            &ids,
+            &kinds,
+            &starts,
+            &ends,
+            &bends,
+            &counts,
+            &px,
+            &py,
+            &cycles,
+            &steps,
+            bx,
+            by,
+            &mut table,
+        );
+    }
+    false
 }
 
 // The drawing whose file the bytes are goes into the lent arrays, and 0; or 10, and the arrays stay.
@@ -123,7 +136,7 @@ pub fn read(
 ) -> u32
     ensures { λ r. ⌜ ReadIn (now (bytes .entry)) (entry (now (next .entry)) (now (count .entry)) ids kinds starts ends bends counts px py cycles steps bx by) (exit (now (next .exit)) (now (count .exit)) ids kinds starts ends bends counts px py cycles steps bx by) r ⌝ }
 {
-    if readable(bytes) {
+    if readable(bytes, bx, by) {
         let Held::Cells(free, cells) = call_load::load(
             bytes,
             ids,

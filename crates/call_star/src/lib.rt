@@ -1,11 +1,11 @@
 ghost use mathlib.Core.Path.{_≡_};
 ghost use Rattle.complex.specs.Calls.{starCall};
 ghost use Rattle.store.specs.View.{sheetOf};
-ghost use Rattle.query.specs.Calls.{answered};
+ghost use Rattle.rows_star.specs.Calls.{starAnswered};
 ghost use Rattle.lent.specs.Arrays.{heldBy, lent, entry};
 ghost use Rattle.lent.specs.Replies.{Ready};
 use answer::Totals;
-use query::Counted;
+use rows_star::Counted;
 
 // The star of a cell: the ids, rising, of the cells whose boundary holds it, in the buffer's first places.
 pub fn star(
@@ -28,9 +28,9 @@ pub fn star(
     buffer: &mut [u32],
 ) -> Counted
     requires { ⌜ Ready (lent next count ids kinds starts ends bends counts px py cycles steps bx by) t ⌝ }
-    ensures { λ r. ⌜ answered r (now (buffer .exit)) ≡ starCall (sheetOf (heldBy (entry next count ids kinds starts ends bends counts px py cycles steps bx by))) id (now (buffer .entry)) ⌝ }
+    ensures { λ r. ⌜ starAnswered r (now (buffer .exit)) ≡ starCall (sheetOf (heldBy (entry next count ids kinds starts ends bends counts px py cycles steps bx by))) id (now (buffer .entry)) ⌝ }
 {
-    query::star_rows(
+    rows_star::star_rows(
         ids,
         kinds,
         starts,

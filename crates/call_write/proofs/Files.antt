@@ -14,17 +14,19 @@ use Rattle.complex.specs.Decode.{cycleBytes}
 use Rattle.complex.specs.File.{cellBytes, fileOf}
 use Rattle.complex.specs.Lists.{total}
 use Rattle.complex.proofs.Bools.{true-of}
-use Rattle.store.specs.View.{cyclesOf, cellsOf, sheetOf, cycleTotal, widthSum}
+use Rattle.store.specs.View.{cyclesFrom, cellsOf, sheetOf, cycleTotal, widthSum}
 use Rattle.sound.specs.Soundness.{soundDrawing}
 use Rattle.answer.specs.declared.Totals.{Totals}
-use Rattle.writer.specs.Places.{points, PointsOf, AllReady, Writable, Heads, Numbers, spellWidth, headWidth}
-use Rattle.writer.proofs.Lengths.{rings-length, counts-spell, places-spell}
-use Rattle.writer.proofs.Filing.{writable, heads-ready, rings-ready, cells-ready, cells-same, file-is, file-bytes, file-small, write-sound}
+use Rattle.file_parts.specs.Parts.{positionsFrom, SpelledNumbers}
+use Rattle.file_write.specs.Places.{PointsOf, AllReady, Writable}
+use Rattle.file_length.specs.Widths.{Heads, spellWidth, headWidth}
+use Rattle.file_length.proofs.Lengths.{rings-length, counts-spell, places-spell}
+use Rattle.file_write.proofs.Filing.{writable, heads-ready, rings-ready, cells-ready, cells-same, file-is, file-bytes, file-small, write-sound}
 use Rattle.lent.specs.Arrays.{Arrays, positionsIn, heldBy}
 use Rattle.lent.specs.Replies.{Ready}
 use Rattle.lent.proofs.Sums.{ready-drawing, ready-sizes, ready-cycles, ready-steps, ready-bends}
 
-points-same : (xs ys : List Float) → points xs ys ≡ positionsIn xs ys
+points-same : (xs ys : List Float) → positionsFrom xs ys ≡ positionsIn xs ys
 points-same [] ys = refl
 points-same (x ∷ xs) [] = refl
 points-same (x ∷ xs) (y ∷ ys) = ap (λ (l : List Position). record { x = x; y = y } ∷ l) (points-same xs ys)
@@ -43,17 +45,17 @@ module _ (a : Arrays) (t : Totals) (r : Ready a t) where
   steps-long : widthSum (take (cycleTotal (heldBy a)) (a .cycles)) ≤ length (a .steps)
   steps-long = let f = steps-few in let z = r .long .steps in omega arith
 
-  pub cycle-numbers : Numbers (a .cycles) 0 (t .cycles) × (t .cycles ≤ 2048)
+  pub cycle-numbers : SpelledNumbers (a .cycles) 0 (t .cycles) × (t .cycles ≤ 2048)
   cycle-numbers =
       let f = ready-writable .fits .cycles in
       let z = r .long .cycles in
-      subst (λ (n : ℕ). Numbers (a .cycles) 0 n × (n ≤ 2048)) (sym (ready-cycles a t r))
+      subst (λ (n : ℕ). SpelledNumbers (a .cycles) 0 n × (n ≤ 2048)) (sym (ready-cycles a t r))
       (record { room = omega arith; spelled = counts-spell (take (cycleTotal (heldBy a)) (a .cycles)) steps-few }, omega arith)
 
-  pub step-numbers : Numbers (a .steps) 0 (t .steps) × (t .steps ≤ 2048)
+  pub step-numbers : SpelledNumbers (a .steps) 0 (t .steps) × (t .steps ≤ 2048)
   step-numbers =
       let l = steps-long in
-      subst (λ (n : ℕ). Numbers (a .steps) 0 n × (n ≤ 2048)) (sym (ready-steps a t r)) (
+      subst (λ (n : ℕ). SpelledNumbers (a .steps) 0 n × (n ≤ 2048)) (sym (ready-steps a t r)) (
         record {
           room = omega arith;
           spelled = places-spell (take (cycleTotal (heldBy a)) (a .cycles)) (a .steps) l (rings-ready (heldBy a) (ready-sizes a t r) ready-writable .spelled);
@@ -68,7 +70,7 @@ module _ (a : Arrays) (t : Totals) (r : Ready a t) where
       let n = cycleTotal (heldBy a) in
       let fc : c ≡ total spellWidth (take n (a .cycles)) = ec ∙ ap (λ (m : ℕ). total spellWidth (take m (a .cycles))) (ready-cycles a t r) in
       let fs : s ≡ total spellWidth (take (widthSum (take n (a .cycles))) (a .steps)) = es ∙ ap (λ (m : ℕ). total spellWidth (take m (a .steps))) (ready-steps a t r) in
-      let g : c + s ≡ length (spread cycleBytes (cyclesOf (take n (a .cycles)) (a .steps))) = ap₂ _+_ fc fs ∙ sym (rings-length (take n (a .cycles)) (a .steps) steps-long) in
+      let g : c + s ≡ length (spread cycleBytes (cyclesFrom (take n (a .cycles)) (a .steps))) = ap₂ _+_ fc fs ∙ sym (rings-length (take n (a .cycles)) (a .steps) steps-long) in
       let b = ready-bends a t r in
       (λ i. ex i + (ey i + (eh i + (g i + 16 * b i)))) ∙ sym (file-bytes (heldBy a) (ready-sizes a t r) ready-writable)
 
@@ -83,7 +85,7 @@ module _ (a : Arrays) (t : Totals) (r : Ready a t) where
   ready-all = cells-ready (heldBy a) (ready-sizes a t r) ready-writable (a .bx) (a .by) held-points
 
   -- the next id and the count, then the cells
-  pub file-parts : fileOf (sheetOf (heldBy a)) ≡ (spell (a .next) ++ spell (a .count)) ++ spread cellBytes (cellsOf (take (a .count) (heldBy a .cells)) (cyclesOf (a .cycles) (a .steps)) (points (a .bx) (a .by)))
+  pub file-parts : fileOf (sheetOf (heldBy a)) ≡ (spell (a .next) ++ spell (a .count)) ++ spread cellBytes (cellsOf (take (a .count) (heldBy a .cells)) (cyclesFrom (a .cycles) (a .steps)) (positionsFrom (a .bx) (a .by)))
   file-parts =
       file-is (heldBy a) (ready-sizes a t r) ready-writable
       ∙ ap (λ (l : List ℕ). (spell (a .next) ++ spell (a .count)) ++ l) (sym (cells-same (heldBy a) (ready-sizes a t r) ready-writable (a .bx) (a .by) held-points))

@@ -10,7 +10,7 @@ use Rattle.store.specs.declared.Shape.the-variants.{Vertex, Open, Closed, Face}
 use Rattle.store.specs.declared.Cell.{Cell}
 use Rattle.lent.specs.Arrays.{shapeBy, positionIn}
 use Rattle.lent.proofs.Held.{cells-id, cells-shape}
-use Rattle.call_write.specs.Rows.{cellsIn, noCell}
+use Rattle.call_write.specs.Rows.{cellsIn, pastCell}
 
 shape-face : (k s e b c : ℕ) (p : Position) → (k ≡ 0 → ⊥) → (k ≡ 1 → ⊥) → (k ≡ 2 → ⊥) → Face c ≡ shapeBy k s e b c p
 shape-face zero s e b c p h g f = absurd (h refl)
@@ -23,12 +23,12 @@ module _ (is ks ss es bs cs : List ℕ) (xs ys : List Float) (i : ℕ) (h : i < 
   shapeIn j = shapeBy (getD ks j 0) (getD ss j 0) (getD es j 0) (getD bs j 0) (getD cs j 0) (positionIn xs ys j)
 
   abbrev cell : Cell
-  cell = getD (cellsIn is ks ss es bs cs xs ys) i noCell
+  cell = getD (cellsIn is ks ss es bs cs xs ys) i pastCell
 
   told : (s : Shape) → s ≡ shapeIn i → record { id = getD is i 0; shape = s } ≡ cell
   told s e =
-      let a : getD is i 0 ≡ cell .id = sym (cells-id shapeIn is i noCell h) in
-      let b : s ≡ cell .shape = e ∙ sym (cells-shape shapeIn is i noCell h) in
+      let a : getD is i 0 ≡ cell .id = sym (cells-id shapeIn is i pastCell h) in
+      let b : s ≡ cell .shape = e ∙ sym (cells-shape shapeIn is i pastCell h) in
       λ j. record { id = a j; shape = b j }
 
   abbrev shaped : ℕ → Shape

@@ -13,5 +13,5 @@ cellsIn is ks ss es bs cs xs ys =
     cellsBy (λ i. shapeBy (getD ks i 0) (getD ss i 0) (getD es i 0) (getD bs i 0) (getD cs i 0) (positionIn xs ys i)) is
 
 -- what stands for a cell past the end
-abbrev pub noCell : Cell
-noCell = record { id = 0; shape = Vertex (record { x = nan; y = nan }) }
+abbrev pub pastCell : Cell
+pastCell = record { id = 0; shape = Vertex (record { x = nan; y = nan }) }

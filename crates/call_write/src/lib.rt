@@ -6,17 +6,19 @@ ghost use Rattle.complex.specs.Calls.{writeCall};
 ghost use Rattle.complex.specs.File.{cellBytes, fileOf};
 ghost use Rattle.complex.specs.Lists.{total};
 ghost use Rattle.complex.specs.Sound.{cellsMost};
-ghost use Rattle.store.specs.View.{cyclesOf, cellsOf, sheetOf};
-ghost use Rattle.writer.specs.Places.{Put, points, AllReady, Heads, headWidth};
-ghost use Rattle.writer.specs.Writes.{answered};
+ghost use Rattle.store.specs.View.{cyclesFrom, cellsOf, sheetOf};
+ghost use Rattle.file_parts.specs.Parts.{BytesPut, positionsFrom};
+ghost use Rattle.file_write.specs.Places.{AllReady};
+ghost use Rattle.file_length.specs.Widths.{Heads, headWidth};
+ghost use Rattle.file_write.specs.Writes.{writeAnswered};
 ghost use Rattle.lent.specs.Arrays.{heldBy, lent, entry};
 ghost use Rattle.lent.specs.Replies.{Ready};
-ghost use Rattle.call_write.specs.Rows.{cellsIn, noCell};
+ghost use Rattle.call_write.specs.Rows.{cellsIn, pastCell};
 use answer::Totals;
+use file_write::Place;
+use file_write::Written;
 use store::Cell;
 use store::Shape;
-use writer::Place;
-use writer::Written;
 
 // The cell in a row.
 pub fn cell_at(
@@ -32,7 +34,7 @@ pub fn cell_at(
 ) -> Cell
     requires { ⌜ row < cellsMost ⌝ }
     requires { ⌜ length (now ids) ≡ cellsMost ⌝ }
-    ensures { λ r. ⌜ r ≡ getD (cellsIn (now (ids .entry)) (now (kinds .entry)) (now (starts .entry)) (now (ends .entry)) (now (bends .entry)) (now (counts .entry)) (now (px .entry)) (now (py .entry))) row noCell ⌝ }
+    ensures { λ r. ⌜ r ≡ getD (cellsIn (now (ids .entry)) (now (kinds .entry)) (now (starts .entry)) (now (ends .entry)) (now (bends .entry)) (now (counts .entry)) (now (px .entry)) (now (py .entry))) row pastCell ⌝ }
 {
     let id = ids[row];
     let kind = kinds[row];
@@ -86,7 +88,7 @@ fn heads(
     let mut i: usize = 0;
     while i < n {
         let c = cell_at(ids, kinds, starts, ends, bends, counts, px, py, i);
-        sum = sum + writer::head_length(c);
+        sum = sum + file_length::head_length(c);
         i = i + 1;
     }
     sum
@@ -114,8 +116,8 @@ fn file_length(
     ensures { λ r. ⌜ r ≡ length (fileOf (sheetOf (heldBy (entry next count ids kinds starts ends bends counts px py cycles steps bx by)))) ⌝ }
 {
     let h = heads(ids, kinds, starts, ends, bends, counts, px, py, count);
-    let c = writer::widths(cycles, t.cycles);
-    let s = writer::widths(steps, t.steps);
+    let c = file_length::widths(cycles, t.cycles);
+    let s = file_length::widths(steps, t.steps);
     let a = number::number_width(next);
     let b = number::number_width(count as u32);
     a + (b + (h + ((c + s) + 16 * t.bends)))
@@ -140,8 +142,8 @@ fn put_cells(
     start: usize,
 ) -> usize
     requires { ⌜ AllReady (cellsIn (now ids) (now kinds) (now starts) (now ends) (now bends) (now counts) (now px) (now py)) n (now bx) (now by) (now cycles) (now steps) ⌝ }
-    requires { ⌜ start + length (spread cellBytes (cellsOf (take n (cellsIn (now ids) (now kinds) (now starts) (now ends) (now bends) (now counts) (now px) (now py))) (cyclesOf (now cycles) (now steps)) (points (now bx) (now by)))) ≤ length (now buffer) ⌝ }
-    ensures { λ r. ⌜ Put (now (buffer .entry)) start (spread cellBytes (cellsOf (take n (cellsIn (now (ids .entry)) (now (kinds .entry)) (now (starts .entry)) (now (ends .entry)) (now (bends .entry)) (now (counts .entry)) (now (px .entry)) (now (py .entry)))) (cyclesOf (now (cycles .entry)) (now (steps .entry))) (points (now (bx .entry)) (now (by .entry))))) (now (buffer .exit)) r ⌝ }
+    requires { ⌜ start + length (spread cellBytes (cellsOf (take n (cellsIn (now ids) (now kinds) (now starts) (now ends) (now bends) (now counts) (now px) (now py))) (cyclesFrom (now cycles) (now steps)) (positionsFrom (now bx) (now by)))) ≤ length (now buffer) ⌝ }
+    ensures { λ r. ⌜ BytesPut (now (buffer .entry)) start (spread cellBytes (cellsOf (take n (cellsIn (now (ids .entry)) (now (kinds .entry)) (now (starts .entry)) (now (ends .entry)) (now (bends .entry)) (now (counts .entry)) (now (px .entry)) (now (py .entry)))) (cyclesFrom (now (cycles .entry)) (now (steps .entry))) (positionsFrom (now (bx .entry)) (now (by .entry))))) (now (buffer .exit)) r ⌝ }
 {
     let mut at = start;
     let mut place = Place {
@@ -152,9 +154,9 @@ fn put_cells(
     let mut i: usize = 0;
     while i < n {
         let c = cell_at(ids, kinds, starts, ends, bends, counts, px, py, i);
-        at += writer::put_cell(c, place, bx, by, cycles, steps, &mut buffer[at..]);
+        at += file_write::put_cell(c, place, bx, by, cycles, steps, &mut buffer[at..]);
         let s = c.shape;
-        place = writer::place_after(s, cycles, place);
+        place = file_write::place_after(s, cycles, place);
         i = i + 1;
     }
     at
@@ -181,7 +183,7 @@ pub fn write(
     buffer: &mut [u8],
 ) -> Written
     requires { ⌜ Ready (lent next count ids kinds starts ends bends counts px py cycles steps bx by) t ⌝ }
-    ensures { λ r. ⌜ answered r (now (buffer .exit)) ≡ writeCall (sheetOf (heldBy (entry next count ids kinds starts ends bends counts px py cycles steps bx by))) (now (buffer .entry)) ⌝ }
+    ensures { λ r. ⌜ writeAnswered r (now (buffer .exit)) ≡ writeCall (sheetOf (heldBy (entry next count ids kinds starts ends bends counts px py cycles steps bx by))) (now (buffer .entry)) ⌝ }
 {
     let length = file_length(
         next,
@@ -206,7 +208,7 @@ pub fn write(
             count: length,
         };
     }
-    let at = writer::put_two(next, count as u32, buffer, 0);
+    let at = file_parts::put_two(next, count as u32, buffer, 0);
     let end = put_cells(
         ids,
         kinds,

@@ -14,7 +14,7 @@ use Rattle.number.proofs.Laws.{not-bad, got-thing, got-rest, read-spell, spell-
 use Rattle.number.proofs.Counted.{Each, each-all, times-length, times-back, counted-back, times-from, counted-from}
 use Rattle.coordinate.specs.declared.Position.{Position}
 use Rattle.coordinate.specs.Bounds.{within}
-use Rattle.coordinate.specs.Positions.{Fits, readPosition, positionBytes}
+use Rattle.coordinate.specs.Positions.{FloatFits, readPosition, positionBytes}
 use Rattle.coordinate.proofs.Laws.{read-position, position-read}
 use Rattle.bends.specs.Bends.{readBends, bendBytes}
 use Rattle.bends.proofs.Laws.{bends-back, bends-from}
@@ -60,10 +60,10 @@ CycleHeld (lone v) = v < numbersEnd
 CycleHeld (path hs) = (0 < length hs) × (length hs < numbersEnd) × Each StepHeld hs
 
 abbrev pub BendsHeld : List Position → Type 0
-BendsHeld bs = (length bs < numbersEnd) × Each Fits bs
+BendsHeld bs = (length bs < numbersEnd) × Each FloatFits bs
 
 abbrev pub FigureHeld : Figure → Type 0
-FigureHeld (vertex p) = Fits p
+FigureHeld (vertex p) = FloatFits p
 FigureHeld (openEdge a b bs) = (a < numbersEnd) × (b < numbersEnd) × BendsHeld bs
 FigureHeld (closedEdge bs) = BendsHeld bs
 FigureHeld (face ks) = (length ks < numbersEnd) × Each CycleHeld ks

@@ -15,7 +15,7 @@ use Rattle.number.proofs.Laws.{lt-or-le}
 use Rattle.number.proofs.Counted.{Each}
 use Rattle.coordinate.specs.declared.Position.{Position}
 use Rattle.coordinate.specs.Bounds.{within}
-use Rattle.coordinate.specs.Positions.{Fits}
+use Rattle.coordinate.specs.Positions.{FloatFits}
 use Rattle.complex.specs.Lists.{all, total, rising}
 use Rattle.complex.specs.Cells.{Halfedge, Cycle, lone, path, Figure, vertex, openEdge, closedEdge, face, LiveCell, Sheet, empty, Look, lookup, ids, isVertex, isOpen, isClosed, same, headOf}
 use Rattle.complex.specs.Sound.{idsEnd, Walk, joins, cycleOk, figureOk, cellsMost, cyclesMost, stepsMost, bendsMost, stepCount, cyclesIn, stepsIn, bendsIn, over, figuresOk, sound, double, figureDouble, doubles}
@@ -39,7 +39,7 @@ step-held h l = go (h .backward)
 bends-held : (bs : List Position) → T (all double bs) → length bs ≤ bendsMost → BendsHeld bs
 bends-held bs d l = (omega arith, go bs d)
   where
-    go : (ps : List Position) → T (all double ps) → Each Fits ps
+    go : (ps : List Position) → T (all double ps) → Each FloatFits ps
     go [] t = tt
     go (p ∷ ps) t = let b = both (double p) (all double ps) t in (double-fits p (b .0), go ps (b .1))
 

@@ -11,7 +11,7 @@ use Rattle.number.specs.Numbers.{readNumber, counted}
 use Rattle.number.proofs.Laws.{not-bad, got-thing}
 use Rattle.number.proofs.Counted.{Each, all-each, times-cases, counted-cases}
 use Rattle.coordinate.specs.declared.Position.{Position}
-use Rattle.coordinate.specs.Positions.{Fits, readPosition}
+use Rattle.coordinate.specs.Positions.{FloatFits, readPosition}
 use Rattle.coordinate.proofs.Laws.{position-fits}
 use Rattle.bends.specs.Bends.{readBends}
 use Rattle.complex.specs.Lists.{all, one}
@@ -24,11 +24,11 @@ use Rattle.complex.proofs.Bools.{both, pair}
 use Rattle.complex.proofs.FileReaders.{then-from}
 
 -- ---- an f64 as a test and as a type
-pub fits-double : (p : Position) → Fits p → T (double p)
+pub fits-double : (p : Position) → FloatFits p → T (double p)
 unfolding double
 fits-double p f = pair (fits binary64 (p .x)) (fits binary64 (p .y)) (f .0) (f .1)
 
-pub double-fits : (p : Position) → T (double p) → Fits p
+pub double-fits : (p : Position) → T (double p) → FloatFits p
 unfolding double
 double-fits p t = both (fits binary64 (p .x)) (fits binary64 (p .y)) t
 

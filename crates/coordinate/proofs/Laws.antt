@@ -18,7 +18,7 @@ use Rattle.number.proofs.Bytes.{Bytes, bytes-drop}
 use Rattle.number.proofs.Laws.{lt-or-le, done-two}
 use Rattle.coordinate.specs.declared.Position.{Position}
 use Rattle.coordinate.specs.Bounds.{within, half, middle}
-use Rattle.coordinate.specs.Positions.{valueOf, bytesOf, coordinateIn, readCoordinate, coordinateBytes, Fits, positionAt, readPosition, positionBytes, locatedAt}
+use Rattle.coordinate.specs.Positions.{valueOf, bytesOf, coordinateIn, readCoordinate, coordinateBytes, FloatFits, positionAt, readPosition, positionBytes, locatedAt}
 use Rattle.coordinate.proofs.Bytes.{value-bytes, value-lt, bytes-value}
 use Rattle.coordinate.proofs.Within.{within-not-nan}
 
@@ -136,13 +136,13 @@ read-parts s t p e = ⊎-elim short long (lt-or-le (length s) 16)
     short : length s < 16 → (16 ≤ length s) × (p ≡ positionAt s 0) × (t ≡ drop 16 s)
     short h = let l = position-none s h in clash (cc)
 
-pub position-fits : (s t : List ℕ) (p : Position) → readPosition s ≡ got p t → Fits p
-position-fits s t p e = subst Fits (sym (read-parts s t p e .1)) (coordinate-fits s, coordinate-fits (drop 8 s))
+pub position-fits : (s t : List ℕ) (p : Position) → readPosition s ≡ got p t → FloatFits p
+position-fits s t p e = subst FloatFits (sym (read-parts s t p e .1)) (coordinate-fits s, coordinate-fits (drop 8 s))
 
-pub at-fits : (s : List ℕ) (at : ℕ) → Fits (positionAt s at)
+pub at-fits : (s : List ℕ) (at : ℕ) → FloatFits (positionAt s at)
 at-fits s at = (coordinate-fits (drop at s), coordinate-fits (drop (at + 8) s))
 
-pub middle-fits : (p q : Position) → Fits (middle p q)
+pub middle-fits : (p q : Position) → FloatFits (middle p q)
 unfolding middle
 middle-fits p q = (mul-fits binary64 (add binary64 (p .x) (q .x)) half, mul-fits binary64 (add binary64 (p .y) (q .y)) half)
 
@@ -156,7 +156,7 @@ read-coordinate x t f =
     let e : length (coordinateBytes x ++ t) ≡ 8 + length t = length-append (coordinateBytes x) t ∙ ap (λ (n : ℕ). n + length t) (eight-bytes x) in
     simp (le-leb 8 (length (coordinateBytes x ++ t)) (omega arith), coordinate-back x t f, after-eight x t)
 
-pub read-position : (p : Position) (t : List ℕ) → Fits p → readPosition (positionBytes p ++ t) ≡ got p t
+pub read-position : (p : Position) (t : List ℕ) → FloatFits p → readPosition (positionBytes p ++ t) ≡ got p t
 read-position p t f =
     rw append-assoc
     (simp (read-coordinate (p .x) (coordinateBytes (p .y) ++ t) (f .0), read-coordinate (p .y) t (f .1)))
@@ -178,7 +178,7 @@ position-read s t p B e w =
     cc
 
 -- positions with the same bytes are one position
-pub same-bytes : (p q : Position) → Fits p → Fits q → positionBytes p ≡ positionBytes q → p ≡ q
+pub same-bytes : (p q : Position) → FloatFits p → FloatFits q → positionBytes p ≡ positionBytes q → p ≡ q
 same-bytes p q f g e =
     let a = read-position p [] f in
     let b = read-position q [] g in

@@ -35,8 +35,8 @@ coordinateBytes x = bytesOf 8 (toBits binary64 x)
 
 -- ---- positions
 -- both coordinates are values that an f64 can hold
-abbrev pub Fits : Position → Type 0
-Fits p = T (fits binary64 (p .x)) × T (fits binary64 (p .y))
+abbrev pub FloatFits : Position → Type 0
+FloatFits p = T (fits binary64 (p .x)) × T (fits binary64 (p .y))
 
 -- the position that stands at a place
 abbrev pub positionAt : List ℕ → ℕ → Position

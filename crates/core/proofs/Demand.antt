@@ -14,9 +14,10 @@ use Rattle.store.specs.declared.Drawing.{Drawing}
 use Rattle.store.specs.View.{sheetOf}
 use Rattle.sound.specs.Soundness.{soundDrawing}
 use Rattle.sound.proofs.Meaning.{sound-sheet}
-use Rattle.query.proofs.Answers.{star-of-sheet, euler-of-sheet}
+use Rattle.rows_star.proofs.Answers.{star-of-sheet}
+use Rattle.rows_euler.proofs.Meaning.{euler-of-sheet}
 use Rattle.answer.specs.Answers.{saidBy}
-use Rattle.core.specs.Entries.{Commanded}
+use Rattle.struct_command.specs.Entries.{Commanded}
 use Rattle.core.specs.Demands.{Call, calls, Ends, EntriesDemand3}
 
 right : Right calls

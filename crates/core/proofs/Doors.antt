@@ -1,94 +1,32 @@
 -- What a call on the arrays that a struct was taken apart into says of the struct. Assumes nothing.
 use Prim.Native.Nat.{ℕ}
-use mathlib.Core.Path.{_≡_, refl, sym, ap, _∙_, subst}
-use mathlib.Core.Bool.{Bool, true, false, cond}
+use mathlib.Core.Path.{_≡_}
 use mathlib.Core.List.{List}
-use lib.Dec.{T, eqb}
 use lib.IntN.{pos}
-use borrow.Author.Tests.{eqb-true, eqb-false}
-use Rattle.complex.specs.Answer.{no, command, rest}
+use Rattle.complex.specs.Answer.{rest}
 use Rattle.complex.specs.Calls.{unfilled, starCall, eulerCall, writeCall}
-use Rattle.complex.specs.File.{ReadAnswer as Judgement}
-use Rattle.complex.proofs.Files.{read-refused}
 use Rattle.store.specs.declared.Drawing.{Drawing}
 use Rattle.store.specs.View.{sheetOf}
-use Rattle.sound.specs.Soundness.{soundDrawing}
-use Rattle.sound.proofs.Meaning.{sound-fits}
-use Rattle.query.specs.Calls.{starOf, eulerOf}
-use Rattle.writer.specs.Writes.{writeOf}
-use Rattle.reader.specs.declared.ReadAnswer.{ReadAnswer}
-use Rattle.reader.specs.Outcome.{FileRead}
-use Rattle.answer.specs.declared.Answer.{Answer}
-use Rattle.lent.specs.Arrays.{Arrays, heldBy, soundArrays}
-use Rattle.lent.specs.declared.Line.{Line}
-use Rattle.lent.specs.Replies.{answerBy}
-use Rattle.lent.proofs.Replies.{drawing-of}
-use Rattle.call_read.specs.Taken.{ReadIn}
-use Rattle.entry_calls.specs.Entries.{EmptyIn, restOn, starOn, eulerOn, writeOn}
-use Rattle.entry_command.specs.Commands.{commandIn, CommandedIn}
+use Rattle.rows_star.specs.Calls.{starOf}
+use Rattle.rows_euler.specs.Calls.{eulerOf}
+use Rattle.file_write.specs.Writes.{writeOf}
+use Rattle.lent.specs.Arrays.{Arrays}
+use Rattle.call_asked.specs.Entries.{restOn, starOn, eulerOn, writeOn}
 use Rattle.door.specs.Apart.{Apart}
-use Rattle.door.proofs.Sound.{sound-apart}
-use Rattle.core.specs.Entries.{restOf, commandOn, Commanded}
+use Rattle.struct_command.proofs.Doors.{same-call}
+use Rattle.core.specs.Entries.{restOf}
 
 module _ (d : Drawing) (a : Arrays) (h : Apart d a) where
-  same-sound : soundArrays a ≡ soundDrawing d
-  same-sound = sound-apart a d (h .rows) (h .held)
-
-  -- what is f of a sound drawing and g of another, asked of the arrays, is asked of the struct
-  same-call : {A : Type 0} (f g : Drawing → A)
-      → cond (soundArrays a) (f (heldBy a)) (g (heldBy a)) ≡ cond (soundDrawing d) (f d) (g d)
-  same-call {A} f g =
-      ap (λ (b : Bool). cond b (f (heldBy a)) (g (heldBy a))) same-sound ∙ ap (λ (x : Drawing). cond (soundDrawing d) (f x) (g x)) (h .held)
-
   pub rest-apart : (bytes : List ℕ) → restOn a bytes ≡ restOf d bytes
-  rest-apart bytes = same-call (λ x. rest (sheetOf x) bytes) (λ x. bytes)
+  rest-apart bytes = same-call d a h (λ x. rest (sheetOf x) bytes) (λ x. bytes)
 
   pub star-apart : (i : ℕ) (buffer : List ℕ) → starOn a i buffer ≡ starOf d i buffer
   unfolding starOf
-  star-apart i buffer = same-call (λ x. starCall (sheetOf x) i buffer) (λ x. unfilled 1 buffer)
+  star-apart i buffer = same-call d a h (λ x. starCall (sheetOf x) i buffer) (λ x. unfilled 1 buffer)
 
   pub euler-apart : eulerOn a ≡ eulerOf d
   unfolding eulerOf
-  euler-apart = same-call (λ x. eulerCall (sheetOf x)) (λ x. record { number = 1; value = pos 0 })
+  euler-apart = same-call d a h (λ x. eulerCall (sheetOf x)) (λ x. record { number = 1; value = pos 0 })
 
   pub write-apart : (buffer : List ℕ) → writeOn a buffer ≡ writeOf d buffer
-  write-apart buffer = same-call (λ x. writeCall (sheetOf x) buffer) (λ x. unfilled 1 buffer)
-
-  command-apart : (bytes : List ℕ) → commandIn a bytes ≡ commandOn d bytes
-  command-apart bytes = same-call (λ x. command (sheetOf x) bytes) (λ x. no 1 (sheetOf x))
-
-  -- the line and the struct that the arrays hold afterwards
-  pub commanded : (bytes : List ℕ) (b : Arrays) (l : Line) (r : Answer) → CommandedIn a bytes b l → r ≡ answerBy l (heldBy b) → Commanded d bytes r
-  commanded bytes b l r o e =
-      subst (Commanded d bytes) (sym e)
-      record {
-        said = o .said ∙ command-apart bytes;
-        back = λ z. ap heldBy (o .back z) ∙ h .held;
-        sound = λ w. drawing-of b (o .sound (subst T (sym same-sound) w));
-      }
-
--- ---- a file
-module _ (s : List ℕ) (a b : Arrays) (n : ℕ) (o : ReadIn s a b n) (z : EmptyIn a) where
-  abbrev answer : ReadAnswer
-  answer = record { number = n; drawing = heldBy b }
-
-  -- from arrays that hold the empty drawing: on a no it is given
-  in-file : FileRead s answer
-  in-file = go (eqb n 0) refl
-    where
-      go : (t : Bool) → eqb n 0 ≡ t → FileRead s answer
-      go true e =
-          let k = eqb-true n 0 e in
-          record { number = o .number; sheet = o .sheet k; fits = sound-fits (heldBy b) (drawing-of b (o .sound k)) }
-      go false e =
-          let k = eqb-false n 0 e in
-          let f = read-refused s (λ y. k (o .number ∙ y)) in
-          let g : heldBy b ≡ heldBy a = ap heldBy (o .back k) in
-          record {
-            number = o .number;
-            sheet = ap sheetOf g ∙ z .sheet ∙ sym (ap (λ (j : Judgement). j .sheet) f);
-            fits = sound-fits (heldBy b) (subst (λ (x : Drawing). T (soundDrawing x)) (sym g) (drawing-of a (z .sound)));
-          }
-
-  pub file-read : (x : Drawing) → x ≡ heldBy b → FileRead s (record { number = n; drawing = x })
-  file-read x e = subst (λ (y : Drawing). FileRead s (record { number = n; drawing = y })) (sym e) in-file
+  write-apart buffer = same-call d a h (λ x. writeCall (sheetOf x) buffer) (λ x. unfilled 1 buffer)

@@ -8,9 +8,11 @@ use Rattle.demands.specs.Lists as lists
 use Rattle.store.specs.declared.Drawing.{Drawing}
 use Rattle.store.specs.View.{sheetOf}
 use Rattle.sound.specs.Soundness.{soundDrawing}
-use Rattle.query.specs.Calls.{starOf, eulerOf}
+use Rattle.rows_star.specs.Calls.{starOf}
+use Rattle.rows_euler.specs.Calls.{eulerOf}
 use Rattle.answer.specs.declared.Answer.{Answer}
-use Rattle.core.specs.Entries.{Commanded, Empty}
+use Rattle.struct_empty.specs.Entries.{Empty}
+use Rattle.struct_command.specs.Entries.{Commanded}
 
 -- any bytes, with what the entry answered to them
 pub record Call : Type 0 where

@@ -1,111 +1,32 @@
 // The calls that a caller makes. Each takes any struct and any bytes, and asks nothing of them beforehand. A struct is taken apart into
 // arrays, the call is made on the arrays, and the struct is put together again.
 ghost use mathlib.Core.Path.{_≡_};
-ghost use Rattle.query.specs.Calls.{answered as queried, starOf, eulerAnswered, eulerOf};
-ghost use Rattle.writer.specs.Writes.{answered as written, writeOf};
-ghost use Rattle.reader.specs.Outcome.{FileRead};
-ghost use Rattle.core.specs.Entries.{restOf, Commanded, Empty};
+ghost use Rattle.rows_star.specs.Calls.{starAnswered as queried, starOf};
+ghost use Rattle.rows_euler.specs.Calls.{eulerAnswered, eulerOf};
+ghost use Rattle.file_write.specs.Writes.{writeAnswered as written, writeOf};
+ghost use Rattle.file_read.specs.Outcome.{FileRead};
+ghost use Rattle.struct_empty.specs.Entries.{Empty};
+ghost use Rattle.struct_command.specs.Entries.{Commanded};
+ghost use Rattle.core.specs.Entries.{restOf};
 use answer::Answer;
-use coordinate::Position;
-use query::Counted;
-use query::EulerNumber;
-use reader::ReadAnswer;
-use store::Cell;
+use file_read::ReadAnswer;
+use file_write::Written;
+use rows_euler::EulerNumber;
+use rows_star::Counted;
 use store::Drawing;
-use store::Shape;
-use writer::Written;
 
 // A drawing with next id 1 and no cell.
 pub fn empty() -> Drawing
     ensures { λ r. ⌜ Empty r ⌝ }
 {
-    let p = Position { x: 0.0, y: 0.0 };
-    Drawing {
-        next: 1,
-        count: 0,
-        cells: [Cell {
-            id: 0,
-            shape: Shape::Vertex(p),
-        }; 256],
-        cycles: [0; 512],
-        steps: [0; 2048],
-        bends: [p; 2048],
-    }
+    struct_empty::empty()
 }
 
 // The command at the front of the script: the number of the first no, or 0; the new and the removed; the drawing.
 pub fn command(d: Drawing, script: &[u8]) -> Answer
     ensures { λ r. ⌜ Commanded d (now (script .entry)) r ⌝ }
 {
-    let mut next = d.next;
-    let mut count = d.count;
-    let mut ids = [0u32; 256];
-    let mut kinds = [0u32; 256];
-    let mut starts = [0u32; 256];
-    let mut ends = [0u32; 256];
-    let mut bends = [0u32; 256];
-    let mut counts = [0u32; 256];
-    let mut px = [0.0; 256];
-    let mut py = [0.0; 256];
-    let mut cycles = [0u32; 512];
-    let mut steps = [0u32; 2048];
-    let mut bx = [0.0; 2048];
-    let mut by = [0.0; 2048];
-    door::take_apart(
-        d,
-        &mut ids,
-        &mut kinds,
-        &mut starts,
-        &mut ends,
-        &mut bends,
-        &mut counts,
-        &mut px,
-        &mut py,
-        &mut cycles,
-        &mut steps,
-        &mut bx,
-        &mut by,
-    );
-    let l = entry_command::command(
-        &mut next,
-        &mut count,
-        &mut ids,
-        &mut kinds,
-        &mut starts,
-        &mut ends,
-        &mut bends,
-        &mut counts,
-        &mut px,
-        &mut py,
-        &mut cycles,
-        &mut steps,
-        &mut bx,
-        &mut by,
-        script,
-    );
-    let e = door::put_together(
-        next,
-        count,
-        &ids,
-        &kinds,
-        &starts,
-        &ends,
-        &bends,
-        &counts,
-        &px,
-        &py,
-        &cycles,
-        &steps,
-        &bx,
-        &by,
-    );
-    Answer {
-        number: l.number,
-        first: l.first,
-        new: l.new,
-        removed: l.removed,
-        drawing: e,
-    }
+    struct_command::command(d, script)
 }
 
 // The bytes after the command at the front of the script, or all of them at 1 and 2: a part of the caller's slice.
@@ -139,7 +60,7 @@ pub fn rest(d: Drawing, script: &[u8]) -> &[u8]
         &mut bx,
         &mut by,
     );
-    entry_calls::rest(
+    entry_rest::rest(
         d.next,
         d.count,
         &ids,
@@ -189,7 +110,7 @@ pub fn star(d: Drawing, id: u32, buffer: &mut [u32]) -> Counted
         &mut bx,
         &mut by,
     );
-    entry_calls::star(
+    entry_star::star(
         d.next,
         d.count,
         &ids,
@@ -239,7 +160,7 @@ pub fn euler(d: Drawing) -> EulerNumber
         &mut bx,
         &mut by,
     );
-    entry_calls::euler(
+    entry_euler::euler(
         d.next,
         d.count,
         &ids,
@@ -288,7 +209,7 @@ pub fn write(d: Drawing, buffer: &mut [u8]) -> Written
         &mut bx,
         &mut by,
     );
-    entry_calls::write(
+    entry_write::write(
         d.next,
         d.count,
         &ids,
@@ -311,52 +232,5 @@ pub fn write(d: Drawing, buffer: &mut [u8]) -> Written
 pub fn read(bytes: &[u8]) -> ReadAnswer
     ensures { λ r. ⌜ FileRead (now (bytes .entry)) r ⌝ }
 {
-    let mut next: u32 = 1;
-    let mut count: usize = 0;
-    let mut ids = [0u32; 256];
-    let mut kinds = [0u32; 256];
-    let mut starts = [0u32; 256];
-    let mut ends = [0u32; 256];
-    let mut bends = [0u32; 256];
-    let mut counts = [0u32; 256];
-    let mut px = [0.0; 256];
-    let mut py = [0.0; 256];
-    let mut cycles = [0u32; 512];
-    let mut steps = [0u32; 2048];
-    let mut bx = [0.0; 2048];
-    let mut by = [0.0; 2048];
-    let number = call_read::read(
-        &mut next,
-        &mut count,
-        &mut ids,
-        &mut kinds,
-        &mut starts,
-        &mut ends,
-        &mut bends,
-        &mut counts,
-        &mut px,
-        &mut py,
-        &mut cycles,
-        &mut steps,
-        &mut bx,
-        &mut by,
-        bytes,
-    );
-    let drawing = door::put_together(
-        next,
-        count,
-        &ids,
-        &kinds,
-        &starts,
-        &ends,
-        &bends,
-        &counts,
-        &px,
-        &py,
-        &cycles,
-        &steps,
-        &bx,
-        &by,
-    );
-    ReadAnswer { number, drawing }
+    struct_read::read(bytes)
 }

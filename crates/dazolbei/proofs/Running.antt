@@ -9,10 +9,10 @@ use lib.ListN.{length}
 use Rattle.complex.proofs.Bools.{true-of}
 use Rattle.store.specs.View.{sheetOf}
 use Rattle.lent.specs.Arrays.{Arrays, heldBy, soundArrays}
-use Rattle.entry_run.specs.Told.{toldOf, front}
+use Rattle.entry_told.specs.Told.{toldOf, front}
 use Rattle.entry_run.specs.Runs.{RanIn}
-use Rattle.call_files.specs.Runs.{linesFor}
-use Rattle.dazolbei.specs.Blocks.{BlockAnswer, blockAs, blockDone, runFrom, runOn, RunIn}
+use Rattle.entry_room.specs.Rooms.{linesFor}
+use Rattle.dazolbei.specs.Blocks.{BlockAnswer, blockAs, blockDone, blockRun, runOn, RunIn}
 
 module _ (a : Arrays) (script lines : List ℕ) where
   nine : Bool → BlockAnswer
@@ -24,14 +24,14 @@ module _ (a : Arrays) (script lines : List ℕ) where
 
   pub run-unsound : soundArrays a ≡ false → RunIn a script lines a lines 1 0
   run-unsound h =
-      stays 1 (sym (ap (λ (b : Bool). cond b (runFrom (sheetOf (heldBy a)) script lines) (blockAs 1 lines 0 (sheetOf (heldBy a)))) h))
+      stays 1 (sym (ap (λ (b : Bool). cond b (blockRun (sheetOf (heldBy a)) script lines) (blockAs 1 lines 0 (sheetOf (heldBy a)))) h))
 
   module _ (w : T (soundArrays a)) where
     asked : (b : Bool) → linesFor (length script) (length lines) ≡ b → nine b ≡ runOn a script lines
     unfolding nine
     asked b q =
         ap nine (sym q)
-        ∙ sym (ap (λ (x : Bool). cond x (runFrom (sheetOf (heldBy a)) script lines) (blockAs 1 lines 0 (sheetOf (heldBy a)))) (true-of (soundArrays a) w))
+        ∙ sym (ap (λ (x : Bool). cond x (blockRun (sheetOf (heldBy a)) script lines) (blockAs 1 lines 0 (sheetOf (heldBy a)))) (true-of (soundArrays a) w))
 
     pub run-short : linesFor (length script) (length lines) ≡ false → RunIn a script lines a lines 9 0
     unfolding nine

@@ -9,8 +9,8 @@ use Rattle.complex.specs.Cells.{Sheet}
 use Rattle.store.specs.View.{sheetOf}
 use Rattle.lent.specs.Arrays.{Arrays, heldBy, soundArrays}
 use Rattle.lent.specs.declared.Line.{Line}
-use Rattle.entry_run.specs.Told.{Told, toldOf, front}
-use Rattle.call_files.specs.Runs.{linesFor}
+use Rattle.entry_told.specs.Told.{Told, toldOf, front}
+use Rattle.entry_room.specs.Rooms.{linesFor}
 
 -- the four numbers of a command
 abbrev pub lineAs : ℕ → ℕ → ℕ → ℕ → Line
@@ -30,13 +30,13 @@ abbrev pub blockDone : Told → List ℕ → BlockAnswer
 blockDone t lines = blockAs 0 (front (t .numbers) lines) (t .commands) (t .sheet)
 
 -- a run on a block that holds the sound drawing s asks 9
-abbrev pub runFrom : Sheet → List ℕ → List ℕ → BlockAnswer
-runFrom s script lines = cond (linesFor (length script) (length lines)) (blockDone (toldOf s script) lines) (blockAs 9 lines 0 s)
+abbrev pub blockRun : Sheet → List ℕ → List ℕ → BlockAnswer
+blockRun s script lines = cond (linesFor (length script) (length lines)) (blockDone (toldOf s script) lines) (blockAs 9 lines 0 s)
 
 -- a run asks 1, 9
 abbrev pub runOn : Arrays → List ℕ → List ℕ → BlockAnswer
 runOn a script lines =
-    cond (soundArrays a) (runFrom (sheetOf (heldBy a)) script lines) (blockAs 1 lines 0 (sheetOf (heldBy a)))
+    cond (soundArrays a) (blockRun (sheetOf (heldBy a)) script lines) (blockAs 1 lines 0 (sheetOf (heldBy a)))
 
 -- the number r, the lines, the count n and the block b answer a script on the block a: what the definitions give; on a no the very
 -- block; of a sound block a sound one

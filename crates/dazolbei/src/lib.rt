@@ -5,10 +5,10 @@ ghost use lib.ListN.{length};
 ghost use Rattle.complex.specs.File.{readFile};
 ghost use Rattle.lent.specs.Arrays.{entry, exit};
 ghost use Rattle.call_read.specs.Taken.{ReadIn};
-ghost use Rattle.entry_calls.specs.Entries.{Begun, restOn, starOn, eulerOn, writeOn};
+ghost use Rattle.call_asked.specs.Entries.{Begun, restOn, starOn, eulerOn, writeOn};
 ghost use Rattle.entry_command.specs.Commands.{CommandedIn};
-ghost use Rattle.call_files.specs.Calls.{filledAs, starAt, eulerAs, eulerAt, again};
-ghost use Rattle.call_files.specs.Runs.{runAs, runAt};
+ghost use Rattle.entry_files.specs.Calls.{filledAs, starAt, eulerAs, eulerAt, again};
+ghost use Rattle.entry_files.specs.Runs.{runAs, runAt};
 ghost use Rattle.dazolbei.specs.Blocks.{lineAs, RunIn};
 use lent_sound::Walked;
 
@@ -19,7 +19,7 @@ use lent_sound::Walked;
 pub extern "C" fn dz_open(file: &[u8]) -> u32
     ensures { λ r. ⌜ r ≡ readFile (now (file .entry)) .number ⌝ }
 {
-    call_files::open_number(file)
+    entry_files::open_number(file)
 }
 
 // The ids, rising, of the cells whose boundary holds the cell, in the buffer's first places.
@@ -27,7 +27,7 @@ pub extern "C" fn dz_open(file: &[u8]) -> u32
 pub extern "C" fn dz_star(file: &[u8], id: u32, buffer: &mut [u32], count: &mut u32) -> u32
     ensures { λ r. ⌜ filledAs r (now (count .exit)) (now (buffer .exit)) ≡ starAt (now (file .entry)) id (now (buffer .entry)) ⌝ }
 {
-    call_files::star(file, id, buffer, count)
+    entry_files::star(file, id, buffer, count)
 }
 
 // The Euler number.
@@ -35,7 +35,7 @@ pub extern "C" fn dz_star(file: &[u8], id: u32, buffer: &mut [u32], count: &mut 
 pub extern "C" fn dz_euler(file: &[u8], value: &mut i32) -> u32
     ensures { λ r. ⌜ eulerAs r (now (value .exit)) ≡ eulerAt (now (file .entry)) ⌝ }
 {
-    call_files::euler(file, value)
+    entry_files::euler(file, value)
 }
 
 // The file, read and written again, in the buffer's first places.
@@ -43,7 +43,7 @@ pub extern "C" fn dz_euler(file: &[u8], value: &mut i32) -> u32
 pub extern "C" fn dz_write(file: &[u8], buffer: &mut [u8], count: &mut u32) -> u32
     ensures { λ r. ⌜ filledAs r (now (count .exit)) (now (buffer .exit)) ≡ again (now (file .entry)) (now (buffer .entry)) ⌝ }
 {
-    call_files::write_again(file, buffer, count)
+    entry_files::write_again(file, buffer, count)
 }
 
 // Runs a script on the drawing of a file. Of each command five numbers go to the lines: number, first, new, removed and
@@ -59,7 +59,7 @@ pub extern "C" fn dz_run(
 ) -> u32
     ensures { λ r. ⌜ runAs r (now (lines .exit)) (now (out .exit)) (now (commands .exit)) (now (bytes .exit)) ≡ runAt (now (file .entry)) (now (script .entry)) (now (lines .entry)) (now (out .entry)) ⌝ }
 {
-    call_files::run(file, script, lines, out, commands, bytes)
+    entry_files::run(file, script, lines, out, commands, bytes)
 }
 
 // ---- on a caller's block: a next id, a number of cells and twelve arrays, of any contents
@@ -69,7 +69,7 @@ pub extern "C" fn dz_run(
 pub extern "C" fn dz_block_new(next: &mut u32, count: &mut usize)
     ensures { λ _. ⌜ Begun (now (next .exit)) (now (count .exit)) ⌝ }
 {
-    entry_calls::begin(next, count);
+    call_asked::begin(next, count);
 }
 
 // The drawing whose file the bytes are, and 0; or 10, and the block stays.
@@ -180,7 +180,7 @@ pub extern "C" fn dz_block_rest(
 ) -> usize
     ensures { λ r. ⌜ r ≡ length (restOn (entry next count ids kinds starts ends bends counts px py cycles steps bx by) (now (script .entry))) ⌝ }
 {
-    let r = entry_calls::rest(
+    let r = entry_rest::rest(
         next,
         count,
         ids,
@@ -224,7 +224,7 @@ pub extern "C" fn dz_block_run(
     ensures { λ r. ⌜ RunIn (entry (now (next .entry)) (now (count .entry)) ids kinds starts ends bends counts px py cycles steps bx by) (now (script .entry)) (now (lines .entry)) (exit (now (next .exit)) (now (count .exit)) ids kinds starts ends bends counts px py cycles steps bx by) (now (lines .exit)) r (now (commands .exit)) ⌝ }
 {
     *commands = 0;
-    let Walked::Sound(_) = entry_calls::asked(
+    let Walked::Sound(_) = call_asked::asked(
         *next,
         *count,
         ids,
@@ -242,7 +242,7 @@ pub extern "C" fn dz_block_run(
     ) else {
         return 1;
     };
-    if !call_files::has_lines(script.len(), lines.len()) {
+    if !entry_room::has_lines(script.len(), lines.len()) {
         return 9;
     }
     let n = entry_run::run_lines(
@@ -290,7 +290,7 @@ pub extern "C" fn dz_block_star(
 ) -> u32
     ensures { λ r. ⌜ filledAs r (now (found .exit)) (now (buffer .exit)) ≡ starOn (entry next count ids kinds starts ends bends counts px py cycles steps bx by) id (now (buffer .entry)) ⌝ }
 {
-    let s = entry_calls::star(
+    let s = entry_star::star(
         next,
         count,
         ids,
@@ -333,7 +333,7 @@ pub extern "C" fn dz_block_euler(
 ) -> u32
     ensures { λ r. ⌜ eulerAs r (now (value .exit)) ≡ eulerOn (entry next count ids kinds starts ends bends counts px py cycles steps bx by) ⌝ }
 {
-    let e = entry_calls::euler(
+    let e = entry_euler::euler(
         next,
         count,
         ids,
@@ -392,7 +392,7 @@ pub extern "C" fn dz_block_write(
         bx,
         by,
     );
-    let w = entry_calls::write(
+    let w = entry_write::write(
         next,
         count,
         ids,

@@ -18,9 +18,9 @@ use Rattle.complex.proofs.Obey.{euler-of}
 use Rattle.complex.proofs.Star.{star-right}
 use Rattle.complex.proofs.Doubles.{after-doubles}
 use Rattle.complex.proofs.Demand.{demand3}
-use Rattle.query.specs.declared.Counted.{Counted}
-use Rattle.query.specs.declared.EulerNumber.{EulerNumber}
-use Rattle.query.specs.Calls.{answered}
+use Rattle.rows_star.specs.declared.Counted.{Counted}
+use Rattle.rows_star.specs.Calls.{starAnswered}
+use Rattle.rows_euler.specs.declared.EulerNumber.{EulerNumber}
 use Rattle.demands.specs.Lists.{Calls, StarGiven, stateAfter, sharesOf, DeletesOf, Ends, AfterCalls}
 
 module _ {State Item : Type 0} (k : Calls State Item) where
@@ -40,10 +40,10 @@ module _ {State Item : Type 0} (k : Calls State Item) where
 module _ {State Item : Type 0} (k : Calls State Item) (right : Right k) where
   module _ (s : State) (S : T (k .sound s)) where
     star-given : (i : ℕ) → live (k .sheet s) i → (buffer exit : List ℕ) (r : Counted)
-        → answered r exit ≡ k .star s i buffer → StarGiven (star (k .sheet s .cells) i) buffer exit r
+        → starAnswered r exit ≡ k .star s i buffer → StarGiven (star (k .sheet s .cells) i) buffer exit r
     star-given i l buffer exit r h =
         let p = star-right (k .sheet s) (right .sheets s S) i l in
-        let q : answered r exit ≡ starCall (k .sheet s) i buffer = h ∙ right .stars s S i buffer in
+        let q : starAnswered r exit ≡ starCall (k .sheet s) i buffer = h ∙ right .stars s S i buffer in
         record {
           fits = λ z. let e = q ∙ p .fits buffer z in (ap (λ (f : Filled). f .number) e, ap (λ (f : Filled). f .count) e, ap (λ (f : Filled). f .buffer) e);
           short = λ z. let e = q ∙ p .short buffer z in (ap (λ (f : Filled). f .number) e, ap (λ (f : Filled). f .count) e, ap (λ (f : Filled). f .buffer) e);

@@ -14,9 +14,10 @@ use Rattle.complex.specs.Euler.{euler}
 use Rattle.complex.specs.Decode.{delete, decode}
 use Rattle.complex.specs.Calls.{Filled, EulerAnswer}
 use Rattle.complex.specs.Demands.{Step, afterItems, sharesOfItems, Each, after, shareOf, live, Took, StarRight}
-use Rattle.query.specs.declared.Counted.{Counted}
-use Rattle.query.specs.declared.EulerNumber.{EulerNumber}
-use Rattle.query.specs.Calls.{answered, eulerAnswered}
+use Rattle.rows_star.specs.declared.Counted.{Counted}
+use Rattle.rows_star.specs.Calls.{starAnswered}
+use Rattle.rows_euler.specs.declared.EulerNumber.{EulerNumber}
+use Rattle.rows_euler.specs.Calls.{eulerAnswered}
 
 -- what calls are handed and say: a state stands for a sheet, an item is any bytes with what a command answered to them
 pub record Calls (State Item : Type 0) : Type 0 where
@@ -59,7 +60,7 @@ module _ {State Item : Type 0} (k : Calls State Item) where
     pub stays-sound : T (k .sound s)
     pub all-f64 : T (doubles (k .sheet s))
     pub stars-right : (i : ℕ) → live (k .sheet s) i → StarRight (k .sheet s) i
-    pub stars-given : (i : ℕ) → live (k .sheet s) i → (buffer exit : List ℕ) (r : Counted) → answered r exit ≡ k .star s i buffer
+    pub stars-given : (i : ℕ) → live (k .sheet s) i → (buffer exit : List ℕ) (r : Counted) → starAnswered r exit ≡ k .star s i buffer
         → StarGiven (star (k .sheet s .cells) i) buffer exit r
     pub euler-given : (r : EulerNumber) → eulerAnswered r ≡ k .euler s
         → (r .number ≡ 0) × (r .value ≡ euler (k .sheet s .cells))

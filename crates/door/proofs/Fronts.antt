@@ -8,7 +8,7 @@ use lib.Ieee.{Float}
 use lib.ListN.{length, getD, set, take, length-set}
 use lib.Seq.{take-suc, take-all}
 use Rattle.coordinate.specs.declared.Position.{Position}
-use Rattle.query.proofs.Marking.{front-more}
+use Rattle.rows_marks.proofs.Marking.{front-more}
 use Rattle.lent.specs.Arrays.{positionsIn}
 use Rattle.lent.proofs.Held.{positions-length, positions-set}
 

@@ -13,7 +13,7 @@ use Rattle.store.specs.declared.Shape.the-variants.{Vertex, Open, Closed, Face}
 use Rattle.store.specs.declared.Cell.{Cell}
 use Rattle.store.specs.declared.Drawing.{Drawing}
 use Rattle.store.specs.View.{bendCount, cycleCount}
-use Rattle.store.specs.Index.{kindOf, startOf, endOf}
+use Rattle.store.specs.Index.{kindOf, shapeStart, shapeEnd}
 use Rattle.store.proofs.Rows.{getD-past}
 use Rattle.lent.specs.Arrays.{Arrays, shapeBy, shapeAt, positionIn, positionsIn, heldBy, rowNormal, normalAt, normal, Lengths}
 use Rattle.lent.specs.Growing.{withRow}
@@ -43,13 +43,13 @@ placed-other (Face k) xs ys i j n = refl
 
 -- its numbers and its position give it again
 placed-same : (s : Shape) (xs ys : List Float) (i : ℕ) → i < length xs → i < length ys
-    → shapeBy (kindOf s) (startOf s) (endOf s) (bendCount s) (cycleCount s) (positionIn (placedX s xs i) (placedY s ys i) i) ≡ s
+    → shapeBy (kindOf s) (shapeStart s) (shapeEnd s) (bendCount s) (cycleCount s) (positionIn (placedX s xs i) (placedY s ys i) i) ≡ s
 placed-same (Vertex p) xs ys i h g = ap (λ (q : Position). Vertex q) (place-same xs ys i p h g)
 placed-same (Open s e n) xs ys i h g = refl
 placed-same (Closed n) xs ys i h g = refl
 placed-same (Face k) xs ys i h g = refl
 
-told-normal : (s : Shape) → rowNormal (kindOf s) (startOf s) (endOf s) (bendCount s) (cycleCount s) ≡ true
+told-normal : (s : Shape) → rowNormal (kindOf s) (shapeStart s) (shapeEnd s) (bendCount s) (cycleCount s) ≡ true
 told-normal (Vertex p) = refl
 told-normal (Open s e n) = refl
 told-normal (Closed n) = refl
@@ -103,7 +103,7 @@ module _ (l : List Cell) (h : length l ≡ 256) (a : Arrays) (p : Put l a) where
   abbrev pub after : Cell → Arrays
   after c =
       let s = c .shape in
-      withRow (numbered (c .id) (a .count) a) (kindOf s) (startOf s) (endOf s) (bendCount s) (cycleCount s)
+      withRow (numbered (c .id) (a .count) a) (kindOf s) (shapeStart s) (shapeEnd s) (bendCount s) (cycleCount s)
       (placedX s (a .px) (a .count)) (placedY s (a .py) (a .count))
 
   pub put-turn : (c z : Cell) → a .count < 256 → c ≡ getD l (a .count) z → (b : Arrays) → b ≡ numbered (a .next) (a .count + 1) (after c) → Put l b
@@ -118,15 +118,15 @@ module _ (l : List Cell) (h : length l ≡ 256) (a : Arrays) (p : Put l a) where
       (record {
         long =
             numbered-long (after c) (a .next) (i + 1)
-            (row-long g lg (kindOf s) (startOf s) (endOf s) (bendCount s) (cycleCount s) xs ys
+            (row-long g lg (kindOf s) (shapeStart s) (shapeEnd s) (bendCount s) (cycleCount s) xs ys
             (placed-long s (a .px) i ∙ p .long .px) (placed-long-y s (a .py) i ∙ p .long .py));
         front =
             ap (λ (d : Drawing). take (i + 1) (d .cells))
-            (row-held g lg (kindOf s) (startOf s) (endOf s) (bendCount s) (cycleCount s) xs ys k (λ j n. placed-other s (a .px) (a .py) i j n))
+            (row-held g lg (kindOf s) (shapeStart s) (shapeEnd s) (bendCount s) (cycleCount s) xs ys k (λ j n. placed-other s (a .px) (a .py) i j n))
             ∙ ap (λ (t : Shape). take (i + 1) (set (heldBy a .cells) i (record { id = c .id; shape = t })))
             (placed-same s (a .px) (a .py) i (omega (arith, p .long .px, k)) (omega (arith, p .long .py, k)))
             ∙ front-turn l (heldBy a .cells) i c z (omega (arith, h, k)) (omega (arith, cells-length (shapeAt a) (a .ids), p .long .ids, k)) e (p .front);
-        rows = row-normal g lg (kindOf s) (startOf s) (endOf s) (bendCount s) (cycleCount s) xs ys k (told-normal s) (p .rows);
+        rows = row-normal g lg (kindOf s) (shapeStart s) (shapeEnd s) (bendCount s) (cycleCount s) xs ys k (told-normal s) (p .rows);
       })
 
   module _ (e : a .count ≡ 256) where

@@ -4,7 +4,7 @@ ghost use Prim.Native.Nat.{_<_};
 ghost use lib.ListN.{length, set};
 ghost use Rattle.complex.specs.Sound.{cellsMost, bendsMost};
 ghost use Rattle.store.specs.View.{bendCount, cycleCount};
-ghost use Rattle.store.specs.Index.{kindOf, startOf, endOf};
+ghost use Rattle.store.specs.Index.{kindOf, shapeStart, shapeEnd};
 ghost use Rattle.lent.specs.Arrays.{shapeBy, positionsIn, heldBy, normal, Lengths, lent, entry, exit};
 ghost use Rattle.call_write.specs.Rows.{cellsIn};
 ghost use Rattle.door.specs.Apart.{Apart};
@@ -48,8 +48,8 @@ fn put_cell(
     requires { ⌜ row < cellsMost ⌝ }
     ensures { λ _. ⌜ now (ids .exit) ≡ set (now (ids .entry)) row (c .id) ⌝ }
     ensures { λ _. ⌜ now (kinds .exit) ≡ set (now (kinds .entry)) row (kindOf (c .shape)) ⌝ }
-    ensures { λ _. ⌜ now (starts .exit) ≡ set (now (starts .entry)) row (startOf (c .shape)) ⌝ }
-    ensures { λ _. ⌜ now (ends .exit) ≡ set (now (ends .entry)) row (endOf (c .shape)) ⌝ }
+    ensures { λ _. ⌜ now (starts .exit) ≡ set (now (starts .entry)) row (shapeStart (c .shape)) ⌝ }
+    ensures { λ _. ⌜ now (ends .exit) ≡ set (now (ends .entry)) row (shapeEnd (c .shape)) ⌝ }
     ensures { λ _. ⌜ now (bends .exit) ≡ set (now (bends .entry)) row (bendCount (c .shape)) ⌝ }
     ensures { λ _. ⌜ now (counts .exit) ≡ set (now (counts .entry)) row (cycleCount (c .shape)) ⌝ }
     ensures { λ _. ⌜ now (px .exit) ≡ placedX (c .shape) (now (px .entry)) row ⌝ }

@@ -1,6 +1,6 @@
 // Reads commands from standard input and prints a line per command, then the Euler number and the live cells.
 ghost use Rattle.lent.specs.Arrays.{lent};
-ghost use Rattle.entry_calls.specs.Entries.{EmptyIn};
+ghost use Rattle.call_asked.specs.Entries.{EmptyIn};
 use libc::STDERR_FILENO;
 
 // Prints what a script gives from the empty drawing in arrays, a piece at a time. False: a write failed.
@@ -71,7 +71,7 @@ fn print_all(script: &[u8]) -> bool {
     let mut steps = [0u32; 2048];
     let mut bx = [0.0; 2048];
     let mut by = [0.0; 2048];
-    entry_calls::begin(&mut next, &mut count);
+    call_asked::begin(&mut next, &mut count);
     print_on(
         &mut next,
         &mut count,

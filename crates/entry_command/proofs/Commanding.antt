@@ -16,7 +16,7 @@ use Rattle.lent.specs.Arrays.{Arrays, heldBy, soundArrays}
 use Rattle.lent.specs.declared.Line.{Line}
 use Rattle.lent.specs.Replies.{lineOf, answerBy, Obeyed, Replied}
 use Rattle.lent.proofs.Replies.{drawing-of, replied-obeyed}
-use Rattle.entry_calls.proofs.Questions.{of-unsound}
+use Rattle.call_asked.proofs.Questions.{of-unsound}
 use Rattle.entry_command.specs.Commands.{commandIn, CommandedIn}
 
 module _ (a : Arrays) (bytes : List ℕ) (l : Line) where

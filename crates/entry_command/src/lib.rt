@@ -1,7 +1,7 @@
 // The command at the front of a script, on lent arrays of any contents.
 ghost use Rattle.lent.specs.Arrays.{entry, exit};
 ghost use Rattle.entry_command.specs.Commands.{CommandedIn};
-use command::Decoded;
+use decode_command::Decoded;
 use lent::Line;
 use lent_sound::Walked;
 
@@ -25,7 +25,7 @@ pub fn command(
 ) -> Line
     ensures { λ r. ⌜ CommandedIn (entry (now (next .entry)) (now (count .entry)) ids kinds starts ends bends counts px py cycles steps bx by) (now (script .entry)) (exit (now (next .exit)) (now (count .exit)) ids kinds starts ends bends counts px py cycles steps bx by) r ⌝ }
 {
-    let Walked::Sound(t) = entry_calls::asked(
+    let Walked::Sound(t) = call_asked::asked(
         *next,
         *count,
         ids,
@@ -43,10 +43,10 @@ pub fn command(
     ) else {
         return lent::line_of(1);
     };
-    let Decoded::Whole(c, _) = command::decode(script) else {
+    let Decoded::Whole(c, _) = decode::decode(script) else {
         return lent::line_of(2);
     };
-    let line = dispatch::obey(
+    let line = entry_dispatch::obey(
         next,
         count,
         ids,

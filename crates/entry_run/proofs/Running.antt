@@ -1,48 +1,18 @@
 -- The run over a script on lent arrays. Assumes nothing.
-use Prim.Native.Nat.{ℕ, _+_, _-_, _*_, _≤_, _<_}
+use Prim.Native.Nat.{ℕ, _+_, _*_, _≤_, _<_}
 use native.Mathlib.Omega.{arith}
 use mathlib.Core.Path.{_≡_}
 use mathlib.Core.List.{List}
 use lib.Dec.{T}
-use lib.ListN.{length, drop}
+use lib.ListN.{length}
 use lib.Seq.{sets}
-use Rattle.number.specs.Readers.{bad}
-use Rattle.complex.specs.Sound.{sound}
-use Rattle.complex.specs.Decode.{decode}
 use Rattle.store.specs.View.{sheetOf}
-use Rattle.sound.proofs.Meaning.{sound-sheet}
-use Rattle.command.specs.declared.Command.{Command}
-use Rattle.command.specs.View.{commandOf}
-use Rattle.command.proofs.Laws.{Begins}
-use Rattle.answer.specs.Answers.{saidBy}
 use Rattle.lent.specs.Arrays.{Arrays, heldBy, soundArrays}
-use Rattle.lent.specs.declared.Line.{Line}
-use Rattle.lent.specs.Replies.{answerBy, lineOf, Obeyed}
-use Rattle.lent.proofs.Replies.{drawing-of}
-use Rattle.entry_run.specs.Told.{lineWidth, lengthsEnd}
-use Rattle.entry_run.specs.Runs.{turnNumbers, SteppedIn, TurnedIn, RanIn}
-use Rattle.entry_run.specs.declared.Turn.{Turn}
-use Rattle.entry_run.proofs.Going.{Going, start, turn, turned-read, turned-unread, left-fits, over}
-
-sheet-sound : (a : Arrays) → T (soundArrays a) → T (sound (sheetOf (heldBy a)))
-sheet-sound a w = sound-sheet (heldBy a) (drawing-of a w)
-
--- ---- a turn
-module _ (script : List ℕ) (at : ℕ) (h : at < length script) {left : List ℕ} (e : left ≡ drop at script) (a : Arrays) (w : T (soundArrays a)) where
-  -- the command is not read
-  pub unread-in : decode left ≡ bad → SteppedIn a script at a (record { line = lineOf 2; left = length left; end = length script })
-  unread-in d =
-      record { turned = turned-unread script at h e (sheetOf (heldBy a)) (sheet-sound a w) d; sound = w; fits = left-fits script at h e }
-
-  -- it is read, and the arrays b are left
-  pub read-in : {c : Command} {taken : ℕ} → Begins left c taken → (b : Arrays) (l : Line) → Obeyed a (commandOf left c) b l → T (soundArrays b)
-      → SteppedIn a script at b (record { line = l; left = length script - (at + taken); end = at + taken })
-  read-in t b l o v =
-      record {
-        turned = turned-read script at h e (sheetOf (heldBy a)) (sheet-sound a w) t (saidBy (answerBy l (heldBy b))) (o .answers .said);
-        sound = v;
-        fits = omega arith;
-      }
+use Rattle.entry_told.specs.Told.{lineWidth, lengthsEnd}
+use Rattle.entry_told.proofs.Going.{Going, start, turn, over}
+use Rattle.entry_turn.specs.Turns.{turnNumbers, SteppedIn}
+use Rattle.entry_turn.specs.declared.Turn.{Turn}
+use Rattle.entry_run.specs.Runs.{TurnedIn, RanIn}
 
 -- its numbers put from a place on
 pub put-in : {a : Arrays} {script : List ℕ} {at : ℕ} {b : Arrays} {t : Turn} → SteppedIn a script at b t → (entry : List ℕ) (place : ℕ) (x : List ℕ)

@@ -1,8 +1,8 @@
 ghost use lib.Dec.{T};
-ghost use Rattle.command.specs.View.{commandOf, Lies};
+ghost use Rattle.decode_command.specs.View.{commandOf, ListsLie};
 ghost use Rattle.lent.specs.Arrays.{soundArrays, lent, entry, exit};
 ghost use Rattle.lent.specs.Replies.{Obeyed};
-use command::Command;
+use decode_command::Command;
 use lent::Line;
 
 // A decoded command on sound arrays, which are sound after it. Question 1 need not be asked again: the sums alone are counted.
@@ -25,7 +25,7 @@ pub fn step(
     c: Command,
 ) -> Line
     requires { ⌜ T (soundArrays (lent (now next) (now count) ids kinds starts ends bends counts px py cycles steps bx by)) ⌝ }
-    requires { ⌜ Lies (now script) c ⌝ }
+    requires { ⌜ ListsLie (now script) c ⌝ }
     ensures { λ r. ⌜ Obeyed (entry (now (next .entry)) (now (count .entry)) ids kinds starts ends bends counts px py cycles steps bx by) (commandOf (now (script .entry)) c) (exit (now (next .exit)) (now (count .exit)) ids kinds starts ends bends counts px py cycles steps bx by) r ⌝ }
     ensures { λ _. ⌜ T (soundArrays (exit (now (next .exit)) (now (count .exit)) ids kinds starts ends bends counts px py cycles steps bx by)) ⌝ }
 {
@@ -48,7 +48,7 @@ pub fn step(
         by,
     );
     let t = lent::totals(n, bends, counts, cycles);
-    dispatch::obey(
+    entry_dispatch::obey(
         next,
         count,
         ids,

@@ -1,6 +1,6 @@
 -- The cycles of a face about one of them, copied in order. Assumes nothing.
 use Prim.Native.Nat.{ℕ, suc, _+_, _-_, _<_, _≤_}
-use mathlib.Core.Path.{_≡_, refl, ap, ap₂, sym, subst, _∙_}
+use mathlib.Core.Path.{_≡_, ap, ap₂, sym, subst, _∙_}
 use mathlib.Core.Bool.{Bool, false}
 use mathlib.Core.List.{List, [], _∷_, _++_, append-assoc}
 use native.Mathlib.Omega.{arith}
@@ -10,44 +10,48 @@ use lib.Seq.{length-take-le, take-all, take-take, take-add, drop-drop, drop-cons
 use Rattle.complex.specs.Lists.{total, one}
 use Rattle.complex.specs.Cells.{Cycle}
 use Rattle.complex.specs.Sound.{stepCount}
-use Rattle.store.specs.View.{width, widthSum, cyclesOf}
+use Rattle.store.specs.View.{width, widthSum, cyclesFrom}
 use Rattle.store.specs.Edits.{kept}
 use Rattle.store.proofs.Encode.{length-cycles, take-cycles}
 use Rattle.store.proofs.Lists.{sum-append, sum-more, sum-le, kept-append}
-use Rattle.cycles.specs.declared.Used.{Used}
-use Rattle.cycles.specs.declared.Spans.{Spans}
-use Rattle.cycles.specs.Building.{Building, Built, built}
-use Rattle.cycles.proofs.Building.{cycles-append}
-use Rattle.cycles.proofs.Splicing.{run-take}
-use Rattle.outline.specs.Faces.{Within, cyclesAt}
-use Rattle.outline.proofs.Lists.{kept-few, built-as, built-then, at-length}
-use Rattle.outline.proofs.Splits.{kept-steps, part-flags}
-use Rattle.split.specs.declared.Place.{Place}
-use Rattle.split.specs.Parts.{placeOf}
-use Rattle.split.proofs.Places.{built-size, kept-count, place-room}
+use Rattle.rows_spans.specs.declared.Used.{Used}
+use Rattle.rows_spans.specs.declared.Spans.{Spans}
+use Rattle.rows_spans.specs.Building.{Building, Built, built, RoomFor}
+use Rattle.rows_spans.proofs.Building.{cycles-append}
+use Rattle.rows_spans.proofs.Splicing.{run-take}
+use Rattle.rows_corners.specs.Faces.{Within, cyclesAt}
+use Rattle.rows_corners.proofs.Lists.{built-as, built-then, at-length}
+use Rattle.rows_corners.proofs.Splits.{kept-steps, part-flags}
+use Rattle.rows_split.specs.declared.Place.{Place}
+use Rattle.rows_split.specs.Parts.{placeOf}
+use Rattle.rows_split.proofs.Places.{built-size, kept-count, place-room}
 use Rattle.kernel_arcs.specs.Lists.{ahead, behind}
 
 -- what is asked of a copy of k cycles
 abbrev pub CopyAsks : List ℕ → ℕ → ℕ → List ℕ → ℕ → List Bool → List ℕ → Used → List ℕ → Type 0
 CopyAsks cycles from k steps step skip numbers u places =
     Building numbers u places × ((from + k ≤ length cycles) × ((step + widthSum (take k (drop from cycles)) ≤ length steps) × ((k ≤ length skip)
-    × ((u .cycles + length (kept (take k skip) (take k (drop from cycles))) ≤ 512)
-    × (u .steps + widthSum (kept (take k skip) (take k (drop from cycles))) ≤ 2048)))))
+    × ((u .cycles + length (kept (take k skip) (take k (drop from cycles))) ≤ length numbers)
+    × (u .steps + widthSum (kept (take k skip) (take k (drop from cycles))) ≤ length places)))))
+
+-- a flag for each cycle of a drawing
+pub enough : {cycles steps : List ℕ} {t : Spans} → Within cycles steps t → (flags : List Bool) → length flags ≡ 512 → t .cycles .count ≤ length flags
+enough w flags e = omega (arith, w .inCycles)
 
 -- what is kept of the cycles ks that are read takes as much room as they do
-kept-sizes : (bs : List Bool) (ns st : List ℕ) (ks : List Cycle) → cyclesOf ns st ≡ ks → widthSum ns ≤ length st
+kept-sizes : (bs : List Bool) (ns st : List ℕ) (ks : List Cycle) → cyclesFrom ns st ≡ ks → widthSum ns ≤ length st
     → (length (kept bs ns) ≡ length (kept bs ks)) × (widthSum (kept bs ns) ≡ total stepCount (kept bs ks))
 kept-sizes bs ns st ks e h =
     let c = sym (kept-count bs ns st) ∙ ap (λ (l : List Cycle). length (kept bs l)) e in
     let s = sym (kept-steps bs ns st h) ∙ ap (λ (l : List Cycle). total stepCount (kept bs l)) e in
     (c, s)
 
-cycles-from : (i : ℕ) (ns st : List ℕ) → i ≤ length ns → drop i (cyclesOf ns st) ≡ cyclesOf (drop i ns) (drop (widthSum (take i ns)) st)
+cycles-from : (i : ℕ) (ns st : List ℕ) → i ≤ length ns → drop i (cyclesFrom ns st) ≡ cyclesFrom (drop i ns) (drop (widthSum (take i ns)) st)
 cycles-from i ns st h =
-    ap (λ (l : List ℕ). drop i (cyclesOf l st)) (sym (take-append-drop i ns)) ∙ ap (drop i) (cycles-append (take i ns) (drop i ns) st)
-    ∙ drop-at (cyclesOf (take i ns) st) (cyclesOf (drop i ns) (drop (widthSum (take i ns)) st)) i (length-cycles (take i ns) st ∙ length-take-le i ns h)
+    ap (λ (l : List ℕ). drop i (cyclesFrom l st)) (sym (take-append-drop i ns)) ∙ ap (drop i) (cycles-append (take i ns) (drop i ns) st)
+    ∙ drop-at (cyclesFrom (take i ns) st) (cyclesFrom (drop i ns) (drop (widthSum (take i ns)) st)) i (length-cycles (take i ns) st ∙ length-take-le i ns h)
 
-module _ {cycles steps : List ℕ} {t : Spans} (w : Within cycles steps t) (flags : List Bool) (fs : length flags ≡ 512) where
+module _ {cycles steps : List ℕ} {t : Spans} (w : Within cycles steps t) (flags : List Bool) (fs : t .cycles .count ≤ length flags) where
   abbrev own : List ℕ
   own = drop (t .cycles .first) cycles
 
@@ -68,12 +72,12 @@ module _ {cycles steps : List ℕ} {t : Spans} (w : Within cycles steps t) (flag
 
   -- ---- the cycles before c
   module _ (c : ℕ) (h : c ≤ n) where
-    ahead-is : cyclesOf (take c own) held ≡ take c ks
-    ahead-is = sym (take-cycles c (take n own) held ∙ ap (λ (l : List ℕ). cyclesOf l held) (take-take c n own h))
+    ahead-is : cyclesFrom (take c own) held ≡ take c ks
+    ahead-is = sym (take-cycles c (take n own) held ∙ ap (λ (l : List ℕ). cyclesFrom l held) (take-take c n own h))
 
-    pub ahead-asks : total stepCount (ahead flags c ks) ≤ 2048 → {numbers places : List ℕ} {u : Used} → Built [] numbers u places
+    pub ahead-asks : {numbers places : List ℕ} {u : Used} → RoomFor (length numbers) (length places) (ahead flags c ks) → Built [] numbers u places
         → CopyAsks cycles (t .cycles .first) c steps (t .steps .first) flags numbers u places
-    ahead-asks room {numbers} {places} {u} b =
+    ahead-asks {numbers} {places} {u} room b =
         let z = built-size b in
         let z0 = z .0 in
         let z1 = z .1 in
@@ -83,14 +87,15 @@ module _ {cycles steps : List ℕ} {t : Spans} (w : Within cycles steps t) (flag
         let m = wide-most in
         let l = sum-le width own c n h in
         let k = kept-sizes (take c flags) (take c own) held (take c ks) ahead-is (omega (arith, length-drop (t .steps .first) steps)) in
+        let k0 = k .0 in
         let k1 = k .1 in
-        let f = kept-few (take c flags) (take c own) in
-        let o = length-take-le c own (omega (arith, sized)) in
+        let rc = room .cycles in
+        let rs = room .steps in
         (b .building, (omega arith, (omega arith, (omega arith, (omega arith, omega arith)))))
 
     pub ahead-built : {numbers places numbers′ places′ : List ℕ} {u u′ : Used} → Built [] numbers u places
-        → Built (built numbers u places ++ kept (take c flags) (cyclesOf (take c own) held)) numbers′ u′ places′ → Built (ahead flags c ks) numbers′ u′ places′
-    ahead-built b₀ b = built-as (ap (kept (take c flags)) ahead-is) (built-then (kept (take c flags) (cyclesOf (take c own) held)) b₀ b)
+        → Built (built numbers u places ++ kept (take c flags) (cyclesFrom (take c own) held)) numbers′ u′ places′ → Built (ahead flags c ks) numbers′ u′ places′
+    ahead-built b₀ b = built-as (ap (kept (take c flags)) ahead-is) (built-then (kept (take c flags) (cyclesFrom (take c own) held)) b₀ b)
 
   -- ---- the cycles after c, which stands at p
   module _ (c : ℕ) (h : c < n) (p : Place) (ep : p ≡ placeOf cycles t c) where
@@ -131,15 +136,15 @@ module _ {cycles steps : List ℕ} {t : Spans} (w : Within cycles steps t) (flag
         omega arith
 
     module _ (end : ℕ) (ee : end ≡ p .at + width (p .m)) where
-      behind-is : cyclesOf rest (drop end steps) ≡ drop (c + 1) ks
+      behind-is : cyclesFrom rest (drop end steps) ≡ drop (c + 1) ks
       behind-is =
           let l = length-take-le n own sized in
           sym (cycles-from (c + 1) (take n own) held (omega arith)
-          ∙ ap₂ cyclesOf rest-is
+          ∙ ap₂ cyclesFrom rest-is
           (drop-drop (widthSum (take (c + 1) (take n own))) (t .steps .first) steps ∙ ap (λ (k : ℕ). drop k steps) (sym (ee ∙ place-is))))
 
-      pub behind-asks : {numbers places : List ℕ} {u : Used} → Building numbers u places → u .cycles + length (behind flags n c ks) ≤ 512
-          → u .steps + total stepCount (behind flags n c ks) ≤ 2048
+      pub behind-asks : {numbers places : List ℕ} {u : Used} → Building numbers u places → u .cycles + length (behind flags n c ks) ≤ length numbers
+          → u .steps + total stepCount (behind flags n c ks) ≤ length places
           → CopyAsks cycles (t .cycles .first + (c + 1)) left steps end part numbers u places
       behind-asks {numbers} {places} {u} b hc hs =
           let i = w .inCycles in
@@ -151,7 +156,7 @@ module _ {cycles steps : List ℕ} {t : Spans} (w : Within cycles steps t) (flag
           (b, (omega arith, (omega arith, (omega (arith, length-drop (c + 1) flags), (omega (arith, k .0), omega (arith, k .1))))))
 
       pub behind-built : (numbers : List ℕ) (u : Used) (places : List ℕ) {numbers′ places′ : List ℕ} {u′ : Used}
-          → Built (built numbers u places ++ kept (take left part) (cyclesOf rest (drop end steps))) numbers′ u′ places′
+          → Built (built numbers u places ++ kept (take left part) (cyclesFrom rest (drop end steps))) numbers′ u′ places′
           → Built (built numbers u places ++ behind flags n c ks) numbers′ u′ places′
       behind-built numbers u places b =
           built-as (ap₂ (λ (l : List Bool) (q : List Cycle). built numbers u places ++ kept (take left l) q) (part-flags flags (c + 1)) behind-is) b
@@ -182,15 +187,6 @@ module _ {cycles steps : List ℕ} {t : Spans} (w : Within cycles steps t) (flag
         ∙ kept-append (take c flags) (false ∷ take (n - (c + 1)) (drop (c + 1) flags)) (take c ks) (x ∷ drop (c + 1) ks) (lf ∙ sym lk)
         ∙ sym (append-assoc before (one x) after)
 
-    few-before : length before ≤ c
-    few-before = let l = at-length cycles steps t w in let k = kept-few (take c flags) (take c ks) in omega (arith, length-take-le c ks (omega arith))
-
-    few-after : length after ≤ n - (c + 1)
-    few-after =
-        let l = at-length cycles steps t w in
-        let k = kept-few (take (n - (c + 1)) (drop (c + 1) flags)) (drop (c + 1) ks) in
-        omega (arith, length-drop (c + 1) ks)
-
     module _ {numbers places numbers′ places′ : List ℕ} {u u′ : Used} where
       pub new-built : Built before numbers u places → Built (built numbers u places ++ one x) numbers′ u′ places′ → Built (before ++ one x) numbers′ u′ places′
       new-built a b = built-then (one x) a b
@@ -199,36 +195,44 @@ module _ {cycles steps : List ℕ} {t : Spans} (w : Within cycles steps t) (flag
           → Built (kept (take n flags) (set ks c x)) numbers′ u′ places′
       about-built a b = built-as (sym about) (built-then after a b)
 
-    module _ (room : total stepCount (kept (take n flags) (set ks c x)) ≤ 2048) where
-      all-room : total stepCount before + stepCount x + total stepCount after ≤ 2048
-      all-room =
+    -- arrays of N counts and M steps have room for all of them
+    module _ {N M : ℕ} (room : RoomFor N M (kept (take n flags) (set ks c x))) where
+      all-cycles : length before + 1 + length after ≤ N
+      all-cycles =
+          let e = ap length about ∙ length-append (before ++ one x) after in
+          let f = length-append before (one x) in
+          omega (arith, room .cycles)
+
+      all-steps : total stepCount before + stepCount x + total stepCount after ≤ M
+      all-steps =
           let e = ap (total stepCount) about ∙ sum-append stepCount (before ++ one x) after in
           let f = sum-append stepCount before (one x) in
-          omega arith
+          omega (arith, room .steps)
 
-      pub before-room : total stepCount before ≤ 2048
-      before-room = let r = all-room in omega arith
+      pub before-room : RoomFor N M before
+      before-room =
+          let a = all-cycles in
+          let b = all-steps in
+          record { fewCounts = room .fewCounts; fewSteps = room .fewSteps; cycles = omega arith; steps = omega arith }
 
-      pub new-room : {numbers places : List ℕ} {u : Used} → Built before numbers u places → (u .cycles < 512) × (u .steps + stepCount x ≤ 2048)
-      new-room b =
-          let z = built-size b in
-          let z0 = z .0 in
-          let z1 = z .1 in
-          let r = all-room in
-          let f = few-before in
-          let i = w .inCycles in
-          (omega arith, omega arith)
+      module _ {numbers places : List ℕ} {u : Used} (lc : length numbers ≡ N) (ls : length places ≡ M) where
+        pub new-room : Built before numbers u places → (u .cycles < length numbers) × (u .steps + stepCount x ≤ length places)
+        new-room b =
+            let z = built-size b in
+            let z0 = z .0 in
+            let z1 = z .1 in
+            let a = all-cycles in
+            let r = all-steps in
+            (omega arith, omega arith)
 
-      pub after-room : {numbers places : List ℕ} {u : Used} → Built (before ++ one x) numbers u places
-          → (u .cycles + length after ≤ 512) × (u .steps + total stepCount after ≤ 2048)
-      after-room b =
-          let z = built-size b in
-          let z0 = z .0 in
-          let z1 = z .1 in
-          let l = length-append before (one x) in
-          let s = sum-append stepCount before (one x) in
-          let r = all-room in
-          let f = few-before in
-          let g = few-after in
-          let i = w .inCycles in
-          (omega arith, omega arith)
+        pub after-room : Built (before ++ one x) numbers u places
+            → (u .cycles + length after ≤ length numbers) × (u .steps + total stepCount after ≤ length places)
+        after-room b =
+            let z = built-size b in
+            let z0 = z .0 in
+            let z1 = z .1 in
+            let l = length-append before (one x) in
+            let s = sum-append stepCount before (one x) in
+            let a = all-cycles in
+            let r = all-steps in
+            (omega arith, omega arith)

@@ -1,26 +1,26 @@
 -- One cycle in two: what its arcs ask, and the cycles that they become. Assumes nothing.
-use Prim.Native.Nat.{ℕ, _+_, _*_, _<_, _≤_}
+use Prim.Native.Nat.{ℕ, _+_, _*_, _≤_}
 use mathlib.Core.Path.{_≡_, ap, sym, _∙_}
 use mathlib.Core.Bool.{Bool, false}
-use mathlib.Core.List.{List, [], _++_, map}
+use mathlib.Core.List.{List, [], _∷_, _++_, map}
 use native.Mathlib.Omega.{arith}
 use lib.ListN.{length, take, getD, set, length-append, length-map}
-use Rattle.complex.specs.Lists.{total, one, distance}
+use Rattle.complex.specs.Lists.{one, distance}
 use Rattle.complex.specs.Cells.{Halfedge, Cycle, path}
 use Rattle.complex.specs.Sound.{stepCount}
-use Rattle.store.specs.View.{halfedgeOf, width}
+use Rattle.store.specs.View.{halfedgeOf}
 use Rattle.store.specs.Edits.{kept}
-use Rattle.cycles.specs.declared.Used.{Used}
-use Rattle.cycles.specs.declared.Spans.{Spans}
-use Rattle.cycles.specs.Building.{Built, built}
-use Rattle.outline.specs.Faces.{cyclesAt}
-use Rattle.outline.specs.Arcs.{arcOf, ArcRoom, CopyRoom}
-use Rattle.outline.proofs.Arcs.{arc-length}
-use Rattle.outline.proofs.Lists.{built-as, built-then}
-use Rattle.split.specs.declared.Place.{Place}
-use Rattle.split.specs.Parts.{cycleAt, nearCycle, Cornered}
-use Rattle.split.proofs.Arcs.{corner-most, distance-most, near-is}
-use Rattle.split.proofs.Places.{built-size, steps-within, cornered-room}
+use Rattle.rows_spans.specs.declared.Used.{Used}
+use Rattle.rows_spans.specs.declared.Spans.{Spans}
+use Rattle.rows_spans.specs.Building.{Built, built, RoomFor}
+use Rattle.rows_corners.specs.Faces.{Within, cyclesAt}
+use Rattle.rows_corners.specs.Arcs.{arcOf, ArcRoom, CopyRoom}
+use Rattle.rows_corners.proofs.Arcs.{arc-length}
+use Rattle.rows_corners.proofs.Lists.{built-as, built-then}
+use Rattle.rows_split.specs.declared.Place.{Place}
+use Rattle.rows_split.specs.Parts.{cycleAt, nearCycle, Cornered}
+use Rattle.rows_split.proofs.Arcs.{corner-most, distance-most, near-is}
+use Rattle.rows_split.proofs.Places.{built-size, steps-within, cornered-room, kept-asks}
 use Rattle.kernel_arcs.specs.Lists.{ahead}
 use Rattle.kernel_arcs.proofs.Lists.{CopyAsks, new-room}
 
@@ -31,7 +31,7 @@ none-used b =
     let q = z .1 in
     λ i. record { cycles = p i; steps = q i }
 
-pub copy-asks : {cycles steps : List ℕ} {from k step : ℕ} {skip : List Bool} {numbers places : List ℕ} {u : Used}
+copy-asks : {cycles steps : List ℕ} {from k step : ℕ} {skip : List Bool} {numbers places : List ℕ} {u : Used}
     → CopyRoom cycles steps from k step skip numbers u places → CopyAsks cycles from k steps step skip numbers u places
 copy-asks r =
     let zc = r .cyclesSize in
@@ -40,10 +40,17 @@ copy-asks r =
     let j = r .inSteps in
     (r .building, (omega arith, (omega arith, (r .flags, (r .cycleRoom, r .stepRoom)))))
 
+-- the cycles that are kept follow x
+pub far-asks : {cycles steps : List ℕ} {t : Spans} → (w : Within cycles steps t) (flags : List Bool) → t .cycles .count ≤ length flags → (x : Cycle) {N M : ℕ}
+    → RoomFor N M (x ∷ kept (take (t .cycles .count) flags) (cyclesAt cycles steps t)) → {numbers places : List ℕ} {u : Used} → length numbers ≡ N → length places ≡ M
+    → Built (one x) numbers u places → CopyAsks cycles (t .cycles .first) (t .cycles .count) steps (t .steps .first) flags numbers u places
+far-asks {cycles} {steps} {t} w flags fs x room lc ls b =
+    copy-asks (kept-asks cycles steps t w flags fs x (omega (arith, room .cycles)) (omega (arith, room .steps)) b)
+
 -- ---- the arc from s1 to s2 in the place of its cycle
 module _ {cycles steps : List ℕ} {t : Spans} {c : ℕ} {p : Place} {s1 s2 : ℕ} (k1 : Cornered cycles steps t c p s1) (k2 : Cornered cycles steps t c p s2) (e : ℕ)
-    (flags : List Bool) (fs : length flags ≡ 512) (st : getD flags c false ≡ false)
-    (room : total stepCount (kept (take (t .cycles .count) flags) (set (cyclesAt cycles steps t) c (nearCycle e s1 s2 (cycleAt steps p)))) ≤ 2048)
+    (flags : List Bool) (fs : t .cycles .count ≤ length flags) (st : getD flags c false ≡ false) {N M : ℕ}
+    (room : RoomFor N M (kept (take (t .cycles .count) flags) (set (cyclesAt cycles steps t) c (nearCycle e s1 s2 (cycleAt steps p)))))
     {len : ℕ} (el : len ≡ distance (p .m) s1 s2) where
   abbrev arc : ℕ → List ℕ
   arc = arcOf steps (p .at) (p .m) s1
@@ -80,9 +87,9 @@ module _ {cycles steps : List ℕ} {t : Spans} {c : ℕ} {p : Place} {s1 s2 : �
       ∙ ap (λ (n : ℕ). n + 1) (length-map (arc len) halfedgeOf ∙ arc-long)
 
   module _ {numbers places : List ℕ} {u : Used} (b : Built before numbers u places) where
-    pub near-asks : ArcRoom steps (p .at) (p .m) s1 len numbers u places
-    near-asks =
-        let r = new-room (k1 .within) flags fs c (k1 .cycle) st new room b in
+    pub near-asks : length numbers ≡ N → length places ≡ M → ArcRoom steps (p .at) (p .m) s1 len numbers u places
+    near-asks lc ls =
+        let r = new-room (k1 .within) flags fs c (k1 .cycle) st new room lc ls b in
         let r1 = r .1 in
         let s = new-steps in
         record {

@@ -8,25 +8,25 @@ ghost use Rattle.complex.specs.Cells.{path};
 ghost use Rattle.complex.specs.Sound.{idsEnd, cyclesMost, stepsMost, stepCount};
 ghost use Rattle.store.specs.View.{halfedgeOf, width};
 ghost use Rattle.store.specs.Edits.{kept};
-ghost use Rattle.cycles.specs.Building.{Building, Built, built, more};
-ghost use Rattle.command.specs.Lists.{numbersRead};
-ghost use Rattle.outline.specs.Faces.{Within, cyclesAt};
-ghost use Rattle.outline.specs.Arcs.{arcOf, ArcRoom};
-ghost use Rattle.split.specs.Along.{nearSide, farSide, bridge};
-ghost use Rattle.split.specs.Parts.{placeOf, cycleAt, nearCycle, farCycle, bridgeCycle, Cornered, Parting, Joining, Bridging};
+ghost use Rattle.rows_spans.specs.Building.{Building, Built, built, RoomFor};
+ghost use Rattle.decode_parts.specs.Lists.{numbersRead};
+ghost use Rattle.rows_corners.specs.Faces.{Within, cyclesAt};
+ghost use Rattle.rows_corners.specs.Arcs.{arcOf, ArcRoom};
+ghost use Rattle.rows_split.specs.Along.{nearSide, farSide, bridge};
+ghost use Rattle.rows_split.specs.Parts.{placeOf, cycleAt, nearCycle, farCycle, bridgeCycle, Cornered, SplitParting, Joining, Bridging};
 ghost use Rattle.kernel_arcs.specs.Lists.{ahead, behind};
-use cycles::Spans;
-use cycles::Used;
-use split::Place;
+use rows_spans::Spans;
+use rows_spans::Used;
+use rows_split::Place;
 
 // ---- lists under construction in lent arrays
 
 // No cycle yet.
-fn start(numbers: &[u32; 512], places: &[u32; 2048]) -> Used
+fn start(numbers: &[u32], places: &[u32]) -> Used
+    requires { ⌜ length (now numbers) ≤ cyclesMost ⌝ }
+    requires { ⌜ length (now places) ≤ stepsMost ⌝ }
     ensures { λ r. ⌜ Built [] (now (numbers .entry)) r (now (places .entry)) ⌝ }
 {
-    lengths::cycles_long(numbers);
-    lengths::steps_long(places);
     Used {
         cycles: 0,
         steps: 0,
@@ -38,15 +38,15 @@ fn ahead(
     cycles: &[u32; 512],
     steps: &[u32; 2048],
     t: Spans,
-    flags: &[bool; 512],
+    flags: &[bool],
     c: u32,
-    numbers: &mut [u32; 512],
-    places: &mut [u32; 2048],
+    numbers: &mut [u32],
+    places: &mut [u32],
 ) -> Used
     requires { ⌜ Within (now cycles) (now steps) t ⌝ }
     requires { ⌜ c ≤ t .cycles .count ⌝ }
-    requires { ⌜ length (now flags) ≡ 512 ⌝ }
-    requires { ⌜ total stepCount (ahead (now flags) c (cyclesAt (now cycles) (now steps) t)) ≤ stepsMost ⌝ }
+    requires { ⌜ t .cycles .count ≤ length (now flags) ⌝ }
+    requires { ⌜ RoomFor (length (now numbers)) (length (now places)) (ahead (now flags) c (cyclesAt (now cycles) (now steps) t)) ⌝ }
     ensures { λ r. ⌜ Built (ahead (now (flags .entry)) c (cyclesAt (now (cycles .entry)) (now (steps .entry)) t)) (now (numbers .exit)) r (now (places .exit)) ⌝ }
 {
     let k = t.cycles;
@@ -73,22 +73,22 @@ fn behind(
     flags: &[bool],
     c: u32,
     p: Place,
-    numbers: &mut [u32; 512],
-    places: &mut [u32; 2048],
+    numbers: &mut [u32],
+    places: &mut [u32],
     u: Used,
 ) -> Used
     requires { ⌜ Within (now cycles) (now steps) t ⌝ }
     requires { ⌜ c < t .cycles .count ⌝ }
     requires { ⌜ p ≡ placeOf (now cycles) t c ⌝ }
-    requires { ⌜ length (now flags) ≡ 512 ⌝ }
+    requires { ⌜ t .cycles .count ≤ length (now flags) ⌝ }
     requires { ⌜ Building (now numbers) u (now places) ⌝ }
-    requires { ⌜ u .cycles + length (behind (now flags) (t .cycles .count) c (cyclesAt (now cycles) (now steps) t)) ≤ cyclesMost ⌝ }
-    requires { ⌜ u .steps + total stepCount (behind (now flags) (t .cycles .count) c (cyclesAt (now cycles) (now steps) t)) ≤ stepsMost ⌝ }
+    requires { ⌜ u .cycles + length (behind (now flags) (t .cycles .count) c (cyclesAt (now cycles) (now steps) t)) ≤ length (now numbers) ⌝ }
+    requires { ⌜ u .steps + total stepCount (behind (now flags) (t .cycles .count) c (cyclesAt (now cycles) (now steps) t)) ≤ length (now places) ⌝ }
     ensures { λ r. ⌜ Built (built (now (numbers .entry)) u (now (places .entry)) ++ behind (now (flags .entry)) (t .cycles .count) c (cyclesAt (now (cycles .entry)) (now (steps .entry)) t)) (now (numbers .exit)) r (now (places .exit)) ⌝ }
 {
     let k = t.cycles;
     let next = c as usize + 1;
-    let end = outline::after(p.at, p.m as usize);
+    let end = rows_corners::after(p.at, p.m as usize);
     kernel_cycles::copy_cycles(
         cycles,
         k.first + next,
@@ -110,16 +110,16 @@ fn and_arc(
     from: usize,
     len: usize,
     h: u32,
-    numbers: &mut [u32; 512],
-    places: &mut [u32; 2048],
+    numbers: &mut [u32],
+    places: &mut [u32],
     u: Used,
 ) -> Used
     requires { ⌜ ArcRoom (now steps) base n from len (now numbers) u (now places) ⌝ }
     ensures { λ r. ⌜ Built (built (now (numbers .entry)) u (now (places .entry)) ++ one (path (map halfedgeOf (arcOf (now (steps .entry)) base n from len) ++ one (halfedgeOf h)))) (now (numbers .exit)) r (now (places .exit)) ⌝ }
 {
-    let end = outline::copy_arc(steps, base, n, from, len, places, u.steps);
-    cycles::put_step(places, end, h);
-    cycles::close_path(numbers, u, len + 1)
+    let end = rows_corners::copy_arc(steps, base, n, from, len, places, u.steps);
+    rows_spans::put_step(places, end, h);
+    rows_spans::close_path(numbers, u, len + 1)
 }
 
 // ---- one cycle in two
@@ -130,26 +130,26 @@ pub fn near_side(
     cycles: &[u32; 512],
     steps: &[u32; 2048],
     t: Spans,
-    flags: &[bool; 512],
+    flags: &[bool],
     c: u32,
     p: Place,
     s1: u32,
     s2: u32,
     e: u32,
-    numbers: &mut [u32; 512],
-    places: &mut [u32; 2048],
+    numbers: &mut [u32],
+    places: &mut [u32],
 ) -> Used
     requires { ⌜ Cornered (now cycles) (now steps) t c p s1 ⌝ }
     requires { ⌜ Cornered (now cycles) (now steps) t c p s2 ⌝ }
-    requires { ⌜ length (now flags) ≡ 512 ⌝ }
+    requires { ⌜ t .cycles .count ≤ length (now flags) ⌝ }
     requires { ⌜ getD (now flags) c false ≡ false ⌝ }
     requires { ⌜ e ≤ idsEnd ⌝ }
-    requires { ⌜ total stepCount (kept (take (t .cycles .count) (now flags)) (set (cyclesAt (now cycles) (now steps) t) c (nearCycle e s1 s2 (cycleAt (now steps) p)))) ≤ stepsMost ⌝ }
+    requires { ⌜ RoomFor (length (now numbers)) (length (now places)) (kept (take (t .cycles .count) (now flags)) (set (cyclesAt (now cycles) (now steps) t) c (nearCycle e s1 s2 (cycleAt (now steps) p)))) ⌝ }
     ensures { λ r. ⌜ Built (kept (take (t .cycles .count) (now (flags .entry))) (set (cyclesAt (now (cycles .entry)) (now (steps .entry)) t) c (nearCycle e s1 s2 (cycleAt (now (steps .entry)) p)))) (now (numbers .exit)) r (now (places .exit)) ⌝ }
 {
     let m = p.m as usize;
     let s = s1 as usize;
-    let len = split::between(m, s, s2 as usize);
+    let len = rows_split::between(m, s, s2 as usize);
     let a = ahead(cycles, steps, t, flags, c, numbers, places);
     let b = and_arc(steps, p.at, m, s, len, 2 * e + 1, numbers, places, a);
     behind(cycles, steps, t, flags, c, p, numbers, places, b)
@@ -160,27 +160,26 @@ pub fn far_side(
     cycles: &[u32; 512],
     steps: &[u32; 2048],
     t: Spans,
-    flags: &[bool; 512],
+    flags: &[bool],
     p: Place,
     s1: u32,
     s2: u32,
     e: u32,
-    numbers: &mut [u32; 512],
-    places: &mut [u32; 2048],
+    numbers: &mut [u32],
+    places: &mut [u32],
 ) -> Used
     requires { ⌜ Within (now cycles) (now steps) t ⌝ }
     requires { ⌜ p .at + width (p .m) ≤ 2048 ⌝ }
     requires { ⌜ s1 < width (p .m) ⌝ }
     requires { ⌜ s2 < width (p .m) ⌝ }
-    requires { ⌜ length (now flags) ≡ 512 ⌝ }
+    requires { ⌜ t .cycles .count ≤ length (now flags) ⌝ }
     requires { ⌜ e ≤ idsEnd ⌝ }
-    requires { ⌜ length (farCycle e s1 s2 (cycleAt (now steps) p) ∷ kept (take (t .cycles .count) (now flags)) (cyclesAt (now cycles) (now steps) t)) ≤ cyclesMost ⌝ }
-    requires { ⌜ total stepCount (farCycle e s1 s2 (cycleAt (now steps) p) ∷ kept (take (t .cycles .count) (now flags)) (cyclesAt (now cycles) (now steps) t)) ≤ stepsMost ⌝ }
+    requires { ⌜ RoomFor (length (now numbers)) (length (now places)) (farCycle e s1 s2 (cycleAt (now steps) p) ∷ kept (take (t .cycles .count) (now flags)) (cyclesAt (now cycles) (now steps) t)) ⌝ }
     ensures { λ r. ⌜ Built (farCycle e s1 s2 (cycleAt (now (steps .entry)) p) ∷ kept (take (t .cycles .count) (now (flags .entry))) (cyclesAt (now (cycles .entry)) (now (steps .entry)) t)) (now (numbers .exit)) r (now (places .exit)) ⌝ }
 {
     let m = p.m as usize;
     let s = s2 as usize;
-    let len = split::between(m, s1 as usize, s);
+    let len = rows_split::between(m, s1 as usize, s);
     let none = start(numbers, places);
     let u = and_arc(steps, p.at, m, s, m - len, 2 * e, numbers, places, none);
     let k = t.cycles;
@@ -217,19 +216,21 @@ pub fn halves(
     s1: u32,
     s2: u32,
     e: u32,
-    numbers: &mut [u32; 512],
-    places: &mut [u32; 2048],
-    numbers2: &mut [u32; 512],
-    places2: &mut [u32; 2048],
+    numbers: &mut [u32],
+    places: &mut [u32],
+    numbers2: &mut [u32],
+    places2: &mut [u32],
 ) -> Parts
-    requires { ⌜ Parting (now cycles) (now steps) t (now script) moved place c p s1 s2 e ⌝ }
+    requires { ⌜ SplitParting (now cycles) (now steps) t (now script) moved place c p s1 s2 e ⌝ }
+    requires { ⌜ RoomFor (length (now numbers)) (length (now places)) (nearSide e c s1 s2 (numbersRead (now script) place moved) (cyclesAt (now cycles) (now steps) t)) ⌝ }
+    requires { ⌜ RoomFor (length (now numbers2)) (length (now places2)) (farSide e c s1 s2 (numbersRead (now script) place moved) (cyclesAt (now cycles) (now steps) t)) ⌝ }
     ensures { λ r. ⌜ Built (nearSide e c s1 s2 (numbersRead (now (script .entry)) place moved) (cyclesAt (now (cycles .entry)) (now (steps .entry)) t)) (now (numbers .exit)) (r .old) (now (places .exit)) ⌝ }
     ensures { λ r. ⌜ Built (farSide e c s1 s2 (numbersRead (now (script .entry)) place moved) (cyclesAt (now (cycles .entry)) (now (steps .entry)) t)) (now (numbers2 .exit)) (r .new) (now (places2 .exit)) ⌝ }
 {
     let mut flags = [false; 512];
     script::mark_moved(script, place, moved, &mut flags);
     let mut stays = [false; 512];
-    outline::others(&flags, &mut stays);
+    rows_corners::others(&flags, &mut stays);
     let a = near_side(cycles, steps, t, &flags, c, p, s1, s2, e, numbers, places);
     let b = far_side(cycles, steps, t, &stays, p, s1, s2, e, numbers2, places2);
     Parts { old: a, new: b }
@@ -245,23 +246,23 @@ fn and_joined(
     q: Place,
     s2: u32,
     e: u32,
-    numbers: &mut [u32; 512],
-    places: &mut [u32; 2048],
+    numbers: &mut [u32],
+    places: &mut [u32],
     u: Used,
 ) -> Used
     requires { ⌜ Joining (now steps) p s1 q s2 e ⌝ }
     requires { ⌜ Building (now numbers) u (now places) ⌝ }
-    requires { ⌜ u .cycles < cyclesMost ⌝ }
-    requires { ⌜ u .steps + (p .m + q .m + 2) ≤ stepsMost ⌝ }
+    requires { ⌜ u .cycles < length (now numbers) ⌝ }
+    requires { ⌜ u .steps + (p .m + q .m + 2) ≤ length (now places) ⌝ }
     ensures { λ r. ⌜ Built (built (now (numbers .entry)) u (now (places .entry)) ++ one (bridgeCycle e s1 (cycleAt (now (steps .entry)) p) s2 (cycleAt (now (steps .entry)) q))) (now (numbers .exit)) r (now (places .exit)) ⌝ }
 {
     let m = p.m as usize;
     let n = q.m as usize;
-    let mid = outline::copy_arc(steps, p.at, m, s1 as usize, m, places, u.steps);
-    let next = cycles::put_step(places, mid, 2 * e);
-    let last = outline::copy_arc(steps, q.at, n, s2 as usize, n, places, next);
-    cycles::put_step(places, last, 2 * e + 1);
-    cycles::close_path(numbers, u, m + n + 2)
+    let mid = rows_corners::copy_arc(steps, p.at, m, s1 as usize, m, places, u.steps);
+    let next = rows_spans::put_step(places, mid, 2 * e);
+    let last = rows_corners::copy_arc(steps, q.at, n, s2 as usize, n, places, next);
+    rows_spans::put_step(places, last, 2 * e + 1);
+    rows_spans::close_path(numbers, u, m + n + 2)
 }
 
 // The cycles of a span without c2; in the place of c1, both.
@@ -276,10 +277,11 @@ pub fn bridge_list(
     q: Place,
     s2: u32,
     e: u32,
-    numbers: &mut [u32; 512],
-    places: &mut [u32; 2048],
+    numbers: &mut [u32],
+    places: &mut [u32],
 ) -> Used
     requires { ⌜ Bridging (now cycles) (now steps) t c1 p s1 c2 q s2 e ⌝ }
+    requires { ⌜ RoomFor (length (now numbers)) (length (now places)) (bridge e c1 s1 c2 s2 (cyclesAt (now cycles) (now steps) t)) ⌝ }
     ensures { λ r. ⌜ Built (bridge e c1 s1 c2 s2 (cyclesAt (now (cycles .entry)) (now (steps .entry)) t)) (now (numbers .exit)) r (now (places .exit)) ⌝ }
 {
     let mut flags = [false; 512];

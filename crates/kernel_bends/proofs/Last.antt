@@ -5,8 +5,8 @@ use mathlib.Core.Path.{_≡_, refl, sym, ap, ap₂, _∙_}
 use mathlib.Core.List.{List, [], _∷_, _++_}
 use lib.ListN.{length, take, drop, set, length-append, length-drop, length-set}
 use lib.Seq.{take-nil, take-add, drop-drop, take-take, take-set-le, drop-set-add, length-take-le, take-at, drop-at, take-append-le, slice, length-slice}
-use Rattle.append.specs.Runs.{run}
-use Rattle.append.proofs.RunLists.{run-take, run-drop}
+use Rattle.rows_new.specs.Runs.{runAt}
+use Rattle.rows_new.proofs.RunLists.{run-take, run-drop}
 use Rattle.kernel_bends.specs.Turned.{rotated, movedLast}
 
 zero-more : (r : ℕ) → 0 + r ≡ r
@@ -16,7 +16,7 @@ suc-more : (k r : ℕ) → suc k + r ≡ suc (k + r)
 suc-more k r = omega arith
 
 module _ {A : Type 0} where
-  slice-run : (f t : ℕ) (l : List A) → f ≤ t → slice f t l ≡ run f (t - f) l
+  slice-run : (f t : ℕ) (l : List A) → f ≤ t → slice f t l ≡ runAt f (t - f) l
   slice-run zero t l h = let e : t ≡ t - 0 = omega arith in ap (λ (n : ℕ). take n l) e
   slice-run (suc f) zero l h = absurd (omega arith)
   slice-run (suc f) (suc t) [] h = sym (take-nil (suc t - suc f))
@@ -46,12 +46,12 @@ module _ {A : Type 0} where
     pub rotated-front : (n : ℕ) → n ≤ f → take n r ≡ take n l
     rotated-front n h = take-append-le n (take f l) (slice m t l ++ (slice f m l ++ drop t l)) (omega (arith, lf)) ∙ take-take n f l h
 
-    pub rotated-next : run f (t - m) r ≡ run m (t - m) l
+    pub rotated-next : runAt f (t - m) r ≡ runAt m (t - m) l
     rotated-next =
         ap (take (t - m)) (drop-at (take f l) (slice m t l ++ (slice f m l ++ drop t l)) f lf)
         ∙ take-at (slice m t l) (slice f m l ++ drop t l) (t - m) lb ∙ slice-run m t l ht
 
-    pub rotated-last : run (f + (t - m)) (m - f) r ≡ run f (m - f) l
+    pub rotated-last : runAt (f + (t - m)) (m - f) r ≡ runAt f (m - f) l
     rotated-last =
         ap (take (m - f)) (sym (drop-drop (t - m) f r) ∙ ap (drop (t - m)) (drop-at (take f l) (slice m t l ++ (slice f m l ++ drop t l)) f lf) ∙ drop-at (slice m t l) (slice f m l ++ drop t l) (t - m) lb)
         ∙ take-at (slice f m l) (drop t l) (m - f) la ∙ slice-run f m l hm
@@ -73,25 +73,25 @@ module _ {A : Type 0} where
     before : (n : ℕ) → n ≤ t - m + i → take n twice ≡ take n once
     before n h = rotated-front (t - m + i) (t - m + j) t once (omega arith) (omega arith) (omega (arith, lo)) n h
 
-    moved : run (t - m) m once ≡ run base m l
+    moved : runAt (t - m) m once ≡ runAt base m l
     moved =
         let a : base + (t - (base + m)) ≡ t - m = omega arith in
         let b : base + m - base ≡ m = omega arith in
-        ap₂ (λ (u v : ℕ). run u v once) (sym a) (sym b) ∙ rotated-last base (base + m) t l (omega arith) hb hl ∙ ap (λ (v : ℕ). run base v l) b
+        ap₂ (λ (u v : ℕ). runAt u v once) (sym a) (sym b) ∙ rotated-last base (base + m) t l (omega arith) hb hl ∙ ap (λ (v : ℕ). runAt base v l) b
 
     -- those that are not among them
-    pub twice-front : take (t - m) twice ≡ take base l ++ run (base + m) (t - (base + m)) l
+    pub twice-front : take (t - m) twice ≡ take base l ++ runAt (base + m) (t - (base + m)) l
     twice-front =
         let a : t - m ≡ base + (t - (base + m)) = omega arith in
         before (t - m) (omega arith) ∙ ap (λ (n : ℕ). take n once) a ∙ take-add base (t - (base + m)) once
         ∙ ap₂ _++_ (rotated-front base (base + m) t l (omega arith) hb hl base (omega arith)) (rotated-next base (base + m) t l (omega arith) hb hl)
 
-    pub twice-first : run (t - m) i twice ≡ run base i l
+    pub twice-first : runAt (t - m) i twice ≡ runAt base i l
     twice-first =
         part (t - m) i twice ∙ ap (drop (t - m)) (before (t - m + i) (omega arith)) ∙ sym (part (t - m) i once)
         ∙ sym (take-take i m (drop (t - m) once) (omega arith)) ∙ ap (take i) moved ∙ take-take i m (drop base l) (omega arith)
       where
-        part : (n k : ℕ) (x : List A) → run n k x ≡ drop n (take (n + k) x)
+        part : (n k : ℕ) (x : List A) → runAt n k x ≡ drop n (take (n + k) x)
         part zero k x = ap (λ (w : ℕ). take w x) (sym (zero-more k))
         part (suc n) k [] = take-nil k ∙ sym (ap (drop (suc n)) (take-nil (suc n + k)))
         part (suc n) k (y ∷ x) = part n k x ∙ ap (λ (w : ℕ). drop (suc n) (take w (y ∷ x))) (sym (suc-more n k))
@@ -103,36 +103,36 @@ module _ {A : Type 0} where
     drop-take (suc k) (suc n) [] = sym (take-nil (suc n - suc k))
     drop-take (suc k) (suc n) (y ∷ x) = let e : n - k ≡ suc n - suc k = omega arith in drop-take k n x ∙ ap (λ (w : ℕ). take w (drop k x)) e
 
-    after : (k n : ℕ) (x : List A) → run (n + k) (m - k) x ≡ drop k (run n m x)
+    after : (k n : ℕ) (x : List A) → runAt (n + k) (m - k) x ≡ drop k (runAt n m x)
     after k n x = ap (take (m - k)) (sym (drop-drop k n x)) ∙ sym (drop-take k m (drop n x))
 
-    from : (k : ℕ) → run (t - m + k) (m - k) once ≡ run (base + k) (m - k) l
+    from : (k : ℕ) → runAt (t - m + k) (m - k) once ≡ runAt (base + k) (m - k) l
     from k = after k (t - m) once ∙ ap (drop k) moved ∙ sym (after k base l)
 
-    pub twice-second : run (t - m + i) (m - j) twice ≡ run (base + j) (m - j) l
+    pub twice-second : runAt (t - m + i) (m - j) twice ≡ runAt (base + j) (m - j) l
     twice-second =
         let a : t - (t - m + j) ≡ m - j = omega arith in
-        ap (λ (n : ℕ). run (t - m + i) n twice) (sym a) ∙ rotated-next (t - m + i) (t - m + j) t once (omega arith) (omega arith) (omega (arith, lo))
-        ∙ ap (λ (n : ℕ). run (t - m + j) n once) a ∙ from j
+        ap (λ (n : ℕ). runAt (t - m + i) n twice) (sym a) ∙ rotated-next (t - m + i) (t - m + j) t once (omega arith) (omega arith) (omega (arith, lo))
+        ∙ ap (λ (n : ℕ). runAt (t - m + j) n once) a ∙ from j
 
-    pub twice-last : run (t - m + i + (m - j)) (j - i) twice ≡ run (base + i) (j - i) l
+    pub twice-last : runAt (t - m + i + (m - j)) (j - i) twice ≡ runAt (base + i) (j - i) l
     twice-last =
         let a : t - (t - m + j) ≡ m - j = omega arith in
         let b : t - m + j - (t - m + i) ≡ j - i = omega arith in
-        ap₂ (λ (u v : ℕ). run (t - m + i + u) v twice) (sym a) (sym b) ∙ rotated-last (t - m + i) (t - m + j) t once (omega arith) (omega arith) (omega (arith, lo))
-        ∙ ap (λ (v : ℕ). run (t - m + i) v once) b ∙ sym (take-take (j - i) (m - i) (drop (t - m + i) once) (omega arith)) ∙ ap (take (j - i)) (from i)
+        ap₂ (λ (u v : ℕ). runAt (t - m + i + u) v twice) (sym a) (sym b) ∙ rotated-last (t - m + i) (t - m + j) t once (omega arith) (omega arith) (omega (arith, lo))
+        ∙ ap (λ (v : ℕ). runAt (t - m + i) v once) b ∙ sym (take-take (j - i) (m - i) (drop (t - m + i) once) (omega arith)) ∙ ap (take (j - i)) (from i)
         ∙ take-take (j - i) (m - i) (drop (base + i) l) (omega arith)
 
   -- ---- runs
-  pub run-add : (n i j : ℕ) (l : List A) → run n (i + j) l ≡ run n i l ++ run (n + i) j l
+  pub run-add : (n i j : ℕ) (l : List A) → runAt n (i + j) l ≡ runAt n i l ++ runAt (n + i) j l
   run-add n i j l = take-add i j (drop n l) ∙ ap (λ (x : List A). take i (drop n l) ++ take j x) (drop-drop i n l)
 
-  run-before : (n k i : ℕ) (x : A) (l : List A) → n + k ≤ i → run n k (set l i x) ≡ run n k l
+  run-before : (n k i : ℕ) (x : A) (l : List A) → n + k ≤ i → runAt n k (set l i x) ≡ runAt n k l
   run-before n k i x l h =
       let e : i ≡ n + (i - n) = omega arith in
-      ap (λ (w : ℕ). run n k (set l w x)) e ∙ ap (take k) (drop-set-add n l (i - n) x) ∙ take-set-le k (drop n l) (i - n) x (omega arith)
+      ap (λ (w : ℕ). runAt n k (set l w x)) e ∙ ap (take k) (drop-set-add n l (i - n) x) ∙ take-set-le k (drop n l) (i - n) x (omega arith)
 
-  run-at : (i : ℕ) (x : A) (l : List A) → i < length l → run i 1 (set l i x) ≡ x ∷ []
+  run-at : (i : ℕ) (x : A) (l : List A) → i < length l → runAt i 1 (set l i x) ≡ x ∷ []
   run-at i x [] h = absurd (omega arith)
   run-at zero x (y ∷ l) h = refl
   run-at (suc i) x (y ∷ l) h = run-at i x l (omega arith)
@@ -148,17 +148,17 @@ module _ {A : Type 0} where
     lj : length filled ≡ length l
     lj = length-set l t x
 
-    up : run base (t - (base + m) + 1) joined ≡ run (base + m) (t - (base + m) + 1) filled
+    up : runAt base (t - (base + m) + 1) joined ≡ runAt (base + m) (t - (base + m) + 1) filled
     up =
         let e : t - (base + m) + 1 ≡ t + 1 - (base + m) = omega arith in
-        ap (λ (n : ℕ). run base n joined) e ∙ rotated-next base (base + m) (t + 1) filled (omega arith) (omega arith) (omega (arith, lj))
-        ∙ ap (λ (n : ℕ). run (base + m) n filled) (sym e)
+        ap (λ (n : ℕ). runAt base n joined) e ∙ rotated-next base (base + m) (t + 1) filled (omega arith) (omega arith) (omega (arith, lj))
+        ∙ ap (λ (n : ℕ). runAt (base + m) n filled) (sym e)
 
     pub joined-length : length joined ≡ length l
     joined-length = rotated-length base (base + m) (t + 1) filled (omega arith) (omega arith) (omega (arith, lj)) ∙ lj
 
     -- those that are not among them
-    pub joined-front : take (t - m) joined ≡ take base l ++ run (base + m) (t - (base + m)) l
+    pub joined-front : take (t - m) joined ≡ take base l ++ runAt (base + m) (t - (base + m)) l
     joined-front =
         let k = t - (base + m) in
         let a : t - m ≡ base + (t - (base + m)) = omega arith in
@@ -169,7 +169,7 @@ module _ {A : Type 0} where
         ∙ run-before (base + m) k t x l (omega arith))
 
     -- x, and then they
-    pub joined-last : run (t - m) (m + 1) joined ≡ x ∷ run base m l
+    pub joined-last : runAt (t - m) (m + 1) joined ≡ x ∷ runAt base m l
     joined-last =
         let k = t - (base + m) in
         let a : m + 1 ≡ 1 + m = omega arith in
@@ -178,9 +178,9 @@ module _ {A : Type 0} where
         let e : base + m + (t - (base + m)) ≡ t = omega arith in
         let g : t - m + 1 ≡ base + (t + 1 - (base + m)) = omega arith in
         let h : m ≡ base + m - base = omega arith in
-        ap (λ (n : ℕ). run (t - m) n joined) a ∙ run-add (t - m) 1 m joined
+        ap (λ (n : ℕ). runAt (t - m) n joined) a ∙ run-add (t - m) 1 m joined
         ∙ ap₂ _++_
-        (ap₂ (λ (u v : ℕ). run u v joined) b c ∙ run-drop base (k + 1) k joined ∙ ap (drop k) up ∙ sym (run-drop (base + m) (k + 1) k filled)
-        ∙ ap₂ (λ (u v : ℕ). run u v filled) e (sym c) ∙ run-at t x l hl)
-        (ap₂ (λ (u v : ℕ). run u v joined) g h ∙ rotated-last base (base + m) (t + 1) filled (omega arith) (omega arith) (omega (arith, lj))
-        ∙ ap (λ (v : ℕ). run base v filled) (sym h) ∙ run-before base m t x l hb)
+        (ap₂ (λ (u v : ℕ). runAt u v joined) b c ∙ run-drop base (k + 1) k joined ∙ ap (drop k) up ∙ sym (run-drop (base + m) (k + 1) k filled)
+        ∙ ap₂ (λ (u v : ℕ). runAt u v filled) e (sym c) ∙ run-at t x l hl)
+        (ap₂ (λ (u v : ℕ). runAt u v joined) g h ∙ rotated-last base (base + m) (t + 1) filled (omega arith) (omega arith) (omega (arith, lj))
+        ∙ ap (λ (v : ℕ). runAt base v filled) (sym h) ∙ run-before base m t x l hb)

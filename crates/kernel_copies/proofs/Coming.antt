@@ -18,19 +18,20 @@ use Rattle.store.specs.declared.Shape.{Shape}
 use Rattle.store.specs.declared.Cell.{Cell}
 use Rattle.store.specs.declared.Drawing.{Drawing}
 use Rattle.store.specs.Edits.{withCells, withEntries, placesOf}
-use Rattle.store.specs.Places.{shapeOf, bendsIn}
-use Rattle.store.specs.View.{sheetOf, Fits, bendCount, bendSum, bendTotal, cyclesOf, cycleTotal, widthSum}
+use Rattle.store.specs.Places.{shapeOf, figureBends}
+use Rattle.store.specs.View.{sheetOf, Fits, bendCount, bendSum, bendTotal, cyclesFrom, cycleTotal, widthSum}
 use Rattle.store.proofs.Lists.{places-sum}
-use Rattle.append.specs.Appends.{figureAt}
-use Rattle.append.specs.Copies.{repeated, copyCells}
-use Rattle.append.specs.Requirements.{CopiesRoom}
-use Rattle.append.specs.Runs.{run}
-use Rattle.append.proofs.CopyLists.{bend-more, cells-more}
-use Rattle.append.proofs.Copied.{row-shape, row-count, row-within, bends-filled, copies-grown}
+use Rattle.rows_new.specs.Appends.{figureAt}
+use Rattle.rows_new.specs.Copies.{repeated, copyCells}
+use Rattle.rows_new.specs.Requirements.{CopiesRoom}
+use Rattle.rows_new.specs.Runs.{runAt}
+use Rattle.rows_new.proofs.CopyLists.{bend-more, cells-more}
+use Rattle.rows_new.proofs.Copied.{row-shape, row-count, row-within, bends-filled, copies-grown}
 use Rattle.answer.specs.Answers.{outcome}
-use Rattle.copies.specs.declared.Use.{Use}
-use Rattle.copies.specs.Copying.{usesIn, copied}
-use Rattle.copies.proofs.Dealing.{stepped-is, copied-cells}
+use Rattle.rows_uses.specs.declared.Use.{Use}
+use Rattle.rows_uses.specs.Uses.{usesIn}
+use Rattle.rows_copied.specs.Copying.{copied}
+use Rattle.rows_copied.proofs.Dealt.{stepped-is, copied-cells}
 use Rattle.lent.specs.Arrays.{Arrays, shapeBy, shapeAt, positionIn, positionsIn, heldBy, rowNormal, normalAt, normal, Lengths}
 use Rattle.lent.specs.Growing.{withRow}
 use Rattle.lent.proofs.Held.{all-at, cells-shape, cells-told, held-sizes, told, positions-at, positions-set, positions-length, place-other, place-same}
@@ -49,10 +50,10 @@ round-last i k h n =
 -- ---- a bend more
 pub bend-put : (us₀ vs₀ us vs us′ vs′ : List Float) (base n first k i j : ℕ) (p : Position)
     → length us₀ ≡ 2048 → length vs₀ ≡ 2048 → length us ≡ 2048 → length vs ≡ 2048
-    → positionsIn us vs ≡ paste (positionsIn us₀ vs₀) base (repeated n (run first k (positionsIn us₀ vs₀))) j
+    → positionsIn us vs ≡ paste (positionsIn us₀ vs₀) base (repeated n (runAt first k (positionsIn us₀ vs₀))) j
     → i ≡ j % k → first + k ≤ base → base + n * k ≤ 2048 → j < n * k → first + i < 2048
     → p ≡ positionIn us vs (first + i) → us′ ≡ set us (base + j) (p .x) → vs′ ≡ set vs (base + j) (p .y)
-    → positionsIn us′ vs′ ≡ paste (positionsIn us₀ vs₀) base (repeated n (run first k (positionsIn us₀ vs₀))) (j + 1)
+    → positionsIn us′ vs′ ≡ paste (positionsIn us₀ vs₀) base (repeated n (runAt first k (positionsIn us₀ vs₀))) (j + 1)
 bend-put us₀ vs₀ us vs us′ vs′ base n first k i j p l₀ m₀ l m e ei h g t hi ep eu ev =
     let ps₀ = positionsIn us₀ vs₀ in
     let ps = positionsIn us vs in
@@ -139,7 +140,7 @@ module _ (a : Arrays) (l : Lengths a) (m : normal a ≡ true) (row n : ℕ) (h :
   shape-is : shapeAt a row ≡ shapeOf (figureAt (sheetOf (heldBy a)) row)
   shape-is = sym (cells-shape (shapeAt a) (a .ids) row nowhere in-array) ∙ row-shape (heldBy a) (held-sizes a l) (h .fits) row (h .row) nowhere
 
-  pub bends-own : getD (a .bends) row 0 ≡ length (bendsIn (figureAt (sheetOf (heldBy a)) row))
+  pub bends-own : getD (a .bends) row 0 ≡ length (figureBends (figureAt (sheetOf (heldBy a)) row))
   bends-own =
       sym (told a l m row (h .row) .bends) ∙ ap bendCount (sym (cells-shape (shapeAt a) (a .ids) row nowhere in-array))
       ∙ row-count (heldBy a) (held-sizes a l) (h .fits) row (h .row) nowhere
@@ -160,10 +161,10 @@ module _ (a : Arrays) (l : Lengths a) (m : normal a ≡ true) (row n : ℕ) (h :
     bends-room =
         let w = row-within (heldBy a) (held-sizes a l) (h .fits) row (h .row) in
         let e = ek ∙ bends-own in
-        let g : n * k ≡ n * length (bendsIn (figureAt (sheetOf (heldBy a)) row)) = ap (λ (x : ℕ). n * x) e in
+        let g : n * k ≡ n * length (figureBends (figureAt (sheetOf (heldBy a)) row)) = ap (λ (x : ℕ). n * x) e in
         (omega (arith, w, e, eb, ef ∙ bends-from), omega (arith, eb, h .bends, g))
 
-    pub copies-come : (us vs : List Float) → positionsIn us vs ≡ paste (positionsIn (a .bx) (a .by)) base (repeated n (run first k (positionsIn (a .bx) (a .by)))) (n * k)
+    pub copies-come : (us vs : List Float) → positionsIn us vs ≡ paste (positionsIn (a .bx) (a .by)) base (repeated n (runAt first k (positionsIn (a .bx) (a .by)))) (n * k)
         → (b : Arrays) → RowsCome (withPlaces a us vs) (shapeAt a row) n n b → CopiesCome a row n b
     copies-come us vs e b r =
         let d = heldBy a in
@@ -185,13 +186,13 @@ module _ (a : Arrays) (l : Lengths a) (f : Fits (heldBy a)) (u : Use) (i k m : �
       (omega (arith, em, f .cycles, l .cycles), omega (arith, w, f .steps, l .steps))
 
   pub uses-copied : T (rising 0 (ids (sheetOf (heldBy a) .cells)) (sheetOf (heldBy a) .next)) → (st : List ℕ) → length st ≡ 2048
-      → cyclesOf (take m (a .cycles)) st ≡ counting (usesIn u i) (copied u i (a .next)) k (cyclesOf (take m (a .cycles)) (a .steps))
+      → cyclesFrom (take m (a .cycles)) st ≡ counting (usesIn u i) (copied u i (a .next)) k (cyclesFrom (take m (a .cycles)) (a .steps))
       → UsesCopied u i k a (withOtherSteps a st)
   uses-copied t st ls e =
       let d = heldBy a in
       let z = held-sizes a l in
       let g = stepped-is d z f st ls in
-      let q = subst (λ (x : ℕ). cyclesOf (take x (a .cycles)) st ≡ counting (usesIn u i) (copied u i (a .next)) k (cyclesOf (take x (a .cycles)) (a .steps))) em e in
+      let q = subst (λ (x : ℕ). cyclesFrom (take x (a .cycles)) st ≡ counting (usesIn u i) (copied u i (a .next)) k (cyclesFrom (take x (a .cycles)) (a .steps))) em e in
       record {
         sheet = g .0 ∙ ap (λ (xs : List LiveCell). withEntries (sheetOf d) xs) (copied-cells d z f (usesIn u i) (copied u i (a .next)) k st t q);
         fits = g .1;

@@ -9,10 +9,11 @@ use Rattle.complex.specs.Uses.{onUses}
 use Rattle.store.specs.declared.Shape.{Shape}
 use Rattle.store.specs.View.{sheetOf, Fits}
 use Rattle.store.specs.Edits.{withCells, withEntries}
-use Rattle.append.specs.Appends.{appendedAll, figureAt}
-use Rattle.append.specs.Copies.{copyCells}
-use Rattle.copies.specs.declared.Use.{Use}
-use Rattle.copies.specs.Copying.{usesIn, copied}
+use Rattle.rows_new.specs.Appends.{appendedAll, figureAt}
+use Rattle.rows_new.specs.Copies.{copyCells}
+use Rattle.rows_uses.specs.declared.Use.{Use}
+use Rattle.rows_uses.specs.Uses.{usesIn}
+use Rattle.rows_copied.specs.Copying.{copied}
 use Rattle.lent.specs.Arrays.{Arrays, heldBy, normal, Lengths}
 
 -- b has i of n rows of the shape s more, with the next ids

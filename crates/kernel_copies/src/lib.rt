@@ -8,12 +8,12 @@ ghost use Rattle.complex.specs.Lists.{rising};
 ghost use Rattle.complex.specs.Cells.{ids as idsOf};
 ghost use Rattle.complex.specs.Sound.{cellsMost, bendsMost, idsEnd};
 ghost use Rattle.store.specs.View.{sheetOf, Fits, cycleTotal, bendTotal};
-ghost use Rattle.append.specs.Runs.{run};
-ghost use Rattle.append.specs.Copies.{repeated};
-ghost use Rattle.append.specs.Requirements.{CopiesRoom};
+ghost use Rattle.rows_new.specs.Runs.{runAt};
+ghost use Rattle.rows_new.specs.Copies.{repeated};
+ghost use Rattle.rows_new.specs.Requirements.{CopiesRoom};
 ghost use Rattle.lent.specs.Arrays.{heldBy, shapeAt, positionsIn, normal, Lengths, lent, entry, exit};
 ghost use Rattle.kernel_copies.specs.Copies.{RowsCome, CopiesCome, UsesCopied};
-use copies::Use;
+use rows_uses::Use;
 
 // The place after i of k places in a round.
 fn around(i: usize, k: usize) -> usize
@@ -38,7 +38,7 @@ fn put_bends(
     requires { ⌜ first + k ≤ base ⌝ }
     requires { ⌜ base + n * k ≤ bendsMost ⌝ }
     requires { ⌜ (length (now bx) ≡ bendsMost) × (length (now by) ≡ bendsMost) ⌝ }
-    ensures { λ _. ⌜ positionsIn (now (bx .exit)) (now (by .exit)) ≡ paste (positionsIn (now (bx .entry)) (now (by .entry))) base (repeated n (run first k (positionsIn (now (bx .entry)) (now (by .entry))))) (n * k) ⌝ }
+    ensures { λ _. ⌜ positionsIn (now (bx .exit)) (now (by .exit)) ≡ paste (positionsIn (now (bx .entry)) (now (by .entry))) base (repeated n (runAt first k (positionsIn (now (bx .entry)) (now (by .entry))))) (n * k) ⌝ }
     ensures { λ _. ⌜ (length (now (bx .exit)) ≡ bendsMost) × (length (now (by .exit)) ≡ bendsMost) ⌝ }
 {
     let t = n * k;
@@ -135,7 +135,7 @@ pub fn put_copies(
     ensures { λ _. ⌜ CopiesCome (entry next count ids kinds starts ends bends counts px py cycles steps bx by) row n (exit (next + n) (count + n) ids kinds starts ends bends counts px py cycles steps bx by) ⌝ }
 {
     let k = store::wide(bends[row]);
-    let first = cycles::bend_start(bends, row);
+    let first = rows_spans::bend_start(bends, row);
     put_bends(bx, by, base, first, k, n);
     put_rows(
         next,
@@ -186,5 +186,5 @@ pub fn copy_uses(
     requires { ⌜ k0 ≤ 4096 ⌝ }
     ensures { λ _. ⌜ UsesCopied u i k0 (entry next count ids kinds starts ends bends counts px py cycles steps bx by) (exit next count ids kinds starts ends bends counts px py cycles steps bx by) ⌝ }
 {
-    copies::copy_cycles(u, cycles, m, steps, i, next, k0);
+    rows_copied::copy_cycles(u, cycles, m, steps, i, next, k0);
 }

@@ -16,14 +16,14 @@ use Rattle.store.specs.declared.Cell.{Cell}
 use Rattle.store.specs.declared.Drawing.{Drawing}
 use Rattle.store.specs.Sizes.{Sizes}
 use Rattle.store.specs.Index.{Indexes}
-use Rattle.store.specs.View.{sheetOf, Fits, cyclesOf}
+use Rattle.store.specs.View.{sheetOf, Fits, cyclesFrom}
 use Rattle.store.specs.Edits.{placesOf}
 use Rattle.store.proofs.Lists.{sum-append, width-places}
-use Rattle.cycles.specs.declared.Span.{Span}
-use Rattle.cycles.specs.declared.Spans.{Spans}
-use Rattle.cycles.specs.Runs.{spanOf, rowSpan, kinds, cycleSpan, stepSpan, Spliced, withRow}
-use Rattle.cycles.proofs.Splicing.{span-sum}
-use Rattle.cycles.proofs.Replaced.{kind-read, spans-read, cycle-room, step-room, replaced-is}
+use Rattle.rows_spans.specs.declared.Span.{Span}
+use Rattle.rows_spans.specs.declared.Spans.{Spans}
+use Rattle.rows_spans.specs.Runs.{spanOf, rowSpan, kinds, cycleSpan, stepSpan, Spliced, sheetWithRow}
+use Rattle.rows_spans.proofs.Splicing.{span-sum}
+use Rattle.rows_spans.proofs.Replaced.{kind-read, spans-read, cycle-room, step-room, replaced-is}
 use Rattle.answer.specs.declared.Totals.{Totals}
 use Rattle.lent.specs.Arrays.{Arrays, shapeBy, shapeAt, cellsBy, positionIn, heldBy, rowsBy, rowNormal, normalAt, normal, totalsOf, Lengths}
 use Rattle.lent.proofs.Held.{held-sizes, held-indexes, cells-set, cells-id, all-at, all-intro}
@@ -132,7 +132,7 @@ module _ (a : Arrays) (row : ℕ) (s : Spans) (counts : List ℕ) (n : ℕ) (ste
         ∙ cells-set (shapeAt a) (shapeAt b) row (getD (a .ids) row 0) (a .ids) h there
         ∙ ap₂ (λ (i : ℕ) (x : Shape). set (heldBy a .cells) row (record { id = i; shape = x })) (sym (cells-id (shapeAt a) (a .ids) row none h)) here
 
-    both : (sheetOf (heldBy b) ≡ withRow (sheetOf (heldBy a)) row (face (cyclesOf (take n counts) steps))) × Fits (heldBy b)
+    both : (sheetOf (heldBy b) ≡ sheetWithRow (sheetOf (heldBy a)) row (face (cyclesFrom (take n counts) steps))) × Fits (heldBy b)
     both =
         replaced-is (heldBy a) sizes-in (w .replaces .fits) row (w .replaces .live) counts steps n m (w .replaces) (heldBy b) (held-sizes b long) refl refl none cells-are refl
         (subst (λ (t : Span). Spliced (a .cycles) t counts n cy) (spans-in .0) kc) (subst (λ (t : Span). Spliced (a .steps) t steps m st) (spans-in .1) ks)
@@ -180,7 +180,7 @@ module _ (a : Arrays) (row : ℕ) (s : Spans) (counts : List ℕ) (n : ℕ) (ste
         let j : s .steps .rest ≡ total f v = ap (λ (t : Span). t .rest) e in
         ap (λ (k : ℕ). total f (take k cy)) cycle-sum ∙ ap (total f) (kc .front) ∙ omega (arith, g, h, u, i, j)
 
-    pub replaced-in : ReplacedIn a row s n m (cyclesOf (take n counts) steps) b
+    pub replaced-in : ReplacedIn a row s n m (cyclesFrom (take n counts) steps) b
     replaced-in =
         let p = cycle-sum in
         let q = step-sum in

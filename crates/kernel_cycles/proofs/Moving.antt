@@ -9,12 +9,12 @@ use lib.Seq.{take-add, take-take, drop-drop, drop-cons, take-suc, take-suc-set, 
 use lib.Seq.{paste, take-paste, drop-paste, length-paste, take-all, take-at, drop-at}
 use Rattle.complex.specs.Lists.{total}
 use Rattle.store.specs.Edits.{placesOf}
-use Rattle.cycles.specs.declared.Span.{Span}
-use Rattle.cycles.specs.declared.Spans.{Spans}
-use Rattle.cycles.specs.Runs.{spanOf, rowSpan, spansOf, Spliced}
-use Rattle.cycles.proofs.Splicing.{run-take, span-sum}
+use Rattle.rows_spans.specs.declared.Span.{Span}
+use Rattle.rows_spans.specs.declared.Spans.{Spans}
+use Rattle.rows_spans.specs.Runs.{spanOf, rowSpan, spansOf, Spliced}
+use Rattle.rows_spans.proofs.Splicing.{run-take, span-sum}
 use Rattle.answer.specs.declared.Totals.{Totals}
-use Rattle.kernel_cycles.specs.Replacing.{Moved, Counted, andOne}
+use Rattle.kernel_cycles.specs.Replacing.{Moved, RowCounted, andOne}
 
 pub moved-none : (l : List ℕ) (from n to : ℕ) → from ≡ to → Moved l from n to l
 moved-none l from n to e = record { size = refl; front = λ k h g. refl; run = ap (λ (i : ℕ). take n (drop i l)) (sym e) }
@@ -204,7 +204,7 @@ module _ (z : ℕ) (counts : List ℕ) (first count n all : ℕ) (h : first + co
       let r : all - (a + b) ≡ spanOf z counts runOf .rest = omega arith in
       λ i. record { first = ea i; count = eb i; rest = r i }
 
-module _ (counts cycles : List ℕ) (row : ℕ) (t : Totals) (w : Counted counts cycles row t) (c : Span) (ec : c ≡ spanOf 0 counts (rowSpan (t .cells) row)) where
+module _ (counts cycles : List ℕ) (row : ℕ) (t : Totals) (w : RowCounted counts cycles row t) (c : Span) (ec : c ≡ spanOf 0 counts (rowSpan (t .cells) row)) where
   in-all : c .first + c .count + c .rest ≡ t .cycles
   in-all = ap (λ (s : Span). s .first + s .count + s .rest) ec ∙ all-in 0 counts row 1 (t .cells) (t .cycles) (let l = w .live in omega arith) (w .cycleSum)
 

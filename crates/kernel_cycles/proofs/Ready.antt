@@ -6,12 +6,12 @@ use Rattle.answer.specs.declared.Totals.{Totals}
 use Rattle.lent.specs.Arrays.{Arrays}
 use Rattle.lent.specs.Replies.{Ready}
 use Rattle.lent.proofs.Sums.{ready-summed}
-use Rattle.kernel_cycles.specs.Replacing.{Counted}
+use Rattle.kernel_cycles.specs.Replacing.{RowCounted}
 
-pub ready-counted : (a : Arrays) (t : Totals) → Ready a t → (row : ℕ) → row < a .count → Counted (a .counts) (a .cycles) row t
+pub ready-counted : (a : Arrays) (t : Totals) → Ready a t → (row : ℕ) → row < a .count → RowCounted (a .counts) (a .cycles) row t
 ready-counted a t y row h =
     let m = ready-summed a t y in
-    subst (Counted (a .counts) (a .cycles) row) (sym (y .sums))
+    subst (RowCounted (a .counts) (a .cycles) row) (sym (y .sums))
     (record {
       live = h;
       rows = m .cycleRows;

@@ -10,9 +10,9 @@ use Rattle.complex.specs.Cells.{Cycle, face}
 use Rattle.complex.specs.Sound.{cellsMost, cyclesMost, stepsMost}
 use Rattle.store.specs.View.{sheetOf, Fits}
 use Rattle.store.specs.Edits.{placesOf}
-use Rattle.cycles.specs.declared.Span.{Span}
-use Rattle.cycles.specs.declared.Spans.{Spans}
-use Rattle.cycles.specs.Runs.{spansOf, Replaces, withRow}
+use Rattle.rows_spans.specs.declared.Span.{Span}
+use Rattle.rows_spans.specs.declared.Spans.{Spans}
+use Rattle.rows_spans.specs.Runs.{spansOf, Replaces, sheetWithRow}
 use Rattle.answer.specs.declared.Totals.{Totals}
 use Rattle.lent.specs.Arrays.{Arrays, heldBy, normal, totalsOf, Lengths}
 
@@ -23,7 +23,7 @@ pub record Moved (old : List ℕ) (from n to : ℕ) (out : List ℕ) : Type 0 wh
   pub run : take n (drop to out) ≡ take n (drop from old)
 
 -- the sums t are those of the numbers of cycles and of the cycles, and the row is one of them
-pub record Counted (counts cycles : List ℕ) (row : ℕ) (t : Totals) : Type 0 where
+pub record RowCounted (counts cycles : List ℕ) (row : ℕ) (t : Totals) : Type 0 where
   pub live : row < t .cells
   pub rows : t .cells ≤ length counts
   pub cycleSum : t .cycles ≡ total (placesOf 0) (take (t .cells) counts)
@@ -55,7 +55,7 @@ totalsWith a s n m =
 
 -- the arrays b hold what a hold, the face in the row with the n cycles ks of m steps
 pub record ReplacedIn (a : Arrays) (row : ℕ) (s : Spans) (n m : ℕ) (ks : List Cycle) (b : Arrays) : Type 0 where
-  pub sheet : sheetOf (heldBy b) ≡ withRow (sheetOf (heldBy a)) row (face ks)
+  pub sheet : sheetOf (heldBy b) ≡ sheetWithRow (sheetOf (heldBy a)) row (face ks)
   pub fits : Fits (heldBy b)
   pub long : Lengths b
   pub rows : normal b ≡ true

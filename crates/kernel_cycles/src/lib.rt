@@ -5,16 +5,16 @@ ghost use Prim.Native.Nat.{_+_, _-_, _<_, _≤_};
 ghost use lib.ListN.{take, drop, length};
 ghost use Rattle.complex.specs.Lists.{total};
 ghost use Rattle.complex.specs.Sound.{cyclesMost, stepsMost};
-ghost use Rattle.store.specs.View.{width, widthSum, cycleOf, cyclesOf};
+ghost use Rattle.store.specs.View.{width, widthSum, cycleOf, cyclesFrom};
 ghost use Rattle.store.specs.Edits.{kept, placesOf};
-ghost use Rattle.cycles.specs.Runs.{spanOf, spansOf, Spliced};
-ghost use Rattle.cycles.specs.Building.{Building, Built, built};
+ghost use Rattle.rows_spans.specs.Runs.{spanOf, spansOf, Spliced};
+ghost use Rattle.rows_spans.specs.Building.{Building, Built, built};
 ghost use Rattle.lent.specs.Arrays.{lent, entry, exit};
-ghost use Rattle.kernel_cycles.specs.Replacing.{Moved, Counted, andOne, ReplacesIn, ReplacedIn};
+ghost use Rattle.kernel_cycles.specs.Replacing.{Moved, RowCounted, andOne, ReplacesIn, ReplacedIn};
 use answer::Totals;
-use cycles::Span;
-use cycles::Spans;
-use cycles::Used;
+use rows_spans::Span;
+use rows_spans::Spans;
+use rows_spans::Used;
 
 // The places that some counts stand for, if the n counts in use stand for so many in all.
 fn span_in(z: usize, counts: &[u32], first: usize, count: usize, n: usize, all: usize) -> Span
@@ -24,8 +24,8 @@ fn span_in(z: usize, counts: &[u32], first: usize, count: usize, n: usize, all: 
     requires { ⌜ all ≤ stepsMost ⌝ }
     ensures { λ r. ⌜ r ≡ spanOf z (now (counts .entry)) (record { first = first; count = count; rest = n - (first + count) }) ⌝ }
 {
-    let a = cycles::place_sum(z, counts, 0, first);
-    let b = cycles::place_sum(z, counts, first, count);
+    let a = rows_spans::place_sum(z, counts, 0, first);
+    let b = rows_spans::place_sum(z, counts, first, count);
     Span {
         first: a,
         count: b,
@@ -35,7 +35,7 @@ fn span_in(z: usize, counts: &[u32], first: usize, count: usize, n: usize, all: 
 
 // Where the cycles and the steps of the cell in a row stand, if the sums are known.
 pub fn spans_at(counts: &[u32; 256], cycles: &[u32; 512], row: usize, t: Totals) -> Spans
-    requires { ⌜ Counted (now counts) (now cycles) row t ⌝ }
+    requires { ⌜ RowCounted (now counts) (now cycles) row t ⌝ }
     ensures { λ r. ⌜ r ≡ spansOf (now (counts .entry)) (t .cells) row (now (cycles .entry)) ⌝ }
 {
     let c = span_in(0, counts, row, 1, t.cells, t.cycles);
@@ -96,7 +96,7 @@ pub fn splice(l: &mut [u32], s: Span, new: &[u32], n: usize)
     ensures { λ _. ⌜ Spliced (now (l .entry)) s (now (new .entry)) n (now (l .exit)) ⌝ }
 {
     shift(l, s.first + s.count, s.rest, s.first + n);
-    cycles::copy_run(new, 0, n, l, s.first);
+    rows_spans::copy_run(new, 0, n, l, s.first);
 }
 
 // The face in a row, whose cycles and steps stand at s, gets the n cycles, of m steps, that two other arrays hold.
@@ -117,13 +117,13 @@ pub fn replace_cycles(
     by: &[f64; 2048],
     row: usize,
     s: Spans,
-    numbers: &[u32; 512],
+    numbers: &[u32],
     n: usize,
-    places: &[u32; 2048],
+    places: &[u32],
     m: usize,
 )
     requires { ⌜ ReplacesIn (lent next count ids kinds starts ends bends counts px py cycles steps bx by) row s (now numbers) n (now places) m ⌝ }
-    ensures { λ _. ⌜ ReplacedIn (entry next count ids kinds starts ends bends counts px py cycles steps bx by) row s n m (cyclesOf (take n (now (numbers .entry))) (now (places .entry))) (exit next count ids kinds starts ends bends counts px py cycles steps bx by) ⌝ }
+    ensures { λ _. ⌜ ReplacedIn (entry next count ids kinds starts ends bends counts px py cycles steps bx by) row s n m (cyclesFrom (take n (now (numbers .entry))) (now (places .entry))) (exit next count ids kinds starts ends bends counts px py cycles steps bx by) ⌝ }
 {
     splice(cycles, s.cycles, numbers, n);
     splice(steps, s.steps, places, m);
@@ -163,7 +163,7 @@ pub fn add_cycle(
     h: u32,
 )
     requires { ⌜ ReplacesIn (lent next count ids kinds starts ends bends counts px py cycles steps bx by) row s (andOne cyclesMost (now cycles) (s .cycles) m) (s .cycles .count + 1) (andOne stepsMost (now steps) (s .steps) h) (s .steps .count + 1) ⌝ }
-    ensures { λ _. ⌜ ReplacedIn (entry next count ids kinds starts ends bends counts px py cycles steps bx by) row s (s .cycles .count + 1) (s .steps .count + 1) (cyclesOf (take (s .cycles .count + 1) (andOne cyclesMost (now (cycles .entry)) (s .cycles) m)) (andOne stepsMost (now (steps .entry)) (s .steps) h)) (exit next count ids kinds starts ends bends counts px py cycles steps bx by) ⌝ }
+    ensures { λ _. ⌜ ReplacedIn (entry next count ids kinds starts ends bends counts px py cycles steps bx by) row s (s .cycles .count + 1) (s .steps .count + 1) (cyclesFrom (take (s .cycles .count + 1) (andOne cyclesMost (now (cycles .entry)) (s .cycles) m)) (andOne stepsMost (now (steps .entry)) (s .steps) h)) (exit next count ids kinds starts ends bends counts px py cycles steps bx by) ⌝ }
 {
     let c = s.cycles;
     let p = s.steps;
@@ -178,14 +178,14 @@ fn copy_cycle(
     src: &[u32],
     from: usize,
     skip: bool,
-    counts: &mut [u32; 512],
-    steps: &mut [u32; 2048],
+    counts: &mut [u32],
+    steps: &mut [u32],
     u: Used,
 ) -> Used
     requires { ⌜ Building (now counts) u (now steps) ⌝ }
     requires { ⌜ from + width c ≤ length (now src) ⌝ }
-    requires { ⌜ u .cycles + length (cond skip [] (c ∷ [])) ≤ cyclesMost ⌝ }
-    requires { ⌜ u .steps + widthSum (cond skip [] (c ∷ [])) ≤ stepsMost ⌝ }
+    requires { ⌜ u .cycles + length (cond skip [] (c ∷ [])) ≤ length (now counts) ⌝ }
+    requires { ⌜ u .steps + widthSum (cond skip [] (c ∷ [])) ≤ length (now steps) ⌝ }
     ensures { λ r. ⌜ r ≡ record { cycles = u .cycles + length (cond skip [] (c ∷ [])); steps = u .steps + widthSum (cond skip [] (c ∷ [])) } ⌝ }
     ensures { λ r. ⌜ Built (built (now (counts .entry)) u (now (steps .entry)) ++ cond skip [] (cycleOf c (drop from (now (src .entry))) ∷ [])) (now (counts .exit)) r (now (steps .exit)) ⌝ }
 {
@@ -196,7 +196,7 @@ fn copy_cycle(
     let j = u.steps;
     let w = store::places(1, c);
     counts[i] = c;
-    let e = cycles::copy_run(src, from, w, steps, j);
+    let e = rows_spans::copy_run(src, from, w, steps, j);
     Used {
         cycles: i + 1,
         steps: e,
@@ -211,17 +211,17 @@ pub fn copy_cycles(
     src: &[u32],
     step: usize,
     skip: &[bool],
-    counts: &mut [u32; 512],
-    steps: &mut [u32; 2048],
+    counts: &mut [u32],
+    steps: &mut [u32],
     u: Used,
 ) -> Used
     requires { ⌜ Building (now counts) u (now steps) ⌝ }
     requires { ⌜ from + k ≤ length (now cycles) ⌝ }
     requires { ⌜ step + widthSum (take k (drop from (now cycles))) ≤ length (now src) ⌝ }
     requires { ⌜ k ≤ length (now skip) ⌝ }
-    requires { ⌜ u .cycles + length (kept (take k (now skip)) (take k (drop from (now cycles)))) ≤ cyclesMost ⌝ }
-    requires { ⌜ u .steps + widthSum (kept (take k (now skip)) (take k (drop from (now cycles)))) ≤ stepsMost ⌝ }
-    ensures { λ r. ⌜ Built (built (now (counts .entry)) u (now (steps .entry)) ++ kept (take k (now (skip .entry))) (cyclesOf (take k (drop from (now (cycles .entry)))) (drop step (now (src .entry))))) (now (counts .exit)) r (now (steps .exit)) ⌝ }
+    requires { ⌜ u .cycles + length (kept (take k (now skip)) (take k (drop from (now cycles)))) ≤ length (now counts) ⌝ }
+    requires { ⌜ u .steps + widthSum (kept (take k (now skip)) (take k (drop from (now cycles)))) ≤ length (now steps) ⌝ }
+    ensures { λ r. ⌜ Built (built (now (counts .entry)) u (now (steps .entry)) ++ kept (take k (now (skip .entry))) (cyclesFrom (take k (drop from (now (cycles .entry)))) (drop step (now (src .entry))))) (now (counts .exit)) r (now (steps .exit)) ⌝ }
     ensures { λ r. ⌜ r ≡ record { cycles = u .cycles + length (kept (take k (now (skip .entry))) (take k (drop from (now (cycles .entry))))); steps = u .steps + widthSum (kept (take k (now (skip .entry))) (take k (drop from (now (cycles .entry))))) } ⌝ }
 {
     let mut out = u;

@@ -5,7 +5,7 @@ use mathlib.Core.Path.{_≡_, refl, sym, ap, ap₂, _∙_, subst}
 use mathlib.Core.Bool.{Bool, true, false, _&&_, cond}
 use mathlib.Core.List.{List, [], _∷_, map}
 use lib.Ieee.{Float, nan}
-use lib.ListN.{length, getD, take, replicate, length-append, length-replicate}
+use lib.ListN.{length, getD, take}
 use lib.Seq.{getD-take, length-take-le, ext-getD}
 use Rattle.coordinate.specs.declared.Position.{Position}
 use Rattle.store.specs.declared.Shape.{Shape}
@@ -16,17 +16,44 @@ use Rattle.complex.specs.Lists.{total}
 use Rattle.store.specs.Edits.{kept, placesOf, spreadFlags, Compacted, PlacesKept, CyclesKept}
 use Rattle.store.proofs.Lists.{Packing, places-sum}
 use Rattle.sound.specs.Rows.{allFrom}
-use Rattle.rewire.proofs.Renamed.{noCell}
-use Rattle.keep.proofs.Kept.{dropped}
+use Rattle.rows_steps.proofs.Renamed.{noCell}
+use Rattle.rows_slide.specs.Slid.{BendsKept}
+use Rattle.rows_slide.proofs.Kept.{dropped}
+use Rattle.rows_slide.proofs.Runs.{spread-length}
 use Rattle.lent.specs.Arrays.{Arrays, shapeBy, shapeAt, positionIn, positionsIn, cellsBy, heldBy, rowsBy, rowNormal, normalAt, normal, Lengths}
 use Rattle.lent.proofs.Held.{held-sizes, held-indexes, cells-length, positions-length, positions-at, all-at, all-intro}
-use Rattle.kernel_keep.specs.Keeps.{RowsKept, BendsKept, Keeps}
+use Rattle.kernel_keep.specs.Keeps.{RowsKept, Keeps}
 
-pub packing-count : {A : Type 0} {flags : List Bool} {l₀ l : List A} {n k : ℕ} → n ≤ length l₀ → Packing flags l₀ n k l → k ≡ length (kept (take n flags) (take n l₀))
+pub packing-count : {A : Type 0} {flags : List Bool} {l₀ l : List A} {n k : ℕ} → n ≤ length l₀ → Packing flags l₀ n k l → k
+    ≡ length (kept (take n flags) (take n l₀))
 packing-count {A} {flags} {l₀} {l} {n} {k} h p =
     let a = p .le in
     let b = p .size in
     sym (length-take-le k l (omega arith)) ∙ ap length (p .front)
+
+-- what the packing of the row arrays says, in one record
+pub rows-kept : (flags : List Bool) (n : ℕ) (a b : Arrays) (r : ℕ)
+    → (r ≡ length (kept (take n flags) (take n (a .py)))) × (Compacted (take n flags) (take n (a .ids)) (b .ids)
+    × (Compacted (take n flags) (take n (a .kinds)) (b .kinds)
+    × (Compacted (take n flags) (take n (a .starts)) (b .starts)
+    × (Compacted (take n flags) (take n (a .ends)) (b .ends) × (Compacted (take n flags) (take n (a .bends)) (b .bends)
+    × (Compacted (take n flags) (take n (a .counts)) (b .counts)
+    × (Compacted (take n flags) (take n (a .px)) (b .px) × Compacted (take n flags) (take n (a .py)) (b .py))))))))
+    → RowsKept flags n a b r
+rows-kept flags n a b r q =
+    let s = q .1 .1 .1 in
+    let t = s .1 .1 .1 in
+    record {
+      count = q .0;
+      ids = q .1 .0;
+      kinds = q .1 .1 .0;
+      starts = s .0;
+      ends = s .1 .0;
+      bends = s .1 .1 .0;
+      counts = t .0;
+      px = t .1 .0;
+      py = t .1 .1;
+    }
 
 -- where the j-th of the elements that stay stood
 abbrev pick : List Bool → ℕ → ℕ
@@ -57,7 +84,8 @@ module _ {A : Type 0} where
   kept-few (false ∷ bs) (x ∷ xs) = let p = kept-few bs xs in omega arith
 
   -- an element that stayed
-  front-at : (ms : List Bool) (n : ℕ) (l₀ l : List A) → length ms ≡ n → n ≤ length l₀ → Compacted ms (take n l₀) l → (j : ℕ) (z : A) → j < length (kept ms (take n l₀)) → getD l j z ≡ getD l₀ (pick ms j) z
+  front-at : (ms : List Bool) (n : ℕ) (l₀ l : List A) → length ms ≡ n → n ≤ length l₀ → Compacted ms (take n l₀) l → (j : ℕ) (z : A)
+      → j < length (kept ms (take n l₀)) → getD l j z ≡ getD l₀ (pick ms j) z
   front-at ms n l₀ l e h k j z g =
       let t = length-take-le n l₀ h in
       let b = pick-below ms (take n l₀) j (e ∙ sym t) g in
@@ -75,7 +103,8 @@ kept-same (true ∷ bs) (x ∷ xs) (y ∷ ys) e = kept-same bs xs ys (omega arit
 kept-same (false ∷ bs) (x ∷ xs) (y ∷ ys) e = ap suc (kept-same bs xs ys (omega arith))
 
 -- ---- positions
-pub positions-kept : (ms : List Bool) (t : ℕ) (xs₀ ys₀ xs ys : List Float) → length ms ≡ t → t ≤ 2048 → length xs₀ ≡ 2048 → length ys₀ ≡ 2048 → length xs ≡ 2048 → length ys ≡ 2048
+pub positions-kept : (ms : List Bool) (t : ℕ) (xs₀ ys₀ xs ys : List Float) → length ms ≡ t → t ≤ 2048 → length xs₀ ≡ 2048 → length ys₀ ≡ 2048 → length xs
+    ≡ 2048 → length ys ≡ 2048
     → Compacted ms (take t xs₀) xs → Compacted ms (take t ys₀) ys → Compacted ms (take t (positionsIn xs₀ ys₀)) (positionsIn xs ys)
 positions-kept ms t xs₀ ys₀ xs ys em h lx₀ ly₀ lx ly kx ky =
     let z = positionIn xs ys 0 in
@@ -102,7 +131,8 @@ positions-kept ms t xs₀ ys₀ xs ys em h lx₀ ly₀ lx ly kx ky =
           getD-take m Q j z gm
           ∙ positions-at xs ys j z (omega (arith, gm, few, tp, lx, h)) (omega (arith, gm, few, tp, ly, h))
           ∙ ap₂ (λ (u v : Float). record { x = u; y = v }) px py
-          ∙ sym (kept-at ms (take t P) j z (em ∙ sym tp) gm ∙ getD-take t P (pick ms j) z (omega (arith, b, em)) ∙ positions-at xs₀ ys₀ (pick ms j) z (omega (arith, b, em, lx₀, h)) (omega (arith, b, em, ly₀, h))));
+          ∙ sym (kept-at ms (take t P) j z (em ∙ sym tp) gm ∙ getD-take t P (pick ms j) z (omega (arith, b, em))
+          ∙ positions-at xs₀ ys₀ (pick ms j) z (omega (arith, b, em, lx₀, h)) (omega (arith, b, em, ly₀, h))));
     }
 
 -- ---- cells
@@ -111,7 +141,8 @@ cell-at f [] j z h = absurd (omega arith)
 cell-at f (x ∷ is) zero z h = refl
 cell-at f (x ∷ is) (suc j) z h = cell-at (λ i. f (suc i)) is j z (omega arith)
 
-module _ (flags : List Bool) (a b : Arrays) (l : Lengths a) (m : Lengths b) (lf : length flags ≡ 256) (h : a .count ≤ 256) (r : ℕ) (k : RowsKept flags (a .count) a b r) where
+module _ (flags : List Bool) (a b : Arrays) (l : Lengths a) (m : Lengths b) (lf : length flags ≡ 256) (h : a .count ≤ 256) (r : ℕ)
+    (k : RowsKept flags (a .count) a b r) where
   abbrev ms : List Bool
   ms = take (a .count) flags
 
@@ -119,14 +150,16 @@ module _ (flags : List Bool) (a b : Arrays) (l : Lengths a) (m : Lengths b) (lf 
   ms-length = length-take-le (a .count) flags (omega (arith, lf, h))
 
   pub few-rows : r ≤ a .count
-  few-rows = let t = length-take-le (a .count) (a .py) (omega (arith, l .py, h)) in omega (arith, k .count, kept-few (take (a .count) flags) (take (a .count) (a .py)))
+  few-rows = let t = length-take-le (a .count) (a .py) (omega (arith, l .py, h)) in omega
+      (arith, k .count, kept-few (take (a .count) flags) (take (a .count) (a .py)))
 
   pub count-by : {A : Type 0} (xs : List A) → length xs ≡ 256 → r ≡ length (kept (take (a .count) flags) (take (a .count) xs))
   count-by xs e =
       k .count ∙ kept-same (take (a .count) flags) (take (a .count) (a .py)) (take (a .count) xs)
       (length-take-le (a .count) (a .py) (omega (arith, l .py, h)) ∙ sym (length-take-le (a .count) xs (omega (arith, e, h))))
 
-  row-at : {A : Type 0} (l₀ l₁ : List A) → length l₀ ≡ 256 → Compacted (take (a .count) flags) (take (a .count) l₀) l₁ → (j : ℕ) (z : A) → j < r → getD l₁ j z ≡ getD l₀ (pick (take (a .count) flags) j) z
+  row-at : {A : Type 0} (l₀ l₁ : List A) → length l₀ ≡ 256 → Compacted (take (a .count) flags) (take (a .count) l₀) l₁ → (j : ℕ) (z : A) → j < r
+      → getD l₁ j z ≡ getD l₀ (pick (take (a .count) flags) j) z
   row-at l₀ l₁ e q j z g = front-at (take (a .count) flags) (a .count) l₀ l₁ ms-length (omega (arith, e, h)) q j z (omega (arith, g, count-by l₀ e))
 
   pick-row : (j : ℕ) → j < r → pick (take (a .count) flags) j < a .count
@@ -146,7 +179,8 @@ module _ (flags : List Bool) (a b : Arrays) (l : Lengths a) (m : Lengths b) (lf 
       let y = row-at (a .py) (b .py) (l .py) (k .py) j nan g in
       λ i. shapeBy (q i) (s i) (e i) (n i) (c i) (record { x = x i; y = y i })
 
-  normal-at : (j : ℕ) → j < r → normalAt (b .kinds) (b .starts) (b .ends) (b .bends) (b .counts) j ≡ normalAt (a .kinds) (a .starts) (a .ends) (a .bends) (a .counts) (pick (take (a .count) flags) j)
+  normal-at : (j : ℕ) → j < r → normalAt (b .kinds) (b .starts) (b .ends) (b .bends) (b .counts) j
+      ≡ normalAt (a .kinds) (a .starts) (a .ends) (a .bends) (a .counts) (pick (take (a .count) flags) j)
   normal-at j g =
       let q = row-at (a .kinds) (b .kinds) (l .kinds) (k .kinds) j 0 g in
       let s = row-at (a .starts) (b .starts) (l .starts) (k .starts) j 0 g in
@@ -158,7 +192,8 @@ module _ (flags : List Bool) (a b : Arrays) (l : Lengths a) (m : Lengths b) (lf 
   pub normal-kept : normal a ≡ true → allFrom (normalAt (b .kinds) (b .starts) (b .ends) (b .bends) (b .counts)) 0 r ≡ true
   normal-kept n =
       all-intro (normalAt (b .kinds) (b .starts) (b .ends) (b .bends) (b .counts)) r
-      (λ j g. normal-at j g ∙ all-at (normalAt (a .kinds) (a .starts) (a .ends) (a .bends) (a .counts)) (a .count) (pick (take (a .count) flags) j) (pick-row j g) n)
+      (λ j g. normal-at j g ∙ all-at (normalAt (a .kinds) (a .starts) (a .ends) (a .bends) (a .counts)) (a .count) (pick (take (a .count) flags) j)
+      (pick-row j g) n)
 
   pub cells-kept : take r (heldBy b .cells) ≡ kept (take (a .count) flags) (take (a .count) (heldBy a .cells))
   cells-kept =
@@ -177,17 +212,14 @@ module _ (flags : List Bool) (a b : Arrays) (l : Lengths a) (m : Lengths b) (lf 
       getD-take r D j noCell gr
       ∙ cell-at (shapeAt b) (b .ids) j noCell (omega (arith, gr, fr, m .ids, h))
       ∙ ap₂ (λ (i : ℕ) (s : Shape). record { id = i; shape = s }) (row-at (a .ids) (b .ids) (l .ids) (k .ids) j 0 gr) (shape-at j gr)
-      ∙ sym (kept-at (take (a .count) flags) (take (a .count) C) j noCell (ms-length ∙ sym tc) (omega (arith, gr, cc′)) ∙ getD-take (a .count) C (pick (take (a .count) flags) j) noCell b1 ∙ cell-at (shapeAt a) (a .ids) (pick (take (a .count) flags) j) noCell (omega (arith, b1, l .ids, h))))
+      ∙ sym (kept-at (take (a .count) flags) (take (a .count) C) j noCell (ms-length ∙ sym tc) (omega (arith, gr, cc′))
+      ∙ getD-take (a .count) C (pick (take (a .count) flags) j) noCell b1
+      ∙ cell-at (shapeAt a) (a .ids) (pick (take (a .count) flags) j) noCell (omega (arith, b1, l .ids, h))))
 
 -- ---- the whole
-spread-length : (z : ℕ) (bs : List Bool) (cs : List ℕ) → length bs ≡ length cs → length (spreadFlags z bs cs) ≡ total (placesOf z) cs
-spread-length z [] [] e = refl
-spread-length z [] (c ∷ cs) e = absurd (omega arith)
-spread-length z (b ∷ bs) [] e = absurd (omega arith)
-spread-length z (b ∷ bs) (c ∷ cs) e = length-append (replicate (placesOf z c) b) (spreadFlags z bs cs) ∙ ap₂ _+_ (length-replicate (placesOf z c) b) (spread-length z bs cs (omega arith))
-
 -- b's rows, bends, cycles and steps are those of a that are not flagged
-module _ (flags : List Bool) (a b : Arrays) (l : Lengths a) (m : Lengths b) (lf : length flags ≡ 256) (f : Fits (heldBy a)) (n : normal a ≡ true) (e : b .next ≡ a .next)
+module _ (flags : List Bool) (a b : Arrays) (l : Lengths a) (m : Lengths b) (lf : length flags ≡ 256) (f : Fits (heldBy a)) (n : normal a ≡ true)
+    (e : b .next ≡ a .next)
     (k : RowsKept flags (a .count) a b (b .count)) (kb : BendsKept (take (a .count) flags) (take (a .count) (a .bends)) (a .bx) (a .by) (b .bx) (b .by))
     (kk : CyclesKept (take (a .count) flags) (take (a .count) (a .counts)) (a .cycles) (a .steps) (b .cycles) (b .steps)) where
   pub keeps : Keeps flags a b
@@ -197,7 +229,13 @@ module _ (flags : List Bool) (a b : Arrays) (l : Lengths a) (m : Lengths b) (lf 
       let t = bend-places-in in
       let d =
       dropped (heldBy a) (heldBy b) (held-sizes a l) f flags (a .bends) (a .counts) (x .bends) (x .cycles)
-      (record { packed = positions-kept (spreadFlags 0 (take (a .count) flags) (take (a .count) (a .bends))) (total (placesOf 0) (take (a .count) (a .bends))) (a .bx) (a .by) (b .bx) (b .by) (spread-length 0 (take (a .count) flags) (take (a .count) (a .bends)) (ms-length flags a b l m lf (f .cells) (b .count) k ∙ sym (length-take-le (a .count) (a .bends) (omega (arith, l .bends, f .cells))))) (omega (arith, t, f .bends)) (l .bx) (l .by) (m .bx) (m .by) (kb .xs .packed) (kb .ys .packed) })
+      (record {
+        packed = positions-kept (spreadFlags 0 (take (a .count) flags) (take (a .count) (a .bends)))
+            (total (placesOf 0) (take (a .count) (a .bends))) (a .bx) (a .by) (b .bx) (b .by)
+            (spread-length 0 (take (a .count) flags) (take (a .count) (a .bends))
+            (ms-length flags a b l m lf (f .cells) (b .count) k ∙ sym (length-take-le (a .count) (a .bends) (omega (arith, l .bends, f .cells)))))
+            (omega (arith, t, f .bends)) (l .bx) (l .by) (m .bx) (m .by) (kb .xs .packed) (kb .ys .packed);
+      })
       kk (cells-kept flags a b l m lf (f .cells) (b .count) k) (held-sizes b m) e h in
       record { sheet = d .0; fits = d .1; sizes = held-sizes b m; rows = normal-kept flags a b l m lf (f .cells) (b .count) k n; few = h }
     where

@@ -9,21 +9,21 @@ use lib.Seq.{length-take-le, getD-drop, drop-drop, set-at}
 use Rattle.complex.specs.Lists.{one, without}
 use Rattle.complex.specs.Cells.{Cycle}
 use Rattle.complex.specs.Uncut.{pathOr}
-use Rattle.store.specs.View.{width, widthSum, cycleOf, cyclesOf}
+use Rattle.store.specs.View.{width, widthSum, cycleOf, cyclesFrom}
 use Rattle.store.proofs.Encode.{length-cycles}
 use Rattle.store.proofs.Lists.{sum-append}
-use Rattle.cycles.specs.declared.Used.{Used}
-use Rattle.cycles.specs.Building.{Built, built}
-use Rattle.cycles.proofs.Building.{cycles-append, width-some}
-use Rattle.outline.proofs.Lists.{built-as, built-then}
-use Rattle.outline.proofs.Rows.{list-steps}
-use Rattle.outline.proofs.Splits.{front-about}
-use Rattle.uncut_cycles.specs.declared.Stretch.{Stretch}
-use Rattle.uncut_cycles.specs.declared.Place.{Place}
-use Rattle.uncut_cycles.specs.Paths.{Few, stretchOf, PathRoom, listAt, Lies, Besides}
-use Rattle.uncut_cycles.proofs.Paths.{few-front, few-left}
-use Rattle.uncut_cycles.proofs.Lists.{few-after}
-use Rattle.kernel_paths.specs.Runs.{RunRoom, aheadList, behindList, Joins, Puts}
+use Rattle.rows_spans.specs.declared.Used.{Used}
+use Rattle.rows_spans.specs.Building.{Built, built, RoomFor}
+use Rattle.rows_spans.proofs.Building.{cycles-append, width-some}
+use Rattle.rows_corners.proofs.Lists.{built-as, built-then}
+use Rattle.rows_corners.proofs.Rows.{list-steps}
+use Rattle.rows_corners.proofs.Splits.{front-about}
+use Rattle.rows_stretches.specs.declared.Stretch.{Stretch}
+use Rattle.rows_stretches.specs.declared.Place.{Place}
+use Rattle.rows_stretches.specs.Paths.{stretchOf, PathRoom, listAt, Lies, Besides}
+use Rattle.rows_stretches.proofs.Paths.{few-front, few-left}
+use Rattle.rows_stretches.proofs.Lists.{few-after}
+use Rattle.kernel_paths.specs.Runs.{RunRoom, aheadList, behindList, RunJoins, Puts}
 
 -- ---- one element goes
 module _ {A : Type 0} where
@@ -88,8 +88,8 @@ module _ (cycles steps : List ℕ) (p : Place) (l : Lies cycles steps p) where
   list-about : listAt cycles steps p ≡ front ++ (own ∷ back)
   list-about =
       let st = drop (p .spans .steps .first) steps in
-      ap (λ (q : List ℕ). cyclesOf q st) numbers-about ∙ cycles-append ahead (p .count ∷ behind) st
-      ∙ ap (λ (q : List ℕ). front ++ (own ∷ cyclesOf behind q))
+      ap (λ (q : List ℕ). cyclesFrom q st) numbers-about ∙ cycles-append ahead (p .count ∷ behind) st
+      ∙ ap (λ (q : List ℕ). front ++ (own ∷ cyclesFrom behind q))
       (ap₂ drop own-width (drop-drop (widthSum ahead) (p .spans .steps .first) steps ∙ ap (λ (n : ℕ). drop n steps) (l .place))
       ∙ drop-drop (p .count) (p .at) steps)
 
@@ -106,7 +106,7 @@ module _ (cycles steps : List ℕ) (p : Place) (l : Lies cycles steps p) where
       ap (λ (ks : List Cycle). set ks (p .cycle) x) list-about ∙ set-at front own back x (p .cycle) list-length
 
   -- ---- the two runs
-  pub ahead-run : {numbers : List ℕ} {u : Used} {places : List ℕ} → Joins cycles steps p front numbers u places
+  pub ahead-run : {numbers : List ℕ} {u : Used} {places : List ℕ} → RunJoins cycles steps p front numbers u places
       → RunRoom cycles (p .spans .cycles .first) (p .cycle) steps (p .spans .steps .first) (p .at - p .spans .steps .first) numbers u places
   ahead-run {numbers} {u} {places} j =
       let f = few-left (j .building) front (j .room) in
@@ -132,7 +132,7 @@ module _ (cycles steps : List ℕ) (p : Place) (l : Lies cycles steps p) where
         stepRoom = omega arith;
       }
 
-  pub behind-run : {numbers : List ℕ} {u : Used} {places : List ℕ} → Joins cycles steps p back numbers u places
+  pub behind-run : {numbers : List ℕ} {u : Used} {places : List ℕ} → RunJoins cycles steps p back numbers u places
       → RunRoom cycles (p .spans .cycles .first + (p .cycle + 1)) left-over
       steps (p .at + p .count) (p .spans .steps .first + p .spans .steps .count - (p .at + p .count)) numbers u places
   behind-run {numbers} {u} {places} j =
@@ -165,17 +165,17 @@ module _ (cycles steps : List ℕ) (p : Place) (l : Lies cycles steps p) where
 
   -- ---- all but the one
   module _ {numbers : List ℕ} {u : Used} {places : List ℕ} (b : Besides cycles steps p numbers u places) where
-    others-room : Few ((built numbers u places ++ front) ++ back)
+    others-room : RoomFor (length numbers) (length places) ((built numbers u places ++ front) ++ back)
     others-room =
-        subst Few (ap (λ (ks : List Cycle). built numbers u places ++ ks) others-about ∙ sym (append-assoc (built numbers u places) front back)) (b .room)
+        subst (RoomFor (length numbers) (length places)) (ap (λ (ks : List Cycle). built numbers u places ++ ks) others-about ∙ sym (append-assoc (built numbers u places) front back)) (b .room)
 
-    pub others-first : Joins cycles steps p front numbers u places
+    pub others-first : RunJoins cycles steps p front numbers u places
     others-first =
         record { lies = b .lies; building = b .building; room = few-front (built numbers u places ++ front) back others-room }
 
     module _ {numbers₁ : List ℕ} {u₁ : Used} {places₁ : List ℕ} (x : Built (built numbers u places ++ front) numbers₁ u₁ places₁) where
-      pub others-last : Joins cycles steps p back numbers₁ u₁ places₁
-      others-last = record { lies = b .lies; building = x .building; room = few-after x back others-room }
+      pub others-last : length numbers₁ ≡ length numbers → length places₁ ≡ length places → RunJoins cycles steps p back numbers₁ u₁ places₁
+      others-last lc ls = record { lies = b .lies; building = x .building; room = few-after x back others-room lc ls }
 
       pub others-built : {numbers₂ : List ℕ} {u₂ : Used} {places₂ : List ℕ} → Built (built numbers₁ u₁ places₁ ++ back) numbers₂ u₂ places₂
           → Built (built numbers u places ++ without (one (p .cycle)) 0 (listAt cycles steps p)) numbers₂ u₂ places₂
@@ -195,26 +195,26 @@ module _ (cycles steps : List ℕ) (p : Place) (l : Lies cycles steps p) where
         ∙ sym (append-assoc (built numbers u places) front (new ∷ back))
         ∙ sym (append-assoc (built numbers u places ++ front) (one new) back)
 
-    around-room : Few (((built numbers u places ++ front) ++ one new) ++ back)
-    around-room = subst Few around-is (g .room)
+    around-room : RoomFor (length numbers) (length places) (((built numbers u places ++ front) ++ one new) ++ back)
+    around-room = subst (RoomFor (length numbers) (length places)) around-is (g .room)
 
-    around-front : Few ((built numbers u places ++ front) ++ one new)
+    around-front : RoomFor (length numbers) (length places) ((built numbers u places ++ front) ++ one new)
     around-front = few-front ((built numbers u places ++ front) ++ one new) back around-room
 
-    pub around-first : Joins cycles steps p front numbers u places
+    pub around-first : RunJoins cycles steps p front numbers u places
     around-first = record { lies = l; building = g .building; room = few-front (built numbers u places ++ front) (one new) around-front }
 
     module _ {numbers₁ : List ℕ} {u₁ : Used} {places₁ : List ℕ} (x : Built (built numbers u places ++ front) numbers₁ u₁ places₁) where
-      pub around-path : PathRoom steps a b v numbers₁ u₁ places₁
-      around-path =
-          record { building = x .building; stepsSize = l .within .stepsSize; first = g .first; second = g .second; room = few-after x (one new) around-front }
+      pub around-path : length numbers₁ ≡ length numbers → length places₁ ≡ length places → PathRoom steps a b v numbers₁ u₁ places₁
+      around-path lc ls =
+          record { building = x .building; stepsSize = l .within .stepsSize; first = g .first; second = g .second; room = few-after x (one new) around-front lc ls }
 
       module _ {numbers₂ : List ℕ} {u₂ : Used} {places₂ : List ℕ} (y : Built (built numbers₁ u₁ places₁ ++ one new) numbers₂ u₂ places₂) where
         put : Built ((built numbers u places ++ front) ++ one new) numbers₂ u₂ places₂
         put = built-then (one new) x y
 
-        pub around-last : Joins cycles steps p back numbers₂ u₂ places₂
-        around-last = record { lies = l; building = y .building; room = few-after put back around-room }
+        pub around-last : length numbers₂ ≡ length numbers → length places₂ ≡ length places → RunJoins cycles steps p back numbers₂ u₂ places₂
+        around-last lc ls = record { lies = l; building = y .building; room = few-after put back around-room lc ls }
 
         pub around-built : {numbers₃ : List ℕ} {u₃ : Used} {places₃ : List ℕ} → Built (built numbers₂ u₂ places₂ ++ back) numbers₃ u₃ places₃
             → Built (built numbers u places ++ set (listAt cycles steps p) (p .cycle) new) numbers₃ u₃ places₃

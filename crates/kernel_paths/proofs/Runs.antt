@@ -6,27 +6,27 @@ use native.Mathlib.Omega.{arith}
 use lib.ListN.{length, take, drop, length-drop}
 use lib.Seq.{paste, take-paste, length-paste}
 use Rattle.complex.specs.Cells.{Cycle}
-use Rattle.store.specs.View.{width, widthSum, cyclesOf}
+use Rattle.store.specs.View.{width, widthSum, cyclesFrom}
 use Rattle.store.proofs.Lists.{sum-append}
 use Rattle.store.proofs.Pools.{held-cycles}
-use Rattle.cycles.specs.declared.Used.{Used}
-use Rattle.cycles.specs.Building.{Built, built}
-use Rattle.cycles.proofs.Building.{cycles-append, held, built-same}
-use Rattle.cycles.proofs.Splicing.{paste-front, paste-run}
+use Rattle.rows_spans.specs.declared.Used.{Used}
+use Rattle.rows_spans.specs.Building.{Built, built}
+use Rattle.rows_spans.proofs.Building.{cycles-append, held, built-same}
+use Rattle.rows_spans.proofs.Splicing.{paste-front, paste-run}
 use Rattle.kernel_paths.specs.Runs.{RunRoom}
 
 -- cycles are read from their own places alone
 cycles-same : (l : List ℕ) (k : ℕ) (s t : List ℕ) → k ≤ length l → widthSum (take k l) ≤ length s → widthSum (take k l) ≤ length t
-    → take (widthSum (take k l)) s ≡ take (widthSum (take k l)) t → cyclesOf (take k l) s ≡ cyclesOf (take k l) t
+    → take (widthSum (take k l)) s ≡ take (widthSum (take k l)) t → cyclesFrom (take k l) s ≡ cyclesFrom (take k l) t
 cycles-same l k s t h hs ht e =
     let g = held l k t h ht in
-    held-cycles (cyclesOf (take k l) t) l k s (widthSum (take k l))
+    held-cycles (cyclesFrom (take k l) t) l k s (widthSum (take k l))
     (record { lengths = g .lengths; places = e ∙ g .places; real = g .real; lengthsRoom = g .lengthsRoom; placesRoom = hs })
 
 pub run-built : {cycles : List ℕ} {first k : ℕ} {steps : List ℕ} {from m : ℕ} {numbers : List ℕ} {u : Used} {places : List ℕ}
     → RunRoom cycles first k steps from m numbers u places → (c s : ℕ) (cs ps : List ℕ)
     → c ≡ u .cycles + k → cs ≡ paste numbers (u .cycles) (drop first cycles) k → s ≡ u .steps + m → ps ≡ paste places (u .steps) (drop from steps) m
-    → Built (built numbers u places ++ cyclesOf (take k (drop first cycles)) (drop from steps)) cs (record { cycles = c; steps = s }) ps
+    → Built (built numbers u places ++ cyclesFrom (take k (drop first cycles)) (drop from steps)) cs (record { cycles = c; steps = s }) ps
 run-built {cycles} {first} {k} {steps} {from} {m} {numbers} {u} {places} r c s cs ps ec ecs es eps =
     let b = r .building in
     let i = u .cycles in
@@ -39,26 +39,26 @@ run-built {cycles} {first} {k} {steps} {from} {m} {numbers} {u} {places} r c s c
     let ls = b .stepsSize in
     let hn : k ≤ length ns = omega (arith, r .inCycles, r .cyclesSize, length-drop first cycles) in
     let hm : m ≤ length src = omega (arith, r .inSteps, r .stepsSize, length-drop from steps) in
-    let zc : length cs ≡ 512 = ap length ecs ∙ length-paste numbers i ns k (omega arith) hn ∙ lc in
-    let zs : length ps ≡ 2048 = ap length eps ∙ length-paste places j src m (omega arith) hm ∙ ls in
+    let zc : length cs ≡ length numbers = ap length ecs ∙ length-paste numbers i ns k (omega arith) hn in
+    let zs : length ps ≡ length places = ap length eps ∙ length-paste places j src m (omega arith) hm in
     let fc : take c cs ≡ take i numbers ++ take k ns = ap₂ take ec ecs ∙ take-paste numbers i ns k (omega arith) hn in
     let fs : take j ps ≡ take j places = ap (take j) eps ∙ paste-front places j src m (omega arith) hm in
     let run : take m (drop j ps) ≡ take m src = ap (λ (q : List ℕ). take m (drop j q)) eps ∙ paste-run places j src m (omega arith) hm in
     let w = r .wide in
     let same = built-same numbers u places b ps zs fs in
-    let own : cyclesOf (take k ns) (drop (widthSum (take i numbers)) ps) ≡ cyclesOf (take k ns) src =
-    ap (λ (n : ℕ). cyclesOf (take k ns) (drop n ps)) (b .width)
+    let own : cyclesFrom (take k ns) (drop (widthSum (take i numbers)) ps) ≡ cyclesFrom (take k ns) src =
+    ap (λ (n : ℕ). cyclesFrom (take k ns) (drop n ps)) (b .width)
     ∙ cycles-same ns k (drop j ps) src hn (omega (arith, length-drop j ps)) (omega arith)
     (ap (λ (n : ℕ). take n (drop j ps)) w ∙ run ∙ ap (λ (n : ℕ). take n src) (sym w))
     in
     record {
       list =
-          ap (λ (l : List ℕ). cyclesOf l ps) fc ∙ cycles-append (take i numbers) (take k ns) ps
+          ap (λ (l : List ℕ). cyclesFrom l ps) fc ∙ cycles-append (take i numbers) (take k ns) ps
           ∙ ap₂ (λ (x y : List Cycle). x ++ y) (same .list) own;
       building =
           record {
-            countsSize = zc;
-            stepsSize = zs;
+            countsSize = omega arith;
+            stepsSize = omega arith;
             width = ap widthSum fc ∙ sum-append width (take i numbers) (take k ns) ∙ omega (arith, b .width);
             cycleRoom = omega arith;
             stepRoom = omega arith;

@@ -1,21 +1,23 @@
 ghost use mathlib.Core.List.{[], _++_};
-ghost use lib.ListN.{take, drop, set};
+ghost use Prim.Native.Nat.{_≤_};
+ghost use lib.ListN.{length, take, drop, set};
 ghost use Rattle.complex.specs.Lists.{one, without};
 ghost use Rattle.complex.specs.Uncut.{pathOr};
-ghost use Rattle.store.specs.View.{cyclesOf};
-ghost use Rattle.cycles.specs.Building.{Built, built};
-ghost use Rattle.uncut_cycles.specs.Paths.{stretchOf, PathRoom, listAt, Besides, mergedList, Merging, partedList, Parting, ringedList, Ringing};
-ghost use Rattle.kernel_paths.specs.Runs.{RunRoom, aheadList, behindList, Joins, Puts};
-use cycles::Used;
-use uncut_cycles::Place;
-use uncut_cycles::Stretch;
+ghost use Rattle.store.specs.View.{cyclesFrom};
+ghost use Rattle.complex.specs.Sound.{cyclesMost, stepsMost};
+ghost use Rattle.rows_spans.specs.Building.{Built, built, RoomFor};
+ghost use Rattle.rows_stretches.specs.Paths.{stretchOf, PathRoom, listAt, Besides, mergedList, Merging, partedList, Parting, ringedList, Ringing};
+ghost use Rattle.kernel_paths.specs.Runs.{RunRoom, aheadList, behindList, RunJoins, Puts};
+use rows_spans::Used;
+use rows_stretches::Place;
+use rows_stretches::Stretch;
 
 // Nothing of two arrays is in use yet.
-fn no_cycles(numbers: &[u32; 512], places: &[u32; 2048]) -> Used
+fn no_cycles(numbers: &[u32], places: &[u32]) -> Used
+    requires { ⌜ length (now numbers) ≤ cyclesMost ⌝ }
+    requires { ⌜ length (now places) ≤ stepsMost ⌝ }
     ensures { λ r. ⌜ Built [] (now (numbers .entry)) r (now (places .entry)) ⌝ }
 {
-    lengths::cycles_long(numbers);
-    lengths::steps_long(places);
     Used {
         cycles: 0,
         steps: 0,
@@ -30,15 +32,15 @@ fn copy_cycles(
     steps: &[u32; 2048],
     from: usize,
     m: usize,
-    numbers: &mut [u32; 512],
-    places: &mut [u32; 2048],
+    numbers: &mut [u32],
+    places: &mut [u32],
     u: Used,
 ) -> Used
     requires { ⌜ RunRoom (now cycles) first k (now steps) from m (now numbers) u (now places) ⌝ }
-    ensures { λ r. ⌜ Built (built (now (numbers .entry)) u (now (places .entry)) ++ cyclesOf (take k (drop first (now (cycles .entry)))) (drop from (now (steps .entry)))) (now (numbers .exit)) r (now (places .exit)) ⌝ }
+    ensures { λ r. ⌜ Built (built (now (numbers .entry)) u (now (places .entry)) ++ cyclesFrom (take k (drop first (now (cycles .entry)))) (drop from (now (steps .entry)))) (now (numbers .exit)) r (now (places .exit)) ⌝ }
 {
-    let c = cycles::copy_run(cycles, first, k, numbers, u.cycles);
-    let s = cycles::copy_run(steps, from, m, places, u.steps);
+    let c = rows_spans::copy_run(cycles, first, k, numbers, u.cycles);
+    let s = rows_spans::copy_run(steps, from, m, places, u.steps);
     Used {
         cycles: c,
         steps: s,
@@ -50,11 +52,11 @@ fn copy_ahead(
     cycles: &[u32; 512],
     steps: &[u32; 2048],
     p: Place,
-    numbers: &mut [u32; 512],
-    places: &mut [u32; 2048],
+    numbers: &mut [u32],
+    places: &mut [u32],
     u: Used,
 ) -> Used
-    requires { ⌜ Joins (now cycles) (now steps) p (aheadList (now cycles) (now steps) p) (now numbers) u (now places) ⌝ }
+    requires { ⌜ RunJoins (now cycles) (now steps) p (aheadList (now cycles) (now steps) p) (now numbers) u (now places) ⌝ }
     ensures { λ r. ⌜ Built (built (now (numbers .entry)) u (now (places .entry)) ++ aheadList (now (cycles .entry)) (now (steps .entry)) p) (now (numbers .exit)) r (now (places .exit)) ⌝ }
 {
     let t = p.spans;
@@ -78,11 +80,11 @@ fn copy_behind(
     cycles: &[u32; 512],
     steps: &[u32; 2048],
     p: Place,
-    numbers: &mut [u32; 512],
-    places: &mut [u32; 2048],
+    numbers: &mut [u32],
+    places: &mut [u32],
     u: Used,
 ) -> Used
-    requires { ⌜ Joins (now cycles) (now steps) p (behindList (now cycles) (now steps) p) (now numbers) u (now places) ⌝ }
+    requires { ⌜ RunJoins (now cycles) (now steps) p (behindList (now cycles) (now steps) p) (now numbers) u (now places) ⌝ }
     ensures { λ r. ⌜ Built (built (now (numbers .entry)) u (now (places .entry)) ++ behindList (now (cycles .entry)) (now (steps .entry)) p) (now (numbers .exit)) r (now (places .exit)) ⌝ }
 {
     let t = p.spans;
@@ -108,8 +110,8 @@ fn copy_others(
     cycles: &[u32; 512],
     steps: &[u32; 2048],
     p: Place,
-    numbers: &mut [u32; 512],
-    places: &mut [u32; 2048],
+    numbers: &mut [u32],
+    places: &mut [u32],
     u: Used,
 ) -> Used
     requires { ⌜ Besides (now cycles) (now steps) p (now numbers) u (now places) ⌝ }
@@ -125,8 +127,8 @@ fn push_path(
     a: Stretch,
     b: Stretch,
     v: u32,
-    numbers: &mut [u32; 512],
-    places: &mut [u32; 2048],
+    numbers: &mut [u32],
+    places: &mut [u32],
     u: Used,
 ) -> Used
     requires { ⌜ PathRoom (now steps) a b v (now numbers) u (now places) ⌝ }
@@ -134,11 +136,11 @@ fn push_path(
 {
     let m = a.len + b.len;
     if m == 0 {
-        return cycles::push_lone(numbers, places, u, v);
+        return rows_spans::push_lone(numbers, places, u, v);
     }
-    let mid = outline::copy_arc(steps, a.at, a.count, a.from, a.len, places, u.steps);
-    outline::copy_arc(steps, b.at, b.count, b.from, b.len, places, mid);
-    cycles::close_path(numbers, u, m)
+    let mid = rows_corners::copy_arc(steps, a.at, a.count, a.from, a.len, places, u.steps);
+    rows_corners::copy_arc(steps, b.at, b.count, b.from, b.len, places, mid);
+    rows_spans::close_path(numbers, u, m)
 }
 
 // A list with the cycles of a face more, in the place of p such a cycle.
@@ -149,8 +151,8 @@ fn copy_around(
     a: Stretch,
     b: Stretch,
     v: u32,
-    numbers: &mut [u32; 512],
-    places: &mut [u32; 2048],
+    numbers: &mut [u32],
+    places: &mut [u32],
     u: Used,
 ) -> Used
     requires { ⌜ Puts (now cycles) (now steps) p a b v (now numbers) u (now places) ⌝ }
@@ -171,14 +173,15 @@ pub fn merged_cycles(
     q: Place,
     t: usize,
     v: u32,
-    numbers: &mut [u32; 512],
-    places: &mut [u32; 2048],
+    numbers: &mut [u32],
+    places: &mut [u32],
 ) -> Used
     requires { ⌜ Merging (now cycles) (now steps) p s q t v ⌝ }
+    requires { ⌜ RoomFor (length (now numbers)) (length (now places)) (mergedList (now cycles) (now steps) p s q t v) ⌝ }
     ensures { λ r. ⌜ Built (mergedList (now (cycles .entry)) (now (steps .entry)) p s q t v) (now (numbers .exit)) r (now (places .exit)) ⌝ }
 {
-    let a = uncut_cycles::following(p, s);
-    let b = uncut_cycles::following(q, t);
+    let a = rows_stretches::following(p, s);
+    let b = rows_stretches::following(q, t);
     let none = no_cycles(numbers, places);
     let u = copy_around(cycles, steps, p, a, b, v, numbers, places, none);
     copy_others(cycles, steps, q, numbers, places, u)
@@ -194,10 +197,11 @@ pub fn parted_cycles(
     t: usize,
     v: u32,
     w: u32,
-    numbers: &mut [u32; 512],
-    places: &mut [u32; 2048],
+    numbers: &mut [u32],
+    places: &mut [u32],
 ) -> Used
     requires { ⌜ Parting (now cycles) (now steps) p s t v w ⌝ }
+    requires { ⌜ RoomFor (length (now numbers)) (length (now places)) (partedList (now cycles) (now steps) p s t v w) ⌝ }
     ensures { λ r. ⌜ Built (partedList (now (cycles .entry)) (now (steps .entry)) p s t v w) (now (numbers .exit)) r (now (places .exit)) ⌝ }
 {
     let empty = Stretch {
@@ -206,8 +210,8 @@ pub fn parted_cycles(
         from: 0,
         len: 0,
     };
-    let a = uncut_cycles::up_to(p, s, t);
-    let b = uncut_cycles::up_to(p, t, s);
+    let a = rows_stretches::up_to(p, s, t);
+    let b = rows_stretches::up_to(p, t, s);
     let none = no_cycles(numbers, places);
     let u = copy_around(cycles, steps, p, a, empty, v, numbers, places, none);
     push_path(steps, b, empty, w, numbers, places, u)
@@ -219,10 +223,11 @@ pub fn ringed_cycles(
     steps: &[u32; 2048],
     p: Place,
     q: Place,
-    numbers: &mut [u32; 512],
-    places: &mut [u32; 2048],
+    numbers: &mut [u32],
+    places: &mut [u32],
 ) -> Used
     requires { ⌜ Ringing (now cycles) (now steps) p q ⌝ }
+    requires { ⌜ RoomFor (length (now numbers)) (length (now places)) (ringedList (now cycles) (now steps) p q) ⌝ }
     ensures { λ r. ⌜ Built (ringedList (now (cycles .entry)) (now (steps .entry)) p q) (now (numbers .exit)) r (now (places .exit)) ⌝ }
 {
     let none = no_cycles(numbers, places);

@@ -1,27 +1,25 @@
 -- Where a cycle of a face stands in lent arrays. Assumes nothing.
 use Prim.Native.Nat.{ℕ, _+_, _<_, _≤_}
 use mathlib.Core.Path.{_≡_, refl, sym, ap, subst, _∙_}
-use mathlib.Core.Bool.{Bool}
 use mathlib.Core.List.{List}
 use lib.ListN.{length, take, drop, getD}
-use Rattle.complex.specs.Cells.{cellAt, headOf}
 use Rattle.store.specs.Index.{rowOf, Rising}
-use Rattle.store.specs.View.{sheetOf, widthSum}
-use Rattle.cycles.specs.declared.Spans.{Spans}
-use Rattle.cycles.specs.Runs.{spansOf}
+use Rattle.store.specs.View.{widthSum}
+use Rattle.rows_spans.specs.declared.Spans.{Spans}
+use Rattle.rows_spans.specs.Runs.{spansOf}
 use Rattle.answer.specs.declared.Totals.{Totals}
-use Rattle.outline.specs.Faces.{Spanned}
-use Rattle.outline.proofs.Rows.{live, finding, spanned}
-use Rattle.outline.proofs.Edits.{rows-in}
-use Rattle.uncut_cycles.specs.declared.Place.{Place}
-use Rattle.uncut_edge.specs.Needs.{Has, Found}
-use Rattle.uncut_edge.proofs.Finding.{index-in, place-asks, found, head-is}
+use Rattle.rows_corners.specs.Faces.{Spanned}
+use Rattle.rows_corners.proofs.Rows.{live, finding, spanned}
+use Rattle.rows_corners.proofs.Edits.{rows-in}
+use Rattle.rows_stretches.specs.declared.Place.{Place}
+use Rattle.law_uncut_edge.specs.Needs.{Has, CycleFound}
+use Rattle.law_uncut_edge.proofs.Finding.{index-in, place-asks, found}
 use Rattle.lent.specs.Arrays.{Arrays, heldBy, rowsBy}
 use Rattle.lent.specs.Replies.{Ready}
-use Rattle.lent.proofs.Sums.{ready-sizes, ready-drawing, ready-indexes, ready-looks, ready-cells}
-use Rattle.kernel_cycles.specs.Replacing.{Counted}
+use Rattle.lent.proofs.Sums.{ready-sizes, ready-drawing, ready-indexes, ready-cells}
+use Rattle.kernel_cycles.specs.Replacing.{RowCounted}
 use Rattle.kernel_cycles.proofs.Ready.{ready-counted}
-use Rattle.kernel_places.specs.Standing.{Among, HasBy, FoundBy, RowsIn, headBy}
+use Rattle.kernel_places.specs.Standing.{Among, HasBy, FoundBy, RowsIn}
 
 -- ---- the arrays themselves
 pub among : (a : Arrays) (t : Totals) → Ready a t → Among (a .count) (a .ids) (a .counts) (a .cycles) t a
@@ -31,16 +29,13 @@ pub has-by : (a : Arrays) (t : Totals) → Ready a t → (f c : ℕ) → Has (he
 has-by a t r f c h = record { arrays = a; among = among a t r; has = h }
 
 pub found-by : (a : Arrays) (t : Totals) → Ready a t → (f c : ℕ) → Has (heldBy a) (rowsBy a) f c
-    → (p : Place) → FoundBy (a .count) (a .ids) (a .counts) (a .cycles) t f c p → Found (heldBy a) f c p
+    → (p : Place) → FoundBy (a .count) (a .ids) (a .counts) (a .cycles) t f c p → CycleFound (heldBy a) f c p
 found-by a t r f c h p g = g .every a (among a t r) h
 
 -- ---- in some arrays
 module _ (a : Arrays) (t : Totals) (r : Ready a t) (f c : ℕ) (h : Has (heldBy a) (rowsBy a) f c) where
-  find-asks : (a .count ≤ 256) × ((length (a .ids) ≡ 256) × Rising (take (a .count) (a .ids)))
-  find-asks = finding (heldBy a) (ready-sizes a t r) (rowsBy a) f (h .named)
-
   module _ (row : ℕ) (e : row ≡ rowOf f (take (a .count) (a .ids))) where
-    counted : Counted (a .counts) (a .cycles) row t
+    counted : RowCounted (a .counts) (a .cycles) row t
     counted =
         ready-counted a t r row (subst (λ (i : ℕ). i < a .count) (sym e) (live (heldBy a) (ready-sizes a t r) (rowsBy a) f (h .named)))
 
@@ -59,7 +54,7 @@ module _ (a : Arrays) (t : Totals) (r : Ready a t) (f c : ℕ) (h : Has (heldBy 
 
       found-at : (at m : ℕ) → at ≡ s .steps .first + widthSum (take c (drop (s .cycles .first) (a .cycles)))
           → m ≡ getD (a .cycles) (s .cycles .first + c) 0
-          → Found (heldBy a) f c (record { spans = s; cycle = c; count = m; at = at })
+          → CycleFound (heldBy a) f c (record { spans = s; cycle = c; count = m; at = at })
       found-at at m ea em = found (heldBy a) (rowsBy a) f c h s spans-are at m ea em
 
 -- ---- by some of them
@@ -82,12 +77,12 @@ module _ (n : ℕ) (ids counts cycles : List ℕ) (t : Totals) where
     pub find-by : HasBy n ids counts cycles t f c → (n ≤ 256) × ((length ids ≡ 256) × Rising (take n ids))
     find-by h =
         carried (λ (k : ℕ) (is cs cy : List ℕ). (k ≤ 256) × ((length is ≡ 256) × Rising (take k is))) (h .arrays) (h .among)
-        (find-asks (h .arrays) t (h .among .ready) f c (h .has))
+        (finding (heldBy (h .arrays)) (ready-sizes (h .arrays) t (h .among .ready)) (rowsBy (h .arrays)) f (h .has .named))
 
     module _ (row : ℕ) (e : row ≡ rowOf f (take n ids)) where
-      pub counted-by : HasBy n ids counts cycles t f c → Counted counts cycles row t
+      pub counted-by : HasBy n ids counts cycles t f c → RowCounted counts cycles row t
       counted-by h =
-          carried (λ (k : ℕ) (is cs cy : List ℕ). row ≡ rowOf f (take k is) → Counted cs cy row t) (h .arrays) (h .among)
+          carried (λ (k : ℕ) (is cs cy : List ℕ). row ≡ rowOf f (take k is) → RowCounted cs cy row t) (h .arrays) (h .among)
           (counted (h .arrays) t (h .among .ready) f c (h .has) row) e
 
       module _ (s : Spans) (es : s ≡ spansOf counts (t .cells) row cycles) where
@@ -122,7 +117,3 @@ pub rows-by : (a : Arrays) (t : Totals) → Ready a t → RowsIn (a .count) (a .
 rows-by a t r =
     let k = rows-in (heldBy a) (ready-sizes a t r) (ready-drawing a t r) (rowsBy a) (ready-indexes a t r) in
     record { few = k .few; idsSize = k .ids; startsSize = k .starts; endsSize = k .ends; rising = k .rising }
-
-pub head-by : (a : Arrays) (t : Totals) → Ready a t → (e : ℕ) (b : Bool) (r : ℕ) → r ≡ headBy (a .count) (a .ids) (a .starts) (a .ends) e b
-    → r ≡ headOf (cellAt (sheetOf (heldBy a))) (record { edge = e; backward = b })
-head-by a t y e b r q = head-is (ready-looks a t y) e b r q

@@ -7,8 +7,8 @@ use lib.ListN.{length, take}
 use Rattle.complex.specs.Sound.{cellsMost}
 use Rattle.store.specs.Index.{Rising, valueAt}
 use Rattle.answer.specs.declared.Totals.{Totals}
-use Rattle.uncut_cycles.specs.declared.Place.{Place}
-use Rattle.uncut_edge.specs.Needs.{Has, Found}
+use Rattle.rows_stretches.specs.declared.Place.{Place}
+use Rattle.law_uncut_edge.specs.Needs.{Has, CycleFound}
 use Rattle.lent.specs.Arrays.{Arrays, heldBy, rowsBy}
 use Rattle.lent.specs.Replies.{Ready}
 
@@ -28,7 +28,7 @@ pub record HasBy (n : ℕ) (ids counts cycles : List ℕ) (t : Totals) (f c : �
 
 -- it stands at p in all such arrays
 pub record FoundBy (n : ℕ) (ids counts cycles : List ℕ) (t : Totals) (f c : ℕ) (p : Place) : Type 0 where
-  pub every : (a : Arrays) → Among n ids counts cycles t a → Has (heldBy a) (rowsBy a) f c → Found (heldBy a) f c p
+  pub every : (a : Arrays) → Among n ids counts cycles t a → Has (heldBy a) (rowsBy a) f c → CycleFound (heldBy a) f c p
 
 -- n rows by rising ids
 pub record RowsIn (n : ℕ) (ids starts ends : List ℕ) : Type 0 where

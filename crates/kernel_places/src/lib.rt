@@ -1,7 +1,7 @@
 ghost use mathlib.Core.Path.{_≡_};
 ghost use Rattle.kernel_places.specs.Standing.{HasBy, FoundBy, RowsIn, headBy};
 use answer::Totals;
-use uncut_cycles::Place;
+use rows_stretches::Place;
 
 // Where the cycle c of the face f stands.
 pub fn place_of(
@@ -18,7 +18,7 @@ pub fn place_of(
 {
     let row = store::find(ids, count, f);
     let s = kernel_cycles::spans_at(counts, cycles, row, t);
-    let at = outline::cycle_place(cycles, s, c);
+    let at = rows_corners::cycle_place(cycles, s, c);
     let k = s.cycles;
     let i = k.first + c;
     let m = store::wide(cycles[i]);

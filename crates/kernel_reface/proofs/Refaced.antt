@@ -10,14 +10,14 @@ use Rattle.complex.specs.Edits.{neither, replaced, rebuild}
 use Rattle.store.specs.Index.{rowOf, Rising}
 use Rattle.store.specs.View.{sheetOf}
 use Rattle.store.specs.Edits.{placesOf}
-use Rattle.cycles.specs.declared.Spans.{Spans}
-use Rattle.cycles.specs.declared.Used.{Used}
-use Rattle.cycles.specs.Runs.{spansOf}
-use Rattle.cycles.specs.Building.{built}
-use Rattle.outline.specs.Faces.{Named}
-use Rattle.outline.proofs.Rows.{finding, spanning, replacing, replaced-with}
-use Rattle.reface.specs.Needs.{Refaced}
-use Rattle.reface.proofs.Refacing.{left-named, left-room, refaced}
+use Rattle.rows_spans.specs.declared.Spans.{Spans}
+use Rattle.rows_spans.specs.declared.Used.{Used}
+use Rattle.rows_spans.specs.Runs.{spansOf}
+use Rattle.rows_spans.specs.Building.{built}
+use Rattle.rows_corners.specs.Faces.{Named}
+use Rattle.rows_corners.proofs.Rows.{finding, spanning, replacing, replaced-with}
+use Rattle.rows_reface.specs.Needs.{Refaced}
+use Rattle.rows_reface.proofs.Refacing.{left-named, left-room, refaced}
 use Rattle.lent.specs.Arrays.{Arrays, heldBy, rowsBy, Lengths}
 use Rattle.lent.specs.Replies.{Holds}
 use Rattle.lent.proofs.Held.{held-sizes, held-indexes}

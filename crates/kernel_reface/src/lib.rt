@@ -4,11 +4,11 @@ ghost use mathlib.Core.List.{[]};
 ghost use Rattle.complex.specs.Cells.{face};
 ghost use Rattle.complex.specs.Edits.{neither, replaced, rebuild};
 ghost use Rattle.store.specs.View.{sheetOf};
-ghost use Rattle.cycles.specs.Building.{built};
-ghost use Rattle.reface.specs.Needs.{Refaced};
+ghost use Rattle.rows_spans.specs.Building.{built};
+ghost use Rattle.rows_reface.specs.Needs.{Refaced};
 ghost use Rattle.lent.specs.Arrays.{heldBy, normal, Lengths, lent, entry, exit};
 ghost use Rattle.lent.specs.Replies.{Holds};
-use cycles::Used;
+use rows_spans::Used;
 
 // The cells i and j go, whose rows are a and b, and then the face f gets the cycles that two other arrays hold: in the other
 // order both could be too many. How many rows there are then.
@@ -32,8 +32,8 @@ pub fn reface(
     j: u32,
     b: usize,
     f: u32,
-    numbers: &[u32; 512],
-    places: &[u32; 2048],
+    numbers: &[u32],
+    places: &[u32],
     u: Used,
 ) -> usize
     requires { ⌜ Refaced (heldBy (lent next count ids kinds starts ends bends counts px py cycles steps bx by)) i a j b f (now numbers) u (now places) ⌝ }
@@ -41,7 +41,7 @@ pub fn reface(
     requires { ⌜ normal (lent next count ids kinds starts ends bends counts px py cycles steps bx by) ≡ true ⌝ }
     ensures { λ r. ⌜ Holds (rebuild (neither i j) (replaced f (face (built (now (numbers .entry)) u (now (places .entry))))) [] (sheetOf (heldBy (entry next count ids kinds starts ends bends counts px py cycles steps bx by)))) (exit next r ids kinds starts ends bends counts px py cycles steps bx by) ⌝ }
 {
-    let dead = dropping::dead_rows(a, b);
+    let dead = rows_gone::dead_rows(a, b);
     let k = kernel_keep::keep_rows(
         next,
         count,
@@ -76,7 +76,7 @@ pub fn reface(
         by,
     );
     let row = store::find(ids, k, f);
-    let s = cycles::spans_of(counts, k, row, cycles);
+    let s = rows_spans::spans_of(counts, k, row, cycles);
     kernel_cycles::replace_cycles(
         next,
         k,

@@ -14,13 +14,13 @@ use Rattle.store.specs.declared.Shape.{Shape}
 use Rattle.store.specs.declared.Cell.{Cell}
 use Rattle.store.specs.View.{sheetOf, Fits, cycleTotal, stepTotal}
 use Rattle.store.specs.Edits.{placesOf, withEntries}
-use Rattle.store.specs.Places.{cyclesAt}
+use Rattle.store.specs.Places.{entryCycles}
 use Rattle.store.proofs.Lists.{width-places}
 use Rattle.store.proofs.Stands.{stands}
 use Rattle.store.proofs.Pools.{drawing-held}
-use Rattle.rewire.specs.Renaming.{renameShape, renameCell, LoneRenamed}
-use Rattle.rewire.proofs.Rewired.{rewired-heads, rewired-cycles, rewired-bends, changed-is}
-use Rattle.rewire.proofs.Renamed.{held-renamed}
+use Rattle.rows_steps.specs.Renaming.{renameShape, renameCell, LoneRenamed}
+use Rattle.rows_steps.proofs.Rewired.{rewired-heads, rewired-cycles, rewired-bends, changed-is}
+use Rattle.rows_steps.proofs.Renamed.{held-renamed}
 use Rattle.lent.specs.Arrays.{Arrays, shapeBy, shapeAt, positionIn, cellsBy, heldBy, rowNormal, normalAt, normal, Lengths}
 use Rattle.lent.proofs.Held.{held-sizes, all-at, all-intro}
 use Rattle.kernel_rename.specs.Renames.{renameEnd, EndsRenamed, RenamedIn}
@@ -114,7 +114,7 @@ module _ (r : ℕ → ℕ) (a : Arrays) (l : Lengths a) (f : Fits (heldBy a)) (n
       let d = heldBy a in
       let z = held-sizes a l in
       let xs = sheetOf d .cells in
-      let held = held-renamed r (spread cyclesAt xs) (a .cycles) (cycleTotal d) (a .steps) (stepTotal d) st (drawing-held d z f) (lt ∙ sym (l .steps)) rl in
+      let held = held-renamed r (spread entryCycles xs) (a .cycles) (cycleTotal d) (a .steps) (stepTotal d) st (drawing-held d z f) (lt ∙ sym (l .steps)) rl in
       changed-is d (heldBy b) z f (held-sizes b long) refl refl refl (reshape (rewired r one) xs)
       (cells-renamed r (shapeAt a) (shapeAt b) (a .count) (a .ids) shape-at ∙ ap (map (renameCell r)) (stands d z f .cells) ∙ rewired-heads r one xs)
       (rewired-bends r one xs) (cycleTotal d) (stepTotal d) (rw (rewired-cycles r one xs) held)

@@ -12,7 +12,7 @@ use lib.Seq.{length-take-le, take-suc, take-add, drop-cons, drop-drop, drop-set-
 use Rattle.complex.specs.Lists.{total}
 use Rattle.store.specs.Edits.{placesOf, spreadFlags, zipped, lonePlaces}
 use Rattle.store.proofs.Lists.{sum-more, sum-le, map-more, spread-append, zipped-append}
-use Rattle.rewire.specs.Renaming.{renamePlace, LoneRenamed}
+use Rattle.rows_steps.specs.Renaming.{renamePlace, LoneRenamed}
 
 lone-length : (ns : List ℕ) → length (lonePlaces ns) ≡ total (placesOf 1) ns
 lone-length [] = refl

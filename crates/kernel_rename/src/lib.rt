@@ -7,7 +7,7 @@ ghost use Rattle.complex.specs.Sound.{cellsMost, cyclesMost, stepsMost};
 ghost use Rattle.complex.specs.Glue.{renamed};
 ghost use Rattle.store.specs.View.{cycleTotal, Fits};
 ghost use Rattle.store.specs.Edits.{placesOf};
-ghost use Rattle.rewire.specs.Renaming.{LoneRenamed};
+ghost use Rattle.rows_steps.specs.Renaming.{LoneRenamed};
 ghost use Rattle.lent.specs.Arrays.{heldBy, normal, Lengths, lent, entry, exit};
 ghost use Rattle.kernel_rename.specs.Renames.{EndsRenamed, RenamedIn};
 

@@ -14,10 +14,10 @@ use Rattle.store.specs.View.{width, widthSum}
 use Rattle.number.specs.Readers.{spread}
 use Rattle.store.proofs.Encode.{flat-append}
 use Rattle.store.proofs.Lists.{sum-append}
-use Rattle.rewire.specs.declared.Swap.{Swap}
-use Rattle.rewire.specs.Swap.{swapWord, swapSteps, swapNumber, allSteps, allNumbers, Wrote, Swapped}
+use Rattle.rows_steps.specs.declared.Swap.{Swap}
+use Rattle.rows_steps.specs.Swap.{swapWord, swapSteps, swapNumber, allSteps, allNumbers, Wrote, Swapped}
 use Rattle.kernel_swap.specs.Swaps.{Ahead, Enough}
-use Rattle.rewire.proofs.Writing.{all-steps-append, wrote-then, run-flat, run-length, width-some, width-within, unread, Swapping, swapping-turn}
+use Rattle.rows_steps.proofs.Writing.{all-steps-append, wrote-then, run-flat, run-length, width-some, width-within, unread, Swapping, swapping-turn}
 
 -- ---- what is not yet read
 module _ (l m ys : List ℕ) (at k : ℕ) (w : Wrote l at ys m) (h : at + length ys ≤ k) where

@@ -10,13 +10,13 @@ use Rattle.complex.specs.Edits.{reshape, rewired, sameVertex, inPlaceOf}
 use Rattle.complex.specs.Sound.{over, stepsIn}
 use Rattle.number.specs.Readers.{spread}
 use Rattle.store.specs.Sheet.{allReal}
-use Rattle.store.specs.Places.{cyclesAt}
+use Rattle.store.specs.Places.{entryCycles}
 use Rattle.store.specs.View.{sheetOf, Fits, cycleTotal, stepTotal}
 use Rattle.store.specs.Edits.{withEntries}
-use Rattle.rewire.specs.Swap.{swapHalf, oneFor}
-use Rattle.rewire.specs.declared.Swap.{Swap}
-use Rattle.rewire.proofs.Merging.{real-with, room-with}
-use Rattle.rewire.proofs.Swaps.{one-for, one-some, one-few}
+use Rattle.rows_steps.specs.Swap.{swapHalf, oneFor}
+use Rattle.rows_steps.specs.declared.Swap.{Swap}
+use Rattle.rows_steps.proofs.Merging.{real-with, room-with}
+use Rattle.rows_steps.proofs.Swaps.{one-for, one-some, one-few}
 use Rattle.lent.specs.Arrays.{Arrays, heldBy, Lengths}
 use Rattle.lent.proofs.Held.{held-sizes}
 use Rattle.kernel_swap.specs.Swaps.{SwappedIn}
@@ -27,14 +27,14 @@ module _ (a : Arrays) (e n : ℕ) (flip : Bool) (t : Swap) (et : t ≡ oneFor e 
 
   pub one-asks : (k m : ℕ) → Lengths a → Fits (heldBy a) → k ≡ cycleTotal (heldBy a) → m ≡ stepTotal (heldBy a)
       → Fits (heldBy a) × (Lengths a
-      × ((k ≡ cycleTotal (heldBy a)) × ((t .n ≤ 2) × ((allReal (spread cyclesAt (reshape (rewired sameVertex (swapHalf t)) (sheetOf (heldBy a) .cells))) ≡ true)
+      × ((k ≡ cycleTotal (heldBy a)) × ((t .n ≤ 2) × ((allReal (spread entryCycles (reshape (rewired sameVertex (swapHalf t)) (sheetOf (heldBy a) .cells))) ≡ true)
       × ((over stepsIn (reshape (rewired sameVertex (swapHalf t)) (sheetOf (heldBy a) .cells)) ≤ 2048) × ((m ≡ stepTotal (heldBy a))
       × (((t .n ≤ 1) × (_≡_ {A = ℕ} 0 0)) ⊎ ((1 ≤ t .n) × (over stepsIn (reshape (rewired sameVertex (swapHalf t)) (sheetOf (heldBy a) .cells)) ≡ 0 + m)))))))))
   one-asks k m l f ek em =
       let d = heldBy a in
       let z = held-sizes a l in
       let c : t .n ≡ 1 = ap (λ (y : Swap). y .n) et in
-      let real = subst (λ (σ : Halfedge → List Halfedge). allReal (spread cyclesAt (reshape (rewired sameVertex σ) (sheetOf d .cells))) ≡ true) (sym half)
+      let real = subst (λ (σ : Halfedge → List Halfedge). allReal (spread entryCycles (reshape (rewired sameVertex σ) (sheetOf d .cells))) ≡ true) (sym half)
       (real-with d z f _ (one-some e n flip)) in
       let room = subst (λ (σ : Halfedge → List Halfedge). over stepsIn (reshape (rewired sameVertex σ) (sheetOf d .cells)) ≤ 2048) (sym half)
       (room-with d z f _ (one-few e n flip)) in

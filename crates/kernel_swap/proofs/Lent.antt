@@ -12,15 +12,15 @@ use Rattle.complex.specs.Edits.{reshape, rewired, sameVertex}
 use Rattle.store.specs.Sheet.{allReal}
 use Rattle.store.specs.View.{sheetOf, Fits, widthSum, cycleTotal, stepTotal}
 use Rattle.store.specs.Edits.{withEntries}
-use Rattle.store.specs.Places.{cyclesAt, stepsIn}
+use Rattle.store.specs.Places.{entryCycles, cycleWords}
 use Rattle.number.specs.Readers.{spread}
 use Rattle.store.proofs.Stands.{stands}
 use Rattle.store.proofs.Pools.{drawing-held}
-use Rattle.rewire.specs.declared.Swap.{Swap}
-use Rattle.rewire.specs.Swap.{swapHalf, swapCycle, allSteps, Swapped}
+use Rattle.rows_steps.specs.declared.Swap.{Swap}
+use Rattle.rows_steps.specs.Swap.{swapHalf, swapCycle, allSteps, Swapped}
 use Rattle.kernel_swap.specs.Swaps.{Enough}
-use Rattle.rewire.proofs.Rewired.{rewired-heads, rewired-cycles, rewired-bends, cells-same, steps-held, changed-is}
-use Rattle.rewire.proofs.Swaps.{held-steps, held-swapped}
+use Rattle.rows_steps.proofs.Rewired.{rewired-heads, rewired-cycles, rewired-bends, cells-same, steps-held, changed-is}
+use Rattle.rows_steps.proofs.Swaps.{held-steps, held-swapped}
 use Rattle.lent.specs.Arrays.{Arrays, heldBy, Lengths}
 use Rattle.lent.proofs.Held.{held-sizes}
 use Rattle.kernel_swap.specs.Swaps.{SwappedIn}
@@ -54,7 +54,7 @@ module _ (t : Swap) (a : Arrays) (l : Lengths a) (f : Fits (heldBy a)) (rm : ove
   steps-are =
       let d = heldBy a in
       let xs = sheetOf d .cells in
-      ap length (held-steps t (spread cyclesAt xs) (a .cycles) (cycleTotal d) (a .steps) (stepTotal d) (drawing-held d (held-sizes a l) f) ∙ ap (spread stepsIn) (sym (rewired-cycles sameVertex (swapHalf t) xs)))
+      ap length (held-steps t (spread entryCycles xs) (a .cycles) (cycleTotal d) (a .steps) (stepTotal d) (drawing-held d (held-sizes a l) f) ∙ ap (spread cycleWords) (sym (rewired-cycles sameVertex (swapHalf t) xs)))
       ∙ steps-held (swappedCells t xs)
 
   -- the cycles in use
@@ -70,7 +70,7 @@ module _ (t : Swap) (a : Arrays) (l : Lengths a) (f : Fits (heldBy a)) (rm : ove
         record { room = ⊎-elim (λ x. inl (x .0)) (λ x. inr (x .0, omega (arith, x .1, steps-are))) h },
       )
 
-  module _ (cy st : List ℕ) (lc : length cy ≡ 512) (ls : length st ≡ 2048) (rl : allReal (spread cyclesAt (swappedCells t (sheetOf (heldBy a) .cells))) ≡ true)
+  module _ (cy st : List ℕ) (lc : length cy ≡ 512) (ls : length st ≡ 2048) (rl : allReal (spread entryCycles (swappedCells t (sheetOf (heldBy a) .cells))) ≡ true)
       (sw : Swapped t (take (cycleTotal (heldBy a)) (a .cycles)) (a .steps) cy st) where
     abbrev b : Arrays
     b = withPools a cy st
@@ -98,12 +98,12 @@ module _ (t : Swap) (a : Arrays) (l : Lengths a) (f : Fits (heldBy a)) (rm : ove
         let z = held-sizes a l in
         let xs = sheetOf d .cells in
         let ys = swappedCells t xs in
-        let k : spread cyclesAt ys ≡ map (swapCycle t) (spread cyclesAt xs) = rewired-cycles sameVertex (swapHalf t) xs in
+        let k : spread entryCycles ys ≡ map (swapCycle t) (spread entryCycles xs) = rewired-cycles sameVertex (swapHalf t) xs in
         let held =
-        held-swapped t (spread cyclesAt xs) (a .cycles) (cycleTotal d) (a .steps) (stepTotal d) (drawing-held d z f) cy st (lc ∙ sym (l .cycles))
+        held-swapped t (spread entryCycles xs) (a .cycles) (cycleTotal d) (a .steps) (stepTotal d) (drawing-held d z f) cy st (lc ∙ sym (l .cycles))
         (rw (← k) (omega (arith, rm, steps-held ys, ls))) (rw (← k) rl) sw in
         changed-is d (heldBy b) z f (held-sizes b long) refl refl refl ys
-        (stands d z f .cells ∙ sym (cells-same _) ∙ rewired-heads sameVertex (swapHalf t) xs) (rewired-bends sameVertex (swapHalf t) xs) (cycleTotal d) (length (spread stepsIn (map (swapCycle t) (spread cyclesAt xs))))
+        (stands d z f .cells ∙ sym (cells-same _) ∙ rewired-heads sameVertex (swapHalf t) xs) (rewired-bends sameVertex (swapHalf t) xs) (cycleTotal d) (length (spread cycleWords (map (swapCycle t) (spread entryCycles xs))))
         (rw k held)
 
     pub swapped-in : SwappedIn t a b

@@ -7,8 +7,8 @@ use mathlib.Core.Path.{_≡_}
 use Rattle.complex.specs.Edits.{reshape, rewired, sameVertex}
 use Rattle.store.specs.View.{sheetOf, Fits, widthSum}
 use Rattle.store.specs.Edits.{withEntries}
-use Rattle.rewire.specs.declared.Swap.{Swap}
-use Rattle.rewire.specs.Swap.{swapHalf, allSteps}
+use Rattle.rows_steps.specs.declared.Swap.{Swap}
+use Rattle.rows_steps.specs.Swap.{swapHalf, allSteps}
 use Rattle.lent.specs.Arrays.{Arrays, heldBy, Lengths}
 
 -- the arrays b hold what a hold with the steps swapped

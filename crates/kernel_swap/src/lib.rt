@@ -7,12 +7,12 @@ ghost use Rattle.number.specs.Readers.{spread};
 ghost use Rattle.complex.specs.Sound.{over, stepsIn, cyclesMost, stepsMost};
 ghost use Rattle.complex.specs.Edits.{reshape, rewired, sameVertex};
 ghost use Rattle.store.specs.Sheet.{allReal};
-ghost use Rattle.store.specs.Places.{cyclesAt};
+ghost use Rattle.store.specs.Places.{entryCycles};
 ghost use Rattle.store.specs.View.{width, widthSum, cycleTotal, stepTotal, sheetOf, Fits};
-ghost use Rattle.rewire.specs.Swap.{swapWord, swapHalf, swapSteps, Wrote, Swapped};
+ghost use Rattle.rows_steps.specs.Swap.{swapWord, swapHalf, swapSteps, Wrote, Swapped};
 ghost use Rattle.lent.specs.Arrays.{heldBy, Lengths, lent, entry, exit};
 ghost use Rattle.kernel_swap.specs.Swaps.{Ahead, Enough, SwappedIn};
-use rewire::Swap;
+use rows_steps::Swap;
 
 // The first n numbers, g places further back.
 fn shift(l: &mut [u32], n: usize, g: usize)
@@ -41,7 +41,7 @@ fn swap_run(steps: &mut [u32], from: usize, n: usize, at: usize, t: Swap) -> usi
     let mut i: usize = 0;
     while i < n {
         let s = steps[from + i];
-        let k = rewire::put_step(steps, at + w, s, t);
+        let k = rows_steps::put_step(steps, at + w, s, t);
         w = w + k;
         i = i + 1;
     }
@@ -78,7 +78,7 @@ fn swap_cycles(cycles: &mut [u32], n: usize, steps: &mut [u32], g: usize, t: Swa
     while i < n {
         let c = cycles[i];
         let w = swap_cycle(c, steps, g + from, at, t);
-        cycles[i] = rewire::number_of(c, w);
+        cycles[i] = rows_steps::number_of(c, w);
         from = from + store::places(1, c);
         at = at + w;
         i = i + 1;
@@ -133,7 +133,7 @@ pub fn swap_steps(
     requires { ⌜ Lengths (lent next count ids kinds starts ends bends counts px py cycles steps bx by) ⌝ }
     requires { ⌜ k ≡ cycleTotal (heldBy (lent next count ids kinds starts ends bends counts px py cycles steps bx by)) ⌝ }
     requires { ⌜ t .n ≤ 2 ⌝ }
-    requires { ⌜ allReal (spread cyclesAt (reshape (rewired sameVertex (swapHalf t)) (sheetOf (heldBy (lent next count ids kinds starts ends bends counts px py cycles steps bx by)) .cells))) ≡ true ⌝ }
+    requires { ⌜ allReal (spread entryCycles (reshape (rewired sameVertex (swapHalf t)) (sheetOf (heldBy (lent next count ids kinds starts ends bends counts px py cycles steps bx by)) .cells))) ≡ true ⌝ }
     requires { ⌜ over stepsIn (reshape (rewired sameVertex (swapHalf t)) (sheetOf (heldBy (lent next count ids kinds starts ends bends counts px py cycles steps bx by)) .cells)) ≤ stepsMost ⌝ }
     requires { ⌜ m ≡ stepTotal (heldBy (lent next count ids kinds starts ends bends counts px py cycles steps bx by)) ⌝ }
     requires { ⌜ ((t .n ≤ 1) × (g ≡ 0)) ⊎ ((1 ≤ t .n) × (over stepsIn (reshape (rewired sameVertex (swapHalf t)) (sheetOf (heldBy (lent next count ids kinds starts ends bends counts px py cycles steps bx by)) .cells)) ≡ g + m)) ⌝ }

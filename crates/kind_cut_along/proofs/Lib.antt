@@ -1,4 +1,1 @@
-pub mod Bridging
-pub mod Splitting
-pub mod Asking
 pub mod Opening

@@ -15,25 +15,25 @@ use Rattle.complex.specs.Decode.{Command, cutFaceOpen}
 use Rattle.complex.specs.Cut.{cutCorners}
 use Rattle.store.specs.Index.{rowOf, valueAt, Rising}
 use Rattle.store.specs.View.{sheetOf}
-use Rattle.cycles.specs.declared.Spans.{Spans}
-use Rattle.cycles.specs.Runs.{spansOf}
+use Rattle.rows_spans.specs.declared.Spans.{Spans}
+use Rattle.rows_spans.specs.Runs.{spansOf}
 use Rattle.answer.specs.declared.Totals.{Totals}
-use Rattle.command.specs.Lists.{Stand, numbersRead}
-use Rattle.outline.specs.Faces.{Spanned, Within, Named}
-use Rattle.outline.proofs.Rows.{live, finding, spanned}
-use Rattle.outline.proofs.Edits.{face-told, named-in}
-use Rattle.split.proofs.Corners.{cycles-count}
-use Rattle.cutline.specs.Corners.{cornerOn, movedFit}
-use Rattle.cutline.proofs.Corners.{corner-told, first-missing, second-missing, both-there}
-use Rattle.cutline.proofs.Passing.{outside, no-face, no-corner}
+use Rattle.decode_parts.specs.Lists.{Stand, numbersRead}
+use Rattle.rows_corners.specs.Faces.{Spanned, Within, Named}
+use Rattle.rows_corners.proofs.Rows.{live, finding, spanned}
+use Rattle.rows_corners.proofs.Edits.{face-told, named-in}
+use Rattle.rows_split.proofs.Corners.{cycles-count}
+use Rattle.ask_cut_along.specs.Corners.{cornerOn, movedFit}
+use Rattle.ask_cut_along.proofs.Corners.{corner-told, first-missing, second-missing, both-there}
+use Rattle.ask_cut_along.proofs.Passing.{outside, no-face, no-corner}
 use Rattle.lent.specs.Arrays.{Arrays, heldBy, rowsBy}
 use Rattle.lent.specs.declared.Line.{Line}
 use Rattle.lent.specs.Replies.{lineOf, Ready, Obeyed}
 use Rattle.lent.proofs.Sums.{ready-sizes, ready-drawing, ready-indexes, ready-cells, ready-no}
-use Rattle.kernel_cycles.specs.Replacing.{Counted}
+use Rattle.kernel_cycles.specs.Replacing.{RowCounted}
 use Rattle.kernel_cycles.proofs.Ready.{ready-counted}
 use Rattle.kind_cut_chord.specs.Chords.{cornersBy}
-use Rattle.kind_cut_along.specs.Cuts.{Asks}
+use Rattle.kind_cut_split.specs.Cuts.{Asks}
 
 -- what was found of the two corners, and of the moved cycles among n, is question 5
 corners-are : (look : Look) (ks : List Cycle) (c1 s1 c2 s2 : ℕ) (ms : List ℕ) (n : ℕ) → n ≡ length ks → (x y : Bool) → x ≡ cornerOn look ks c1 s1 → y ≡
@@ -74,7 +74,7 @@ module _ (a : Arrays) (t : Totals) (y : Ready a t) (script : List ℕ) (f c1 s1 
         find-asks = finding (heldBy a) (ready-sizes a t y) (rowsBy a) f named
 
         module _ (row : ℕ) (er : row ≡ rowOf f (take (a .count) (a .ids))) where
-          pub counted : Counted (a .counts) (a .cycles) row t
+          pub counted : RowCounted (a .counts) (a .cycles) row t
           counted = ready-counted a t y row (subst (λ (i : ℕ). i < a .count) (sym er) (live (heldBy a) (ready-sizes a t y) (rowsBy a) f named))
 
           module _ (s : Spans) (es : s ≡ spansOf (a .counts) (t .cells) row (a .cycles)) where

@@ -12,27 +12,27 @@ use Rattle.complex.specs.Cells.{Cycle, Figure, openEdge, face, Sheet}
 use Rattle.store.specs.View.{sheetOf, bendTotal, cycleTotal, stepTotal, widthSum}
 use Rattle.store.specs.Edits.{appended}
 use Rattle.store.specs.Index.{rowOf}
-use Rattle.cycles.specs.declared.Spans.{Spans}
-use Rattle.cycles.specs.declared.Used.{Used}
-use Rattle.cycles.specs.Runs.{spansOf, withRow}
-use Rattle.cycles.specs.Building.{Building, built}
-use Rattle.append.specs.Appends.{RoomIn, Room}
-use Rattle.append.proofs.Rooms.{room-first}
+use Rattle.rows_spans.specs.declared.Spans.{Spans}
+use Rattle.rows_spans.specs.declared.Used.{Used}
+use Rattle.rows_spans.specs.Runs.{spansOf, sheetWithRow}
+use Rattle.rows_spans.specs.Building.{Building, built}
+use Rattle.rows_new.specs.Appends.{RoomIn, CellRoom}
+use Rattle.rows_new.proofs.Rooms.{room-first}
 use Rattle.answer.specs.declared.Totals.{Totals}
-use Rattle.outline.specs.Faces.{recycled}
-use Rattle.outline.proofs.Rows.{replaced-with}
+use Rattle.rows_corners.specs.Faces.{recycled}
+use Rattle.rows_corners.proofs.Rows.{replaced-with}
 use Rattle.lent.specs.Arrays.{Arrays, heldBy, rowsBy, Lengths}
 use Rattle.lent.specs.Growing.{withOpen}
 use Rattle.lent.proofs.Held.{held-sizes}
 use Rattle.lent.proofs.Sums.{bends-held, cycles-held, steps-held}
 use Rattle.lent.proofs.Grown.{open-long, open-normal, open-cycles}
 use Rattle.kernel_cycles.specs.Replacing.{ReplacedIn}
-use Rattle.kind_create.specs.Comes.{BendsPut}
-use Rattle.kind_create.proofs.Put.{withPlaced, placed-long, open-grew}
-use Rattle.kind_cut_face.specs.Cuts.{Cuts}
+use Rattle.kernel_add.specs.Comes.{BendsPut}
+use Rattle.kernel_add.proofs.Put.{withPlaced, placed-long, open-grew}
+use Rattle.kind_cut_face.specs.Cuts.{FaceCuts}
 use Rattle.kind_cut_face.proofs.Cuts.{sizes-in, replaces}
-use Rattle.kind_cut_round.specs.Rounds.{HoldsIn}
-use Rattle.kind_cut_round.proofs.Coming.{same-arrays}
+use Rattle.kernel_part.specs.Rounds.{HoldsIn}
+use Rattle.kernel_part.proofs.Coming.{same-arrays}
 use Rattle.kind_cut_chord.specs.Chords.{ChordRoom}
 
 -- ---- the edge, where b have the cycles of the list
@@ -45,7 +45,7 @@ module _ (a : Arrays) (row : ℕ) (s : Spans) (numbers : List ℕ) (u : Used) (p
   abbrev edge : Figure
   edge = openEdge v w (positionsAt script first k)
 
-  pub chord-comes : Room (heldBy b) (openEdge v w (positionsAt script first k))
+  pub chord-comes : CellRoom (heldBy b) (openEdge v w (positionsAt script first k))
   chord-comes = room-first (heldBy b) (held-sizes b (q .long)) (q .fits) edge (x .others)
       (subst (λ (t : Sheet). RoomIn t (edge ∷ x .others)) (sym (q .sheet)) (x .room))
 
@@ -75,12 +75,12 @@ module _ (a : Arrays) (row : ℕ) (s : Spans) (numbers : List ℕ) (u : Used) (p
         chorded .starts → o .ends ≡ chorded .ends
         → o .bends ≡ chorded .bends → o .counts ≡ chorded .counts → o .px ≡ b .px → o .py ≡ b .py → o .cycles ≡ b .cycles → o .steps ≡ b .steps → o .bx ≡ us
         → o .by ≡ vs
-        → HoldsIn (appended (withRow (sheetOf (heldBy a)) row (face (built numbers u places))) (openEdge v w (positionsAt script first k)))
+        → HoldsIn (appended (sheetWithRow (sheetOf (heldBy a)) row (face (built numbers u places))) (openEdge v w (positionsAt script first k)))
         (s .cycles .first + u .cycles + s .cycles .rest) (s .steps .first + u .steps + s .steps .rest) o
     chord-holds o e1 e2 e3 e4 e5 e6 e7 e8 e9 e10 e11 e12 e13 e14 =
         let g = open-grew b (q .long) bs k at (positions-length script first k) bends-are us vs p v w chord-comes in
         subst
-        (HoldsIn (appended (withRow (sheetOf (heldBy a)) row (face (built numbers u places))) edge) (s .cycles .first + u .cycles + s .cycles .rest)
+        (HoldsIn (appended (sheetWithRow (sheetOf (heldBy a)) row (face (built numbers u places))) edge) (s .cycles .first + u .cycles + s .cycles .rest)
         (s .steps .first + u .steps + s .steps .rest))
         (sym (same-arrays o chorded e1 e2 e3 e4 e5 e6 e7 e8 e9 e10 e11 e12 e13 e14))
         (record {
@@ -96,10 +96,10 @@ module _ (a : Arrays) (row : ℕ) (s : Spans) (numbers : List ℕ) (u : Used) (p
         })
 
 -- ---- of a face whose list and whose edge are those of a cut
-module _ (a : Arrays) (t : Totals) (f : ℕ) (ks : List Cycle) (new : List Figure) (c : Cuts a t f ks new) (row : ℕ)
+module _ (a : Arrays) (t : Totals) (f : ℕ) (ks : List Cycle) (new : List Figure) (c : FaceCuts a t f ks new) (row : ℕ)
     (e : row ≡ rowOf f (take (a .count) (a .ids))) (numbers : List ℕ) (u : Used) (places : List ℕ)
     (ek : built numbers u places ≡ ks) where
-  row-sheet : withRow (sheetOf (heldBy a)) row (face (built numbers u places)) ≡ recycled (sheetOf (heldBy a)) f ks
+  row-sheet : sheetWithRow (sheetOf (heldBy a)) row (face (built numbers u places)) ≡ recycled (sheetOf (heldBy a)) f ks
   row-sheet =
       replaced-with (heldBy a) (sizes-in a t f ks new c) (rowsBy a) f (c .named) numbers u places row e _ refl
       ∙ ap (recycled (sheetOf (heldBy a)) f) ek
@@ -119,6 +119,6 @@ module _ (a : Arrays) (t : Totals) (f : ℕ) (ks : List Cycle) (new : List Figur
       }
 
   -- the sheet with the edge
-  pub chord-sheet : (x y : Figure) → x ≡ y → (q : Sheet) → q ≡ appended (withRow (sheetOf (heldBy a)) row (face (built numbers u places))) x → q ≡ appended
+  pub chord-sheet : (x y : Figure) → x ≡ y → (q : Sheet) → q ≡ appended (sheetWithRow (sheetOf (heldBy a)) row (face (built numbers u places))) x → q ≡ appended
       (recycled (sheetOf (heldBy a)) f ks) y
   chord-sheet x y ex q eq = eq ∙ ap₂ appended row-sheet ex

@@ -10,16 +10,16 @@ use Rattle.complex.specs.Cut.{noCycle, corner}
 use Rattle.store.specs.Index.{rowOf, Rising}
 use Rattle.store.specs.Sizes.{Sizes}
 use Rattle.store.specs.View.{sheetOf, width, widthSum}
-use Rattle.cycles.specs.declared.Spans.{Spans}
-use Rattle.cycles.specs.Runs.{spansOf}
+use Rattle.rows_spans.specs.declared.Spans.{Spans}
+use Rattle.rows_spans.specs.Runs.{spansOf}
 use Rattle.answer.specs.declared.Totals.{Totals}
-use Rattle.outline.specs.Faces.{Spanned, Rows}
-use Rattle.outline.proofs.Rows.{finding, spanned}
-use Rattle.split.specs.declared.Place.{Place}
-use Rattle.split.specs.Along.{Along}
-use Rattle.split.specs.Parts.{placeOf}
-use Rattle.split.proofs.Corners.{place-asks, vertex-asks, vertex-is}
-use Rattle.split.proofs.Cuts.{in-first, in-second, at-first, at-second}
+use Rattle.rows_corners.specs.Faces.{Spanned, IndexRows}
+use Rattle.rows_corners.proofs.Rows.{finding, spanned}
+use Rattle.rows_split.specs.declared.Place.{Place}
+use Rattle.rows_split.specs.Along.{Along}
+use Rattle.rows_split.specs.Parts.{placeOf}
+use Rattle.rows_split.proofs.Corners.{place-asks, vertex-asks, vertex-is}
+use Rattle.rows_split.proofs.Cuts.{in-first, in-second, at-first, at-second}
 use Rattle.lent.specs.Arrays.{Arrays, heldBy, rowsBy}
 use Rattle.lent.specs.Replies.{Ready}
 use Rattle.lent.proofs.Sums.{ready-sizes, ready-cells}
@@ -43,7 +43,7 @@ cornerAsks a p k =
     (a .count ≤ 256) × ((length (a .ids) ≡ 256) × ((length (a .starts) ≡ 256) × ((length (a .ends) ≡ 256)
     × (Rising (take (a .count) (a .ids)) × ((length (a .steps) ≡ 2048) × ((p .at + width (p .m) ≤ 2048) × (k < width (p .m))))))))
 
-rows-ask : (a : Arrays) (p : Place) (k : ℕ) → Rows (rowsBy a) (a .count) ×
+rows-ask : (a : Arrays) (p : Place) (k : ℕ) → IndexRows (rowsBy a) (a .count) ×
     ((length (a .steps) ≡ 2048) × ((p .at + width (p .m) ≤ 2048) × (k < width (p .m)))) → cornerAsks a p k
 rows-ask a p k r = let w = r .0 in (w .few, (w .ids, (w .starts, (w .ends, (w .rising, r .1)))))
 

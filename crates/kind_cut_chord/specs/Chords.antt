@@ -7,14 +7,14 @@ use lib.ListN.{length}
 use Rattle.bends.specs.Bends.{positionsAt}
 use Rattle.complex.specs.Cells.{Figure, openEdge, face}
 use Rattle.store.specs.View.{sheetOf}
-use Rattle.cycles.specs.declared.Spans.{Spans}
-use Rattle.cycles.specs.declared.Used.{Used}
-use Rattle.cycles.specs.Runs.{withRow}
-use Rattle.cycles.specs.Building.{built}
-use Rattle.append.specs.Appends.{RoomIn}
-use Rattle.outline.specs.Arcs.{cornerVertex}
-use Rattle.split.specs.declared.Place.{Place}
-use Rattle.cutline.specs.Corners.{cornerAt, movedFit}
+use Rattle.rows_spans.specs.declared.Spans.{Spans}
+use Rattle.rows_spans.specs.declared.Used.{Used}
+use Rattle.rows_spans.specs.Runs.{sheetWithRow}
+use Rattle.rows_spans.specs.Building.{built}
+use Rattle.rows_new.specs.Appends.{RoomIn}
+use Rattle.rows_corners.specs.Arcs.{cornerVertex}
+use Rattle.rows_split.specs.declared.Place.{Place}
+use Rattle.ask_cut_along.specs.Corners.{cornerAt, movedFit}
 use Rattle.lent.specs.Arrays.{Arrays, heldBy, totalsOf}
 use Rattle.kernel_cycles.specs.Replacing.{ReplacesIn}
 
@@ -41,4 +41,4 @@ pub record ChordRoom (a : Arrays) (row : ℕ) (s : Spans) (numbers : List ℕ) (
   pub inUse : at ≡ totalsOf a .bends
   pub bytes : first + 16 * k ≤ length script
   pub others : List Figure
-  pub room : RoomIn (withRow (sheetOf (heldBy a)) row (face (built numbers u places))) (openEdge v w (positionsAt script first k) ∷ others)
+  pub room : RoomIn (sheetWithRow (sheetOf (heldBy a)) row (face (built numbers u places))) (openEdge v w (positionsAt script first k) ∷ others)

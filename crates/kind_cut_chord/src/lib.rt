@@ -8,16 +8,16 @@ ghost use Rattle.complex.specs.Sound.{cellsMost, stepsMost};
 ghost use Rattle.store.specs.Index.{Rising};
 ghost use Rattle.store.specs.View.{sheetOf, width};
 ghost use Rattle.store.specs.Edits.{appended};
-ghost use Rattle.cycles.specs.Runs.{withRow};
-ghost use Rattle.cycles.specs.Building.{built};
-ghost use Rattle.command.specs.Lists.{Stand, numbersRead};
-ghost use Rattle.outline.specs.Faces.{Within};
+ghost use Rattle.rows_spans.specs.Runs.{sheetWithRow};
+ghost use Rattle.rows_spans.specs.Building.{built};
+ghost use Rattle.decode_parts.specs.Lists.{Stand, numbersRead};
+ghost use Rattle.rows_corners.specs.Faces.{Within};
 ghost use Rattle.lent.specs.Arrays.{heldBy, lent, entry, exit};
-ghost use Rattle.kind_cut_round.specs.Rounds.{HoldsIn};
+ghost use Rattle.kernel_part.specs.Rounds.{HoldsIn};
 ghost use Rattle.kind_cut_chord.specs.Chords.{vertexIn, cornerBy, cornersBy, ChordRoom};
-use cycles::Spans;
-use cycles::Used;
-use split::Place;
+use rows_spans::Spans;
+use rows_spans::Used;
+use rows_split::Place;
 
 // The vertex of corner s of the cycle at p.
 pub fn corner_vertex(
@@ -82,7 +82,7 @@ fn corner_on(
     if m <= s {
         return false;
     }
-    let at = outline::cycle_place(cycles, spans, i) + store::wide(s);
+    let at = rows_corners::cycle_place(cycles, spans, i) + store::wide(s);
     let h = steps[at];
     let kind = store::value_at(4, ids, kinds, n, h / 2);
     kind == 1
@@ -119,7 +119,7 @@ pub fn corners_exist(
         return false;
     }
     let k = spans.cycles;
-    cutline::moved_fit(script, place, moved, k.count as u32, c1, c2)
+    ask_cut_along::moved_fit(script, place, moved, k.count as u32, c1, c2)
 }
 
 // The face in a row, whose cycles and steps stand at `spans`, gets the cycles of a list; an edge from v to w comes, with the k bends
@@ -141,9 +141,9 @@ pub fn add_chord(
     by: &mut [f64; 2048],
     row: usize,
     spans: Spans,
-    numbers: &[u32; 512],
+    numbers: &[u32],
     u: Used,
-    places: &[u32; 2048],
+    places: &[u32],
     at: usize,
     script: &[u8],
     v: u32,
@@ -154,7 +154,7 @@ pub fn add_chord(
     requires { ⌜ ChordRoom (lent (now next) (now count) ids kinds starts ends bends counts px py cycles steps bx by) row spans (now numbers) u (now places) at (now script) v w k first ⌝ }
     ensures { λ _. ⌜ now (next .exit) ≡ now (next .entry) + 1 ⌝ }
     ensures { λ _. ⌜ now (count .exit) ≡ now (count .entry) + 1 ⌝ }
-    ensures { λ _. ⌜ HoldsIn (appended (withRow (sheetOf (heldBy (entry (now (next .entry)) (now (count .entry)) ids kinds starts ends bends counts px py cycles steps bx by))) row (face (built (now (numbers .entry)) u (now (places .entry))))) (openEdge v w (positionsAt (now (script .entry)) first k))) (spans .cycles .first + u .cycles + spans .cycles .rest) (spans .steps .first + u .steps + spans .steps .rest) (exit (now (next .exit)) (now (count .exit)) ids kinds starts ends bends counts px py cycles steps bx by) ⌝ }
+    ensures { λ _. ⌜ HoldsIn (appended (sheetWithRow (sheetOf (heldBy (entry (now (next .entry)) (now (count .entry)) ids kinds starts ends bends counts px py cycles steps bx by))) row (face (built (now (numbers .entry)) u (now (places .entry))))) (openEdge v w (positionsAt (now (script .entry)) first k))) (spans .cycles .first + u .cycles + spans .cycles .rest) (spans .steps .first + u .steps + spans .steps .rest) (exit (now (next .exit)) (now (count .exit)) ids kinds starts ends bends counts px py cycles steps bx by) ⌝ }
 {
     let n = *count;
     let id = *next;
@@ -180,8 +180,8 @@ pub fn add_chord(
         places,
         u.steps,
     );
-    kind_create::put_bends(script, first, k, bx, by, at);
-    kind_create::add_row(
+    kernel_add::put_bends(script, first, k, bx, by, at);
+    kernel_add::add_row(
         next,
         count,
         ids,

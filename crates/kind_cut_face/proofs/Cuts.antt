@@ -12,22 +12,22 @@ use Rattle.store.specs.declared.Drawing.{Drawing}
 use Rattle.store.specs.Sizes.{Sizes}
 use Rattle.store.specs.Index.{rowOf, Rising}
 use Rattle.store.specs.View.{sheetOf}
-use Rattle.cycles.specs.declared.Spans.{Spans}
-use Rattle.cycles.specs.declared.Used.{Used}
-use Rattle.cycles.specs.Runs.{spansOf}
-use Rattle.cycles.specs.Building.{Building, Built, built}
+use Rattle.rows_spans.specs.declared.Spans.{Spans}
+use Rattle.rows_spans.specs.declared.Used.{Used}
+use Rattle.rows_spans.specs.Runs.{spansOf}
+use Rattle.rows_spans.specs.Building.{Building, Built, built}
 use Rattle.answer.specs.declared.Totals.{Totals}
 use Rattle.answer.specs.Answers.{outcome}
-use Rattle.outline.specs.Faces.{Spanned, recycled}
-use Rattle.outline.proofs.Rows.{live, finding, spanned, replacing, replaced-with}
-use Rattle.outline.proofs.Edits.{room-listed, sheet-listed}
+use Rattle.rows_corners.specs.Faces.{Spanned, recycled}
+use Rattle.rows_corners.proofs.Rows.{live, finding, spanned, replacing, replaced-with}
+use Rattle.rows_corners.proofs.Edits.{room-listed, sheet-listed}
 use Rattle.lent.specs.Arrays.{Arrays, heldBy, rowsBy, totalsOf}
 use Rattle.lent.specs.declared.Line.{Line}
 use Rattle.lent.specs.Replies.{answerBy}
 use Rattle.lent.proofs.Sums.{ready-sizes, ready-rows, ready-cells}
-use Rattle.kernel_cycles.specs.Replacing.{Counted, ReplacesIn, ReplacedIn}
+use Rattle.kernel_cycles.specs.Replacing.{RowCounted, ReplacesIn, ReplacedIn}
 use Rattle.kernel_cycles.proofs.Ready.{ready-counted}
-use Rattle.kind_cut_face.specs.Cuts.{Cuts}
+use Rattle.kind_cut_face.specs.Cuts.{FaceCuts}
 
 -- the line of a command that issues k ids and removes nothing
 abbrev pub newLine : ℕ → ℕ → Line
@@ -40,7 +40,7 @@ new-outcome next n k out l e f =
     ap (λ (b : Bool). record { number = 0; first = cond b 0 next; new = k; removed = 0; drawing = out }) (sym (ne-eqb k 0 (λ z. omega (arith, z, l))))
     ∙ (λ i. record { number = 0; first = cond (eqb (sym g i) 0) 0 next; new = sym g i; removed = sym h i; drawing = out })
 
-module _ (a : Arrays) (t : Totals) (f : ℕ) (ks : List Cycle) (new : List Figure) (w : Cuts a t f ks new) where
+module _ (a : Arrays) (t : Totals) (f : ℕ) (ks : List Cycle) (new : List Figure) (w : FaceCuts a t f ks new) where
   pub sizes-in : Sizes (heldBy a)
   sizes-in = ready-sizes a t (w .ready)
 
@@ -51,7 +51,7 @@ module _ (a : Arrays) (t : Totals) (f : ℕ) (ks : List Cycle) (new : List Figur
     pub in-rows : row < a .count
     in-rows = subst (λ (i : ℕ). i < a .count) (sym e) (live (heldBy a) sizes-in (rowsBy a) f (w .named))
 
-    pub counted : Counted (a .counts) (a .cycles) row t
+    pub counted : RowCounted (a .counts) (a .cycles) row t
     counted = ready-counted a t (w .ready) row in-rows
 
     module _ (s : Spans) (es : s ≡ spansOf (a .counts) (t .cells) row (a .cycles)) where

@@ -1,10 +1,9 @@
 -- 0B: a face cut at a vertex in lent arrays. Assumes nothing.
 use Prim.Native.Nat.{ℕ, _+_, _<_, _≤_}
-use mathlib.Core.Path.{_≡_, refl, sym, ap, ap₂, subst, _∙_}
+use mathlib.Core.Path.{_≡_, refl, sym, ap, subst, _∙_}
 use mathlib.Core.Bool.{true}
 use mathlib.Core.List.{List, [], _∷_, _++_}
 use native.Mathlib.Omega.{arith}
-use lib.Dec.{lit≤}
 use lib.ListN.{length, take, drop, length-drop, replicate, length-replicate}
 use lib.Seq.{paste, take-paste, length-paste}
 use Rattle.coordinate.specs.declared.Position.{Position}
@@ -16,22 +15,21 @@ use Rattle.complex.specs.Edits.{everyId}
 use Rattle.complex.specs.Decode.{cutFaceVertex}
 use Rattle.complex.specs.Cut.{faceCutAt}
 use Rattle.complex.specs.Sound.{cyclesMost, stepsMost}
-use Rattle.store.specs.View.{sheetOf, cyclesOf, widthSum}
-use Rattle.store.specs.Pools.{Held}
+use Rattle.store.specs.View.{sheetOf, cyclesFrom, widthSum}
 use Rattle.store.proofs.Pools.{held-cycles}
-use Rattle.cycles.specs.declared.Spans.{Spans}
-use Rattle.cycles.specs.declared.Used.{Used}
-use Rattle.cycles.specs.Building.{Built, built}
-use Rattle.cycles.proofs.Building.{held, pushed-lone}
-use Rattle.append.specs.Appends.{Room}
+use Rattle.rows_spans.specs.declared.Spans.{Spans}
+use Rattle.rows_spans.specs.declared.Used.{Used}
+use Rattle.rows_spans.specs.Building.{Built}
+use Rattle.rows_spans.proofs.Building.{held, pushed-lone}
+use Rattle.rows_new.specs.Appends.{CellRoom}
 use Rattle.answer.specs.declared.Totals.{Totals}
 use Rattle.answer.specs.Sizes.{sized, nothing, moreLess, changedBy}
 use Rattle.answer.specs.Late.{sizesBy, lateNo}
 use Rattle.answer.proofs.Asked.{Asked, asked-of, refuses, room, answers}
-use Rattle.outline.specs.Faces.{Within, Spanned, cyclesAt, recycled}
-use Rattle.outline.proofs.Lists.{built-then}
-use Rattle.outline.proofs.Edits.{named-in}
-use Rattle.cutface.proofs.Edits.{lone-asks, lone-list, lone-room, lone-done, vertex-passed, vertex-new, vertex-more, vertex-result, vertex-cut}
+use Rattle.rows_corners.specs.Faces.{Within, cyclesAt, recycled}
+use Rattle.rows_corners.proofs.Lists.{built-then}
+use Rattle.rows_corners.proofs.Edits.{named-in}
+use Rattle.law_cut_face.proofs.Edits.{lone-room, lone-done, vertex-passed, vertex-new, vertex-more, vertex-result, vertex-cut}
 use Rattle.lent.specs.Arrays.{Arrays, heldBy, rowsBy}
 use Rattle.lent.specs.Growing.{withVertex}
 use Rattle.lent.specs.declared.Line.{Line}
@@ -40,12 +38,23 @@ use Rattle.lent.proofs.Held.{held-sizes}
 use Rattle.lent.proofs.Grown.{vertex-long, vertex-normal, vertex-comes}
 use Rattle.lent.proofs.Sums.{ready-sizes, ready-rows, ready-drawing, ready-indexes, ready-totals}
 use Rattle.kernel_cycles.specs.Replacing.{andOne, ReplacedIn}
-use Rattle.kind_cut_face.specs.Cuts.{Cuts}
-use Rattle.kind_cut_face.proofs.Cuts.{newLine, new-outcome, sizes-in, replaced-sheet}
+use Rattle.kind_cut_face.specs.Cuts.{FaceCuts}
+use Rattle.kind_cut_face.proofs.Cuts.{newLine, new-outcome, sizes-in}
 
 -- ---- the list: two runs copied
 front : (d s : List ℕ) (n : ℕ) → n ≤ length s → take n (paste d 0 s n) ≡ take n s
 front d s n h = let e : n ≡ 0 + n = omega arith in ap (λ (k : ℕ). take k (paste d 0 s n)) e ∙ take-paste d 0 s n (omega arith) h
+
+-- the runs of a span, copied to the front of two arrays, leave these as long as they were
+pub runs-long : (cycles steps : List ℕ) (t : Spans) → Within cycles steps t → (bc bs : List ℕ) → length bc ≡ 512 → length bs ≡ 2048
+    → (length (paste bc 0 (drop (t .cycles .first) cycles) (t .cycles .count)) ≡ 512)
+    × (length (paste bs 0 (drop (t .steps .first) steps) (t .steps .count)) ≡ 2048)
+runs-long cycles steps t w bc bs lc ls = (
+  length-paste bc 0 (drop (t .cycles .first) cycles) (t .cycles .count) (omega (arith, w .inCycles))
+      (omega (arith, w .inCycles, w .cyclesSize, length-drop (t .cycles .first) cycles)) ∙ lc,
+  length-paste bs 0 (drop (t .steps .first) steps) (t .steps .count) (omega (arith, w .inSteps))
+      (omega (arith, w .inSteps, w .stepsSize, length-drop (t .steps .first) steps)) ∙ ls,
+)
 
 pub runs-built : (cycles steps : List ℕ) (t : Spans) → Within cycles steps t → (bc bs : List ℕ) → length bc ≡ 512 → length bs ≡ 2048
     → (cs ps : List ℕ) → cs ≡ paste bc 0 (drop (t .cycles .first) cycles) (t .cycles .count) → ps ≡ paste bs 0 (drop (t .steps .first) steps) (t .steps .count)
@@ -56,15 +65,16 @@ runs-built cycles steps t w bc bs lc ls cs ps ec ep =
     let src = drop (t .steps .first) steps in
     let hn : n ≤ length (drop (t .cycles .first) cycles) = omega (arith, w .inCycles, w .cyclesSize, length-drop (t .cycles .first) cycles) in
     let hm : m ≤ length src = omega (arith, w .inSteps, w .stepsSize, length-drop (t .steps .first) steps) in
-    let zc : length cs ≡ 512 = ap length ec ∙ length-paste bc 0 (drop (t .cycles .first) cycles) n (omega (arith, w .inCycles)) hn ∙ lc in
-    let zs : length ps ≡ 2048 = ap length ep ∙ length-paste bs 0 src m (omega (arith, w .inSteps)) hm ∙ ls in
+    let z = runs-long cycles steps t w bc bs lc ls in
+    let zc : length cs ≡ 512 = ap length ec ∙ z .0 in
+    let zs : length ps ≡ 2048 = ap length ep ∙ z .1 in
     let fc : take n cs ≡ take n (drop (t .cycles .first) cycles) = ap (take n) ec ∙ front bc (drop (t .cycles .first) cycles) n hn in
     let fs : take m ps ≡ take m src = ap (take m) ep ∙ front bs src m hm in
     let wide : widthSum (take n cs) ≡ m = ap widthSum fc ∙ w .wide in
     let h = held cs n src (omega (arith, zc, w .inCycles)) (omega (arith, wide, hm)) in
     record {
       list =
-          held-cycles (cyclesOf (take n cs) src) cs n ps (widthSum (take n cs))
+          held-cycles (cyclesFrom (take n cs) src) cs n ps (widthSum (take n cs))
           (record {
             lengths = h .lengths;
             places = ap (λ (k : ℕ). take k ps) wide ∙ fs ∙ ap (λ (k : ℕ). take k src) (sym wide) ∙ h .places;
@@ -72,8 +82,15 @@ runs-built cycles steps t w bc bs lc ls cs ps ec ep =
             lengthsRoom = h .lengthsRoom;
             placesRoom = omega (arith, wide, zs, w .inSteps);
           })
-          ∙ ap (λ (l : List ℕ). cyclesOf l src) fc;
-      building = record { countsSize = zc; stepsSize = zs; width = wide; cycleRoom = omega (arith, w .inCycles); stepRoom = omega (arith, w .inSteps) };
+          ∙ ap (λ (l : List ℕ). cyclesFrom l src) fc;
+      building =
+          record {
+            countsSize = omega arith;
+            stepsSize = omega arith;
+            width = wide;
+            cycleRoom = omega (arith, w .inCycles);
+            stepRoom = omega (arith, w .inSteps);
+          };
     }
 
 -- the cycles at a span, and then a vertex alone
@@ -83,7 +100,10 @@ pub lone-built : (cycles steps : List ℕ) (t : Spans) → Within cycles steps t
 lone-built cycles steps t w hc hs v =
     let b = runs-built cycles steps t w (replicate {A = ℕ} 512 0) (replicate {A = ℕ} 2048 0)
     (length-replicate {A = ℕ} 512 0) (length-replicate {A = ℕ} 2048 0) _ _ refl refl in
-    built-then (one (lone v)) b (pushed-lone _ (record { cycles = t .cycles .count; steps = t .steps .count }) _ (b .building) v hc hs)
+    let z = runs-long cycles steps t w (replicate {A = ℕ} 512 0) (replicate {A = ℕ} 2048 0)
+    (length-replicate {A = ℕ} 512 0) (length-replicate {A = ℕ} 2048 0) in
+    let u : Used = record { cycles = t .cycles .count; steps = t .steps .count } in
+    built-then (one (lone v)) b (pushed-lone _ u _ (b .building) v (omega (arith, z .0)) (omega (arith, z .1)))
 
 -- ---- the arrays with the row of a vertex
 vertex-row : (b o : Arrays) (p : Position) → o .next ≡ withVertex b p .next → o .count ≡ withVertex b p .count → o .ids ≡ withVertex b p .ids → o .kinds ≡ withVertex b p .kinds
@@ -113,8 +133,8 @@ module _ (a : Arrays) (t : Totals) (f : ℕ) (p : Position) where
   abbrev pub withLone : List Cycle
   withLone = cells.cyclesOf (cellAt (sheetOf (heldBy a)) f) ++ one (lone (sheetOf (heldBy a) .next))
 
-  module _ (w : Cuts a t f withLone (vertex p ∷ [])) where
-    pub vertex-room : (b : Arrays) (row : ℕ) (s : Spans) (n m : ℕ) (ks : List Cycle) → ReplacedIn a row s n m ks b → sheetOf (heldBy b) ≡ recycled (sheetOf (heldBy a)) f withLone → Room (heldBy b) (vertex p)
+  module _ (w : FaceCuts a t f withLone (vertex p ∷ [])) where
+    pub vertex-room : (b : Arrays) (row : ℕ) (s : Spans) (n m : ℕ) (ks : List Cycle) → ReplacedIn a row s n m ks b → sheetOf (heldBy b) ≡ recycled (sheetOf (heldBy a)) f withLone → CellRoom (heldBy b) (vertex p)
     vertex-room b row s n m ks r e =
         lone-room (heldBy a) (sizes-in a t f withLone (vertex p ∷ []) w) (rowsBy a) f (w .named) p (w .room) (heldBy b) (held-sizes b (r .long)) (r .fits) e
 
@@ -163,7 +183,7 @@ module _ (a : Arrays) (t : Totals) (y : Ready a t) (f : ℕ) (p : Position) (b :
       }
 
   module _ (z : r ≡ 0) where
-    pub vertex-cuts : Cuts a t f (withLone a t f p) (vertex p ∷ [])
+    pub vertex-cuts : FaceCuts a t f (withLone a t f p) (vertex p ∷ [])
     vertex-cuts =
         record {
           ready = y;

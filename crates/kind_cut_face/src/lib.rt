@@ -9,8 +9,8 @@ ghost use Rattle.complex.specs.Cut.{faceCutAt};
 ghost use Rattle.store.specs.View.{sheetOf};
 ghost use Rattle.lent.specs.Arrays.{heldBy, lent, entry, exit};
 ghost use Rattle.lent.specs.Replies.{Ready, Obeyed, Holds};
-ghost use Rattle.kind_create.specs.Comes.{oneNew};
-ghost use Rattle.kind_cut_face.specs.Cuts.{Cuts};
+ghost use Rattle.kernel_add.specs.Comes.{oneNew};
+ghost use Rattle.kind_cut_face.specs.Cuts.{FaceCuts};
 use answer::Totals;
 use coordinate::Position;
 use lent::Line;
@@ -37,7 +37,7 @@ fn cut_at(
     f: u32,
     p: Position,
 ) -> Line
-    requires { ⌜ Cuts (lent (now next) (now count) ids kinds starts ends bends counts px py cycles steps bx by) t f (cells.cyclesOf (cellAt (sheetOf (heldBy (lent (now next) (now count) ids kinds starts ends bends counts px py cycles steps bx by))) f) ++ one (lone (sheetOf (heldBy (lent (now next) (now count) ids kinds starts ends bends counts px py cycles steps bx by)) .next))) (vertex p ∷ []) ⌝ }
+    requires { ⌜ FaceCuts (lent (now next) (now count) ids kinds starts ends bends counts px py cycles steps bx by) t f (cells.cyclesOf (cellAt (sheetOf (heldBy (lent (now next) (now count) ids kinds starts ends bends counts px py cycles steps bx by))) f) ++ one (lone (sheetOf (heldBy (lent (now next) (now count) ids kinds starts ends bends counts px py cycles steps bx by)) .next))) (vertex p ∷ []) ⌝ }
     ensures { λ r. ⌜ r ≡ oneNew (now (next .entry)) ⌝ }
     ensures { λ _. ⌜ now (next .exit) ≡ now (next .entry) + 1 ⌝ }
     ensures { λ _. ⌜ now (count .exit) ≡ now (count .entry) + 1 ⌝ }
@@ -69,7 +69,7 @@ fn cut_at(
         vertex,
     );
     lent::put_position(px, py, n, p);
-    kind_create::add_row(
+    kernel_add::add_row(
         next,
         count,
         ids,
@@ -116,7 +116,7 @@ pub fn cut_face_vertex(
     if kind != 3 {
         return lent::line_of(4);
     }
-    let no = cells::cell_no(*next, t, 1, 1, 0);
+    let no = ask_create::cell_no(*next, t, 1, 1, 0);
     if no != 0 {
         return lent::line_of(no);
     }

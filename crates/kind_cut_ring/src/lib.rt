@@ -1,15 +1,13 @@
 ghost use mathlib.Core.Path.{_≡_};
 ghost use mathlib.Core.Bool.{true};
-ghost use Prim.Native.Nat.{_+_, _/_, _<_, _≤_};
+ghost use Prim.Native.Nat.{_+_, _/_, _<_};
 ghost use Rattle.complex.specs.Cells.{isClosed, cellAt};
-ghost use Rattle.complex.specs.Sound.{cellsMost, bendsMost, idsEnd};
+ghost use Rattle.complex.specs.Sound.{cellsMost, idsEnd};
 ghost use Rattle.complex.specs.Decode.{cutEdge};
 ghost use Rattle.store.specs.View.{sheetOf};
-ghost use Rattle.cut.specs.Cuts.{nextBend, closedBetween};
-ghost use Rattle.lent.specs.Arrays.{heldBy, positionIn, lent, entry, exit};
+ghost use Rattle.lent.specs.Arrays.{heldBy, lent, entry, exit};
 ghost use Rattle.lent.specs.Replies.{Ready, Obeyed};
 ghost use Rattle.lent.specs.Growing.{withVertex, withOpen};
-ghost use Rattle.kind_cut_ring.specs.Cutting.{Planned};
 use answer::Totals;
 use coordinate::Position;
 use lent::Line;
@@ -70,106 +68,6 @@ fn put_loop(
     );
 }
 
-// Where place q of a closed edge lies, whose m bends stand from base on.
-fn ring_place(bx: &[f64; 2048], by: &[f64; 2048], base: usize, m: usize, q: usize) -> Position
-    requires { ⌜ base + m ≤ bendsMost ⌝ }
-    requires { ⌜ q / 2 < m ⌝ }
-    ensures { λ r. ⌜ r ≡ closedBetween (positionIn (now (bx .entry)) (now (by .entry)) (base + q / 2)) (positionIn (now (bx .entry)) (now (by .entry)) (nextBend base m (q / 2))) q ⌝ }
-{
-    let i = q / 2;
-    let j = cut::next_bend(base, m, i);
-    let b = lent::bend_at(bx, by, base + i);
-    let o = lent::bend_at(bx, by, j);
-    cut::closed_place(b, o, q)
-}
-
-// What is found before a closed edge is cut: the number of the question that says no, or where all stands.
-pub struct Plan {
-    pub no: u32,
-    pub row: usize,
-    pub base: usize,
-    pub m: usize,
-    pub cycles: usize,
-    pub steps: usize,
-    pub bends: usize,
-    pub p: Position,
-}
-
-// A plan that says no.
-fn refused(no: u32) -> Plan
-    ensures { λ r. ⌜ r .no ≡ no ⌝ }
-{
-    Plan {
-        no,
-        row: 0,
-        base: 0,
-        m: 0,
-        cycles: 0,
-        steps: 0,
-        bends: 0,
-        p: Position { x: 0.0, y: 0.0 },
-    }
-}
-
-// Questions 5, 7 and 8 of 0A of a closed edge.
-fn ring_plan(
-    next: u32,
-    count: usize,
-    ids: &[u32; 256],
-    kinds: &[u32; 256],
-    starts: &[u32; 256],
-    ends: &[u32; 256],
-    bends: &[u32; 256],
-    counts: &[u32; 256],
-    px: &[f64; 256],
-    py: &[f64; 256],
-    cycles: &[u32; 512],
-    steps: &[u32; 2048],
-    bx: &[f64; 2048],
-    by: &[f64; 2048],
-    t: Totals,
-    e: u32,
-    q: usize,
-) -> Plan
-    requires { ⌜ Ready (lent next count ids kinds starts ends bends counts px py cycles steps bx by) t ⌝ }
-    requires { ⌜ isClosed (cellAt (sheetOf (heldBy (lent next count ids kinds starts ends bends counts px py cycles steps bx by))) e) ≡ true ⌝ }
-    ensures { λ r. ⌜ Planned (entry next count ids kinds starts ends bends counts px py cycles steps bx by) e q r ⌝ }
-{
-    let row = store::find(ids, count, e);
-    let m = store::wide(bends[row]);
-    if m <= q / 2 {
-        return refused(5);
-    }
-    let more = Totals {
-        cells: 1,
-        cycles: 0,
-        steps: 0,
-        bends: 0,
-    };
-    let less = Totals {
-        cells: 0,
-        cycles: 0,
-        steps: 0,
-        bends: q % 2,
-    };
-    let no = answer::late_no(next, 2, t, more, less);
-    if no != 0 {
-        return refused(no);
-    }
-    let base = cycles::bend_start(bends, row);
-    let p = ring_place(bx, by, base, m, q);
-    Plan {
-        no: 0,
-        row,
-        base,
-        m,
-        cycles: t.cycles,
-        steps: t.steps,
-        bends: t.bends,
-        p,
-    }
-}
-
 // 0A of a closed edge: its halfedges become the loop's, and its bends stand onward from the vertex; a bend that the vertex is at goes.
 pub fn cut_closed(
     next: &mut u32,
@@ -196,7 +94,7 @@ pub fn cut_closed(
 {
     let n = *count;
     let id = *next;
-    let c = ring_plan(
+    let c = kind_cut_plan::ring_plan(
         id,
         n,
         ids,
@@ -219,7 +117,7 @@ pub fn cut_closed(
     if no != 0 {
         return lent::line_of(no);
     }
-    let w = rewire::one_for(e, id + 1, false);
+    let w = rows_steps::one_for(e, id + 1, false);
     kernel_swap::swap_steps(
         id,
         n,
@@ -241,7 +139,7 @@ pub fn cut_closed(
         w,
     );
     let m = c.m;
-    let k = kernel_keep::drop_row(
+    let k = kernel_drop::drop_row(
         id,
         n,
         ids,

@@ -18,10 +18,10 @@ use Rattle.answer.specs.declared.Totals.{Totals}
 use Rattle.answer.specs.Sizes.{moreLess, changedBy}
 use Rattle.answer.specs.Late.{sizesBy, lateNo}
 use Rattle.answer.proofs.Asked.{Asked, asked-of, refuses, room, spare, answers}
-use Rattle.command.specs.Lists.{Stand, numbersRead}
-use Rattle.outline.proofs.Edits.{named-in}
-use Rattle.cutface.specs.Rounds.{RoundCut, roundNo}
-use Rattle.cutface.proofs.Rounds.{round-new, round-more, round-result, round-cut, round-refuses, round-passes}
+use Rattle.decode_parts.specs.Lists.{Stand, numbersRead}
+use Rattle.rows_corners.proofs.Edits.{named-in}
+use Rattle.law_cut_face.specs.Rounds.{RoundCut, roundNo}
+use Rattle.law_cut_face.proofs.Rounds.{round-new, round-more, round-result, round-cut, round-refuses, round-passes}
 use Rattle.lent.specs.Arrays.{Arrays, heldBy, rowsBy}
 use Rattle.lent.specs.declared.Line.{Line}
 use Rattle.lent.specs.Replies.{lineOf, answerBy, Ready, Obeyed, Holds}

@@ -1,5 +1,5 @@
 -- 0D: a face of lent arrays cut along a closed edge. Assumes nothing.
-use Prim.Native.Nat.{ℕ, _+_, _*_, _<_, _≤_}
+use Prim.Native.Nat.{ℕ, _+_, _<_, _≤_}
 use mathlib.Core.Path.{_≡_, refl, sym, ap, subst, _∙_}
 use mathlib.Core.Bool.{true}
 use mathlib.Core.List.{List, [], _∷_}
@@ -12,23 +12,23 @@ use Rattle.complex.specs.Cut.{faceCutRound}
 use Rattle.complex.specs.Sound.{idsEnd, cyclesMost, stepsMost}
 use Rattle.store.specs.View.{sheetOf}
 use Rattle.store.specs.Edits.{appended}
-use Rattle.cycles.specs.declared.Spans.{Spans}
-use Rattle.cycles.specs.declared.Used.{Used}
-use Rattle.cycles.specs.Building.{Built, built}
-use Rattle.append.specs.Appends.{Room}
+use Rattle.rows_spans.specs.declared.Spans.{Spans}
+use Rattle.rows_spans.specs.declared.Used.{Used}
+use Rattle.rows_spans.specs.Building.{Built, built}
+use Rattle.rows_new.specs.Appends.{CellRoom}
 use Rattle.answer.specs.declared.Totals.{Totals}
-use Rattle.command.specs.Lists.{Stand, numbersRead}
-use Rattle.outline.specs.Faces.{Within, Spanned, cyclesAt, recycled}
-use Rattle.outline.proofs.Edits.{first-room, second-room, both-done}
-use Rattle.cutface.specs.Rounds.{stayed, left, RoundCut}
-use Rattle.cutface.proofs.Rounds.{round-asks, old-list, new-list}
+use Rattle.decode_parts.specs.Lists.{Stand, numbersRead}
+use Rattle.rows_corners.specs.Faces.{Within, Spanned, cyclesAt, recycled}
+use Rattle.rows_corners.proofs.Edits.{first-room, second-room, both-done}
+use Rattle.law_cut_face.specs.Rounds.{stayed, left, RoundCut}
+use Rattle.law_cut_face.proofs.Rounds.{round-asks, old-list, new-list}
 use Rattle.lent.specs.Arrays.{Arrays, heldBy, rowsBy}
 use Rattle.lent.specs.Replies.{Ready, Holds}
 use Rattle.lent.proofs.Held.{held-sizes}
 use Rattle.lent.proofs.Sums.{ready-sizes}
 use Rattle.kernel_cycles.specs.Replacing.{ReplacedIn, totalsWith}
-use Rattle.kind_cut_face.specs.Cuts.{Cuts}
-use Rattle.kind_cut_round.specs.Rounds.{HoldsIn, RingRoom, PartRoom}
+use Rattle.kind_cut_face.specs.Cuts.{FaceCuts}
+use Rattle.kernel_part.specs.Rounds.{HoldsIn, RingRoom, PartRoom}
 
 module _ (a : Arrays) (t : Totals) (y : Ready a t) (script : List ℕ) (f k first moved place : ℕ) (r : RoundCut (heldBy a) (rowsBy a) script f k first moved place) where
   abbrev ms : List ℕ
@@ -47,7 +47,7 @@ module _ (a : Arrays) (t : Totals) (y : Ready a t) (script : List ℕ) (f k firs
   abbrev pub bothCells : List Figure
   bothCells = closedEdge (positionsAt script first k) ∷ face goneList ∷ []
 
-  pub cuts : Cuts a t f keptList bothCells
+  pub cuts : FaceCuts a t f keptList bothCells
   cuts = record { ready = y; named = r .named; room = r .room }
 
   module _ (s : Spans) (sp : Spanned (heldBy a) f s) where
@@ -88,7 +88,7 @@ module _ (a : Arrays) (t : Totals) (y : Ready a t) (script : List ℕ) (f k firs
               steps = sym (h .steps);
               building = g .building;
               room =
-                  subst (λ (x : List Cycle). Room (heldBy c) (face x)) (sym (gone-is counts v steps g))
+                  subst (λ (x : List Cycle). CellRoom (heldBy c) (face x)) (sym (gone-is counts v steps g))
                   (second-room (heldBy a) (ready-sizes a t y) (rowsBy a) f (r .named) keptList bothCells (r .room) edge (face goneList) refl (heldBy b) e (heldBy c) (h .holds .sheet) (held-sizes c (h .holds .long)) (h .holds .fits));
             }
 

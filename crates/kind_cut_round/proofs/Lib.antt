@@ -1,4 +1,3 @@
-pub mod Coming
 pub mod Cutting
 pub mod Asking
 pub mod Whole

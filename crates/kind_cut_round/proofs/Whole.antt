@@ -1,12 +1,9 @@
 -- 0D where no cycle goes to the new face: the edge after the face's cycles, and the edge backward alone. Assumes nothing.
-use Prim.Native.Nat.{ℕ, suc, _+_, _*_, _<_, _≤_}
-use mathlib.Core.Path.{_≡_, refl, sym, ap, ap₂, subst, _∙_}
-use mathlib.Core.List.{List, [], _∷_, _++_, append-assoc}
+use Prim.Native.Nat.{ℕ, suc, _+_, _*_, _<_}
+use mathlib.Core.Path.{_≡_, refl, sym, ap, ap₂, subst}
+use mathlib.Core.List.{List, [], _∷_, _++_}
 use native.Mathlib.Omega.{arith}
-use native.Mathlib.Numerals.{add-one}
-use lib.ListN.{length, take, drop, set, replicate, length-replicate}
-use lib.Seq.{paste, set-split}
-use Rattle.number.specs.Numbers.{readNumber}
+use lib.ListN.{replicate, length-replicate}
 use Rattle.bends.specs.Bends.{positionsAt}
 use Rattle.complex.specs.Lists.{one, without}
 use Rattle.complex.specs.Cells.{Cycle, Halfedge, path}
@@ -15,19 +12,19 @@ use Rattle.complex.specs.Cut.{faceCutRound}
 use Rattle.store.specs.View.{sheetOf}
 use Rattle.store.specs.declared.Drawing.{Drawing}
 use Rattle.store.specs.declared.Index.{Index}
-use Rattle.cycles.specs.declared.Spans.{Spans}
-use Rattle.cycles.specs.declared.Used.{Used}
-use Rattle.cycles.specs.Building.{Built}
-use Rattle.cycles.proofs.Building.{pushed-path}
-use Rattle.command.specs.Lists.{numbersRead}
-use Rattle.outline.specs.Faces.{Within, cyclesAt}
-use Rattle.outline.proofs.Lists.{built-as, ring-built, along-read, against-read}
-use Rattle.cutface.specs.Rounds.{stayed, left, RoundCut}
+use Rattle.rows_spans.specs.declared.Spans.{Spans}
+use Rattle.rows_spans.specs.declared.Used.{Used}
+use Rattle.rows_spans.specs.Building.{Built}
+use Rattle.rows_spans.proofs.Building.{pushed-path}
+use Rattle.decode_parts.specs.Lists.{numbersRead}
+use Rattle.rows_corners.specs.Faces.{Within, cyclesAt}
+use Rattle.rows_corners.proofs.Lists.{built-as, ring-built, along-read, against-read}
+use Rattle.law_cut_face.specs.Rounds.{stayed, left, RoundCut}
 use Rattle.lent.specs.Arrays.{Arrays, heldBy}
 use Rattle.lent.specs.Replies.{Holds}
 use Rattle.kernel_cycles.specs.Replacing.{andOne}
-use Rattle.kind_cut_face.proofs.Lone.{runs-built}
-use Rattle.kind_cut_round.specs.Rounds.{single, stepNumbers, stepPlaces}
+use Rattle.kind_cut_face.proofs.Lone.{runs-long, runs-built}
+use Rattle.kernel_part.specs.Rounds.{single, stepNumbers, stepPlaces}
 
 without-none : {A : Type 0} (n : ℕ) (xs : List A) → without [] n xs ≡ xs
 without-none n [] = refl
@@ -43,8 +40,10 @@ ring-kept cycles steps s w hc hs e =
     let b = runs-built cycles steps s w (replicate {A = ℕ} 512 0) (replicate {A = ℕ} 2048 0)
     (length-replicate {A = ℕ} 512 0) (length-replicate {A = ℕ} 2048 0) _ _ refl refl in
     let u : Used = record { cycles = s .cycles .count; steps = s .steps .count } in
+    let z = runs-long cycles steps s w (replicate {A = ℕ} 512 0) (replicate {A = ℕ} 2048 0)
+    (length-replicate {A = ℕ} 512 0) (length-replicate {A = ℕ} 2048 0) in
     built-as (ap₂ (λ (l : List Cycle) (h : List Halfedge). l ++ one (path h)) (sym (without-none 0 (cyclesAt cycles steps s))) (along-read e))
-    (ring-built b hs (2 * e) _ _ refl (record { list = λ st g. pushed-path _ u st g 1 (omega arith) hc (omega arith) }) _ refl)
+    (ring-built b (omega (arith, z .1)) (2 * e) _ _ refl (record { list = λ st g l. pushed-path _ u st g 1 (omega arith) (omega (arith, z .0)) l }) _ refl)
 
 -- the edge backward alone
 pub step-built : (ks : List Cycle) (e : ℕ) → Built (left [] ks e) stepNumbers single (stepPlaces (2 * e + 1))
@@ -53,18 +52,13 @@ step-built ks e =
       list = ap (λ (h : List Halfedge). path h ∷ []) (against-read e);
       building =
           record {
-            countsSize = ap suc (length-replicate {A = ℕ} 511 0);
-            stepsSize = ap suc (length-replicate {A = ℕ} 2047 0);
+            countsSize = omega (arith, length-replicate {A = ℕ} 511 0);
+            stepsSize = omega (arith, length-replicate {A = ℕ} 2047 0);
             width = refl;
             cycleRoom = omega arith;
             stepRoom = omega arith;
           };
     }
-
--- a number put down is a run of one
-pub set-pasted : (l : List ℕ) (at x : ℕ) (xs : List ℕ) → at < length l → set l at x ≡ paste l at (x ∷ xs) 1
-set-pasted l at x xs h =
-    set-split l at x h ∙ ap (λ (k : ℕ). take at l ++ (x ∷ drop k l)) (sym (add-one at)) ∙ sym (append-assoc (take at l) (x ∷ []) (drop (at + 1) l))
 
 -- where no cycle is named, none is read
 pub none-named : (d : Drawing) (ix : Index) (script : List ℕ) (f k first moved place : ℕ)

@@ -6,23 +6,22 @@ ghost use lib.ListN.{length, take};
 ghost use Rattle.number.specs.Numbers.{readNumber};
 ghost use Rattle.bends.specs.Bends.{positionsAt};
 ghost use Rattle.complex.specs.Lists.{one, places};
-ghost use Rattle.complex.specs.Cells.{path, closedEdge, face};
+ghost use Rattle.complex.specs.Cells.{path, face};
 ghost use Rattle.complex.specs.Decode.{cutFaceClosed};
 ghost use Rattle.complex.specs.Cut.{faceCutRound};
 ghost use Rattle.complex.specs.Sound.{idsEnd, cyclesMost, stepsMost};
 ghost use Rattle.store.specs.View.{sheetOf, halfedgeOf};
-ghost use Rattle.store.specs.Edits.{kept, appended};
-ghost use Rattle.cycles.specs.Building.{Built, built};
-ghost use Rattle.command.specs.Lists.{Stand, numbersRead};
-ghost use Rattle.outline.specs.Faces.{Within, cyclesAt};
-ghost use Rattle.cutface.specs.Rounds.{stayed, left, RoundCut};
+ghost use Rattle.store.specs.Edits.{kept};
+ghost use Rattle.rows_spans.specs.Building.{Built, built};
+ghost use Rattle.decode_parts.specs.Lists.{Stand, numbersRead};
+ghost use Rattle.rows_corners.specs.Faces.{Within, cyclesAt};
+ghost use Rattle.law_cut_face.specs.Rounds.{stayed, left, RoundCut};
 ghost use Rattle.lent.specs.Arrays.{heldBy, rowsBy, lent, entry, exit};
 ghost use Rattle.lent.specs.Replies.{Ready, Obeyed, Holds};
-ghost use Rattle.kind_cut_round.specs.Rounds.{HoldsIn, RingRoom, PartRoom, single, stepNumbers, stepPlaces};
 use answer::Totals;
-use cycles::Spans;
-use cycles::Used;
 use lent::Line;
+use rows_spans::Spans;
+use rows_spans::Used;
 
 // The cycles at s that are not skipped, and then a cycle of one step.
 fn and_ring(
@@ -31,8 +30,8 @@ fn and_ring(
     s: Spans,
     skip: &[bool; 512],
     h: u32,
-    counts: &mut [u32; 512],
-    out: &mut [u32; 2048],
+    counts: &mut [u32],
+    out: &mut [u32],
 ) -> Used
     requires { ⌜ Within (now cycles) (now steps) s ⌝ }
     requires { ⌜ length (now skip) ≡ cyclesMost ⌝ }
@@ -59,8 +58,8 @@ fn and_ring(
         out,
         none,
     );
-    cycles::put_step(out, u.steps, h);
-    cycles::close_path(counts, u, 1)
+    rows_spans::put_step(out, u.steps, h);
+    rows_spans::close_path(counts, u, 1)
 }
 
 // A cycle of one step, and then the cycles at s that are not skipped.
@@ -70,8 +69,8 @@ fn ring_and(
     s: Spans,
     skip: &[bool; 512],
     h: u32,
-    counts: &mut [u32; 512],
-    out: &mut [u32; 2048],
+    counts: &mut [u32],
+    out: &mut [u32],
 ) -> Used
     requires { ⌜ Within (now cycles) (now steps) s ⌝ }
     requires { ⌜ length (now skip) ≡ cyclesMost ⌝ }
@@ -85,8 +84,8 @@ fn ring_and(
         cycles: 0,
         steps: 0,
     };
-    cycles::put_step(out, 0, h);
-    let u = cycles::close_path(counts, none, 1);
+    rows_spans::put_step(out, 0, h);
+    let u = rows_spans::close_path(counts, none, 1);
     let c = s.cycles;
     let p = s.steps;
     kernel_cycles::copy_cycles(
@@ -117,10 +116,10 @@ fn round_lists(
     moved: u32,
     place: usize,
     e: u32,
-    kc: &mut [u32; 512],
-    kp: &mut [u32; 2048],
-    gc: &mut [u32; 512],
-    gp: &mut [u32; 2048],
+    kc: &mut [u32],
+    kp: &mut [u32],
+    gc: &mut [u32],
+    gp: &mut [u32],
 ) -> Parts
     requires { ⌜ Within (now cycles) (now steps) s ⌝ }
     requires { ⌜ s .cycles .count < cyclesMost ⌝ }
@@ -138,144 +137,10 @@ fn round_lists(
     let mut flags = [false; 512];
     script::mark_moved(script, place, moved, &mut flags);
     let mut stays = [false; 512];
-    outline::others(&flags, &mut stays);
+    rows_corners::others(&flags, &mut stays);
     let a = and_ring(cycles, steps, s, &flags, 2 * e, kc, kp);
     let b = ring_and(cycles, steps, s, &stays, 2 * e + 1, gc, gp);
     Parts { old: a, new: b }
-}
-
-// A closed edge comes, with the k bends that the script has at `first`.
-fn add_ring(
-    next: &mut u32,
-    count: &mut usize,
-    ids: &mut [u32; 256],
-    kinds: &mut [u32; 256],
-    starts: &mut [u32; 256],
-    ends: &mut [u32; 256],
-    bends: &mut [u32; 256],
-    counts: &mut [u32; 256],
-    px: &[f64; 256],
-    py: &[f64; 256],
-    cycles: &[u32; 512],
-    steps: &[u32; 2048],
-    bx: &mut [f64; 2048],
-    by: &mut [f64; 2048],
-    t: Totals,
-    script: &[u8],
-    k: u32,
-    first: usize,
-)
-    requires { ⌜ RingRoom (lent (now next) (now count) ids kinds starts ends bends counts px py cycles steps bx by) t (now script) k first ⌝ }
-    ensures { λ _. ⌜ now (next .exit) ≡ now (next .entry) + 1 ⌝ }
-    ensures { λ _. ⌜ now (count .exit) ≡ now (count .entry) + 1 ⌝ }
-    ensures { λ _. ⌜ HoldsIn (appended (sheetOf (heldBy (entry (now (next .entry)) (now (count .entry)) ids kinds starts ends bends counts px py cycles steps bx by))) (closedEdge (positionsAt (now (script .entry)) first k))) (t .cycles) (t .steps) (exit (now (next .exit)) (now (count .exit)) ids kinds starts ends bends counts px py cycles steps bx by) ⌝ }
-{
-    kind_create::put_bends(script, first, k, bx, by, t.bends);
-    kind_create::add_row(
-        next,
-        count,
-        ids,
-        kinds,
-        starts,
-        ends,
-        bends,
-        counts,
-        2,
-        0,
-        0,
-        k,
-        0,
-    );
-}
-
-// A face comes, with the cycles of a list: c cycles and s steps are in use.
-pub fn add_part(
-    next: &mut u32,
-    count: &mut usize,
-    ids: &mut [u32; 256],
-    kinds: &mut [u32; 256],
-    starts: &mut [u32; 256],
-    ends: &mut [u32; 256],
-    bends: &mut [u32; 256],
-    counts: &mut [u32; 256],
-    px: &[f64; 256],
-    py: &[f64; 256],
-    cycles: &mut [u32; 512],
-    steps: &mut [u32; 2048],
-    bx: &[f64; 2048],
-    by: &[f64; 2048],
-    c: usize,
-    s: usize,
-    numbers: &[u32; 512],
-    u: Used,
-    places: &[u32; 2048],
-)
-    requires { ⌜ PartRoom (lent (now next) (now count) ids kinds starts ends bends counts px py cycles steps bx by) c s (now numbers) u (now places) ⌝ }
-    ensures { λ _. ⌜ now (next .exit) ≡ now (next .entry) + 1 ⌝ }
-    ensures { λ _. ⌜ now (count .exit) ≡ now (count .entry) + 1 ⌝ }
-    ensures { λ _. ⌜ Holds (appended (sheetOf (heldBy (entry (now (next .entry)) (now (count .entry)) ids kinds starts ends bends counts px py cycles steps bx by))) (face (built (now (numbers .entry)) u (now (places .entry))))) (exit (now (next .exit)) (now (count .exit)) ids kinds starts ends bends counts px py cycles steps bx by) ⌝ }
-{
-    cycles::copy_run(numbers, 0, u.cycles, cycles, c);
-    cycles::copy_run(places, 0, u.steps, steps, s);
-    kind_create::add_row(
-        next,
-        count,
-        ids,
-        kinds,
-        starts,
-        ends,
-        bends,
-        counts,
-        3,
-        0,
-        0,
-        0,
-        u.cycles as u32,
-    );
-}
-
-// A face comes, of one cycle of the step h alone: c cycles and s steps are in use.
-fn add_back(
-    next: &mut u32,
-    count: &mut usize,
-    ids: &mut [u32; 256],
-    kinds: &mut [u32; 256],
-    starts: &mut [u32; 256],
-    ends: &mut [u32; 256],
-    bends: &mut [u32; 256],
-    counts: &mut [u32; 256],
-    px: &[f64; 256],
-    py: &[f64; 256],
-    cycles: &mut [u32; 512],
-    steps: &mut [u32; 2048],
-    bx: &[f64; 2048],
-    by: &[f64; 2048],
-    c: usize,
-    s: usize,
-    h: u32,
-)
-    requires { ⌜ PartRoom (lent (now next) (now count) ids kinds starts ends bends counts px py cycles steps bx by) c s stepNumbers single (stepPlaces h) ⌝ }
-    ensures { λ _. ⌜ now (next .exit) ≡ now (next .entry) + 1 ⌝ }
-    ensures { λ _. ⌜ now (count .exit) ≡ now (count .entry) + 1 ⌝ }
-    ensures { λ _. ⌜ Holds (appended (sheetOf (heldBy (entry (now (next .entry)) (now (count .entry)) ids kinds starts ends bends counts px py cycles steps bx by))) (face (built stepNumbers single (stepPlaces h)))) (exit (now (next .exit)) (now (count .exit)) ids kinds starts ends bends counts px py cycles steps bx by) ⌝ }
-{
-    cycles[c] = 1;
-    steps[s] = h;
-    kind_create::add_row(
-        next,
-        count,
-        ids,
-        kinds,
-        starts,
-        ends,
-        bends,
-        counts,
-        3,
-        0,
-        0,
-        0,
-        1,
-    );
 }
 
 // No cycle goes to the new face: the face gets the edge after its cycles; the edge comes, and the face of the edge backward.
@@ -338,7 +203,7 @@ fn cut_round_whole(
         steps: p.first + (p.count + 1) + p.rest,
         bends: t.bends,
     };
-    add_ring(
+    kernel_part::add_ring(
         next,
         count,
         ids,
@@ -358,7 +223,7 @@ fn cut_round_whole(
         k,
         first,
     );
-    add_back(
+    kernel_part::add_back(
         next,
         count,
         ids,
@@ -461,7 +326,7 @@ fn cut_round_parted(
         steps: p.first + u.steps + p.rest,
         bends: t.bends,
     };
-    add_ring(
+    kernel_part::add_ring(
         next,
         count,
         ids,
@@ -481,7 +346,7 @@ fn cut_round_parted(
         k,
         first,
     );
-    add_part(
+    kernel_part::add_part(
         next,
         count,
         ids,

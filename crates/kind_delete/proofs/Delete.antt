@@ -10,9 +10,9 @@ use borrow.Author.Tests.{lt-ltb}
 use Rattle.complex.specs.Decode.{delete}
 use Rattle.store.specs.declared.Drawing.{Drawing}
 use Rattle.store.specs.Index.{rowOf}
-use Rattle.query.specs.Marks.{starMarks}
+use Rattle.rows_star.specs.Marks.{starMarks}
 use Rattle.answer.specs.Answers.{outcome}
-use Rattle.edits.proofs.Edit.{delete-passed, delete-live, delete-new, delete-change, delete-result, edit-answers}
+use Rattle.law_move_delete.proofs.Edit.{delete-passed, delete-live, delete-new, delete-change, delete-result, edit-answers}
 use Rattle.lent.specs.Arrays.{Arrays, heldBy, rowsBy, soundArrays, Lengths}
 use Rattle.lent.proofs.Held.{held-sizes, held-indexes}
 use Rattle.lent.specs.declared.Line.{Line}

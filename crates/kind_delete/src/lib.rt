@@ -32,7 +32,7 @@ pub fn delete_cell(
         return lent::line_of(4);
     }
     let mut dead = [false; 256];
-    query::star_marks(
+    rows_star::mark_star(
         ids,
         kinds,
         starts,
@@ -42,6 +42,7 @@ pub fn delete_cell(
         cycles,
         steps,
         id,
+        row,
         &mut dead,
     );
     dead[row] = true;

@@ -14,22 +14,23 @@ use Rattle.complex.specs.Decode.{create, readCycle}
 use Rattle.complex.proofs.Asked.{Passed}
 use Rattle.store.specs.declared.Shape.the-variants.{Face}
 use Rattle.store.specs.Sheet.{allReal}
-use Rattle.store.specs.Places.{numOf, stepsIn}
+use Rattle.store.specs.Places.{numOf, cycleWords}
 use Rattle.store.specs.View.{sheetOf, cycleTotal, stepTotal, bendTotal}
 use Rattle.store.proofs.Encode.{all-places}
 use Rattle.store.proofs.Grow.{append, no-more}
 use Rattle.sound.specs.Rows.{rowsOf}
-use Rattle.append.specs.Appends.{Room, withCell}
-use Rattle.append.proofs.Bends.{Grew}
-use Rattle.command.specs.Lists.{cyclesRead, Stand}
-use Rattle.command.proofs.Laws.{stand-length}
-use Rattle.script.specs.Walks.{Room as Space}
+use Rattle.rows_new.specs.Appends.{CellRoom, withCell}
+use Rattle.rows_new.proofs.Bends.{Grew}
+use Rattle.decode_parts.specs.Lists.{cyclesRead, Stand}
+use Rattle.decode_parts.proofs.Stands.{stand-length}
+use Rattle.script.specs.Walks.{ScriptRoom as Space}
 use Rattle.script.proofs.Cycles.{reals-read}
 use Rattle.answer.specs.declared.Totals.{Totals}
 use Rattle.answer.specs.Sizes.{sized, nothing, moreLess, changedBy}
 use Rattle.answer.specs.Late.{sizesBy, lateNo}
-use Rattle.faces.specs.Walks.{Rowed, faceNo}
-use Rattle.faces.proofs.Meaning.{rowed, face-refuses, face-passed, no-by-steps}
+use Rattle.ask_face_named.specs.Walks.{Rowed}
+use Rattle.ask_face.specs.Faces.{faceNo}
+use Rattle.ask_face.proofs.Meaning.{rowed, face-refuses, face-passed, no-by-steps}
 use Rattle.lent.specs.Arrays.{Arrays, heldBy, rowsBy, Lengths}
 use Rattle.lent.specs.declared.Line.{Line}
 use Rattle.lent.specs.Growing.{withFace}
@@ -37,8 +38,8 @@ use Rattle.lent.specs.Replies.{lineOf, Ready, Obeyed}
 use Rattle.lent.proofs.Held.{held-sizes}
 use Rattle.lent.proofs.Grown.{face-long, face-held, face-normal}
 use Rattle.lent.proofs.Sums.{ready-rows, ready-drawing, ready-sizes, ready-indexes, ready-cycles, ready-steps, ready-no}
-use Rattle.kind_create.specs.Comes.{oneNew}
-use Rattle.kind_create.proofs.Comes.{obeyed-full, came-room, obeyed-came}
+use Rattle.kernel_add.specs.Comes.{oneNew}
+use Rattle.kernel_add.proofs.Comes.{obeyed-full, came-room, obeyed-came}
 
 -- the front, where numbers are put after it
 sets-front : (l vs : List ℕ) (i : ℕ) → i + length vs ≤ length l → take (i + length vs) (sets l i vs) ≡ take i l ++ vs
@@ -68,7 +69,7 @@ withPools a cs ss =
 
 -- ---- the face
 module _ (a : Arrays) (l : Lengths a) (ks : List Cycle) (k c p : ℕ) (lk : length ks ≡ k) (ec : c ≡ cycleTotal (heldBy a)) (ep : p ≡ stepTotal (heldBy a)) (re : allReal ks ≡ true)
-    (cs ss : List ℕ) (es : cs ≡ sets (a .cycles) c (map numOf ks)) (et : ss ≡ sets (a .steps) p (spread stepsIn ks)) where
+    (cs ss : List ℕ) (es : cs ≡ sets (a .cycles) c (map numOf ks)) (et : ss ≡ sets (a .steps) p (spread cycleWords ks)) where
   pub pools-long : Lengths (withPools a cs ss)
   pools-long =
       record {
@@ -81,12 +82,12 @@ module _ (a : Arrays) (l : Lengths a) (ks : List Cycle) (k c p : ℕ) (lk : leng
         px = l .px;
         py = l .py;
         cycles = ap length es ∙ length-sets (a .cycles) c (map numOf ks) ∙ l .cycles;
-        steps = ap length et ∙ length-sets (a .steps) p (spread stepsIn ks) ∙ l .steps;
+        steps = ap length et ∙ length-sets (a .steps) p (spread cycleWords ks) ∙ l .steps;
         bx = l .bx;
         by = l .by;
       }
 
-  pub face-grew : Room (heldBy a) (face ks) → Grew (heldBy a) (face ks) (heldBy (withFace (withPools a cs ss) k))
+  pub face-grew : CellRoom (heldBy a) (face ks) → Grew (heldBy a) (face ks) (heldBy (withFace (withPools a cs ss) k))
   face-grew m =
       let d = heldBy a in
       let z = held-sizes a l in
@@ -95,9 +96,9 @@ module _ (a : Arrays) (l : Lengths a) (ks : List Cycle) (k c p : ℕ) (lk : leng
       let u : take (cycleTotal d + length (map numOf ks)) cs ≡ take (cycleTotal d) (a .cycles) ++ map numOf ks =
       ap (take (cycleTotal d + length (map numOf ks))) (es ∙ ap (λ (i : ℕ). sets (a .cycles) i (map numOf ks)) ec)
       ∙ sets-front (a .cycles) (map numOf ks) (cycleTotal d) (omega (arith, m .cycles, ln, l .cycles)) in
-      let v : take (stepTotal d + length (spread stepsIn ks)) ss ≡ take (stepTotal d) (a .steps) ++ spread stepsIn ks =
-      ap (take (stepTotal d + length (spread stepsIn ks))) (et ∙ ap (λ (i : ℕ). sets (a .steps) i (spread stepsIn ks)) ep)
-      ∙ sets-front (a .steps) (spread stepsIn ks) (stepTotal d) (omega (arith, m .steps, l .steps)) in
+      let v : take (stepTotal d + length (spread cycleWords ks)) ss ≡ take (stepTotal d) (a .steps) ++ spread cycleWords ks =
+      ap (take (stepTotal d + length (spread cycleWords ks))) (et ∙ ap (λ (i : ℕ). sets (a .steps) i (spread cycleWords ks)) ep)
+      ∙ sets-front (a .steps) (spread cycleWords ks) (stepTotal d) (omega (arith, m .steps, l .steps)) in
       let g =
       append d z (m .fits) (m .cells) (face ks) cs ss (d .bends)
       (record { cells = length-set (d .cells) (d .count) _ ∙ z .cells; cycles = b .cycles; steps = b .steps; bends = z .bends })
@@ -137,7 +138,7 @@ module _ (a : Arrays) (t : Totals) (r : Ready a t) (s : List ℕ) (first k : ℕ
       obeyed-face-full = obeyed-full a t r (face ks) passed q late
 
       module _ (y : q ≡ 0) where
-        pub face-room : Room (heldBy a) (face (cyclesRead s first k))
+        pub face-room : CellRoom (heldBy a) (face (cyclesRead s first k))
         face-room = came-room a t r (face ks) passed q late y
 
         pub face-space : Space s first k (a .cycles) (t .cycles) (a .steps) (t .steps)
@@ -149,7 +150,7 @@ module _ (a : Arrays) (t : Totals) (r : Ready a t) (s : List ℕ) (first k : ℕ
               places = omega (arith, f .steps, all-places ks, ready-steps a t r, r .long .steps);
             }
 
-        pub obeyed-face : (cs ss : List ℕ) → cs ≡ sets (a .cycles) (t .cycles) (map numOf (cyclesRead s first k)) → ss ≡ sets (a .steps) (t .steps) (spread stepsIn (cyclesRead s first k))
+        pub obeyed-face : (cs ss : List ℕ) → cs ≡ sets (a .cycles) (t .cycles) (map numOf (cyclesRead s first k)) → ss ≡ sets (a .steps) (t .steps) (spread cycleWords (cyclesRead s first k))
             → (o : Arrays) → o ≡ withFace (withPools a cs ss) k → (x : Line) → x ≡ oneNew (a .next) → Obeyed a (create (face (cyclesRead s first k))) o x
         obeyed-face cs ss es et =
             let c = ready-cycles a t r in

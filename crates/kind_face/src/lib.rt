@@ -1,6 +1,6 @@
 ghost use Rattle.complex.specs.Cells.{face};
 ghost use Rattle.complex.specs.Decode.{create, readCycle};
-ghost use Rattle.command.specs.Lists.{cyclesRead, Stand};
+ghost use Rattle.decode_parts.specs.Lists.{cyclesRead, Stand};
 ghost use Rattle.lent.specs.Arrays.{lent, entry, exit};
 ghost use Rattle.lent.specs.Replies.{Ready, Obeyed};
 use answer::Totals;
@@ -31,17 +31,17 @@ pub fn add_face(
     requires { ⌜ Stand readCycle (now script) first k ⌝ }
     ensures { λ r. ⌜ Obeyed (entry (now (next .entry)) (now (count .entry)) ids kinds starts ends bends counts px py cycles steps bx by) (create (face (cyclesRead (now (script .entry)) first k))) (exit (now (next .exit)) (now (count .exit)) ids kinds starts ends bends counts px py cycles steps bx by) r ⌝ }
 {
-    let asked = faces::face_no(script, first, k, ids, kinds, starts, ends, *count);
+    let asked = ask_face::face_no(script, first, k, ids, kinds, starts, ends, *count);
     if asked != 0 {
         return lent::line_of(asked);
     }
     let m = script::count_cycle_steps(script, first, k, 2048);
-    let no = cells::cell_no(*next, t, store::wide(k), m, 0);
+    let no = ask_create::cell_no(*next, t, store::wide(k), m, 0);
     if no != 0 {
         return lent::line_of(no);
     }
     script::put_cycles(script, first, k, cycles, t.cycles, steps, t.steps);
-    kind_create::add_row(
+    kernel_add::add_row(
         next,
         count,
         ids,

@@ -19,26 +19,27 @@ use Rattle.number.specs.Readers.{spread}
 use Rattle.store.specs.declared.Drawing.{Drawing}
 use Rattle.store.specs.Index.{Rising, rowOf}
 use Rattle.store.specs.Sheet.{allReal}
-use Rattle.store.specs.Places.{cyclesAt}
+use Rattle.store.specs.Places.{entryCycles}
 use Rattle.store.specs.View.{sheetOf, Fits, cycleTotal, stepTotal}
 use Rattle.store.specs.Edits.{placesOf, withEntries}
 use Rattle.store.proofs.Lists.{sum-le}
-use Rattle.sound.specs.Looks.{told, kindNumber}
+use Rattle.sound.specs.Looks.{indexValue, kindNumber}
 use Rattle.answer.specs.Answers.{outcome}
 use Rattle.answer.specs.declared.Totals.{Totals}
-use Rattle.dropping.proofs.Dropped.{live-below}
-use Rattle.rewire.specs.declared.Swap.{Swap}
-use Rattle.rewire.specs.Swap.{swapHalf, oneFor}
-use Rattle.rewire.proofs.Merging.{real-with, room-with}
-use Rattle.rewire.proofs.Swaps.{one-for, one-some, one-few}
-use Rattle.glue.specs.Questions.{verticesNo, edgesNo}
-use Rattle.glue.proofs.Glued.{Glues, glued-answers}
+use Rattle.rows_gone.proofs.Dropped.{live-below}
+use Rattle.rows_steps.specs.declared.Swap.{Swap}
+use Rattle.rows_steps.specs.Swap.{swapHalf, oneFor}
+use Rattle.rows_steps.proofs.Merging.{real-with, room-with}
+use Rattle.rows_steps.proofs.Swaps.{one-for, one-some, one-few}
+use Rattle.ask_glue.specs.Questions.{verticesNo, edgesNo}
+use Rattle.ask_glue.proofs.Glued.{Glues, glued-answers}
 use Rattle.lent.specs.Arrays.{Arrays, heldBy, rowsBy, normal, Lengths}
 use Rattle.lent.proofs.Held.{held-sizes}
 use Rattle.lent.proofs.Sums.{ready-rows, ready-drawing, ready-sizes, ready-fits, ready-indexes, ready-looks, ready-cycles, ready-steps, ready-summed}
 use Rattle.lent.specs.declared.Line.{Line}
 use Rattle.lent.specs.Replies.{answerBy, Ready, Obeyed}
-use Rattle.kernel_keep.specs.Keeps.{Keeps, EdgeRow}
+use Rattle.kernel_keep.specs.Keeps.{Keeps}
+use Rattle.kernel_drop.specs.Gone.{EdgeRow}
 use Rattle.kernel_swap.specs.Swaps.{SwappedIn}
 
 -- ---- what the questions say of b
@@ -94,16 +95,16 @@ module _ (a : Arrays) (t : Totals) (y : Ready a t) where
         (omega (arith, h, ready-fits a t y .cells, y .long .bends), omega (arith, sum-le (placesOf 0) (a .bends) row (a .count) (omega (arith, h)), ready-summed a t y .bendSum))
 
     -- the number that an array has there
-    read-row : (vs : List ℕ) → getD vs row 0 ≡ told 0 (heldBy a) (rowsBy a) vs b
+    read-row : (vs : List ℕ) → getD vs row 0 ≡ indexValue 0 (heldBy a) (rowsBy a) vs b
     read-row vs = sym (getD-take (a .count) vs row 0 row-below) ∙ ap (λ (k : ℕ). getD (take (a .count) vs) k 0) er
 
-    pub vertex-row : (e k : ℕ) → k ≡ verticesNo (told 4 (heldBy a) (rowsBy a) (a .kinds) e) (told 4 (heldBy a) (rowsBy a) (a .kinds) b) (eqb e b) → k ≡ 0 → (getD (a .bends) row 0 ≡ 0) × (getD (a .counts) row 0 ≡ 0)
+    pub vertex-row : (e k : ℕ) → k ≡ verticesNo (indexValue 4 (heldBy a) (rowsBy a) (a .kinds) e) (indexValue 4 (heldBy a) (rowsBy a) (a .kinds) b) (eqb e b) → k ≡ 0 → (getD (a .bends) row 0 ≡ 0) × (getD (a .counts) row 0 ≡ 0)
     vertex-row e k ek z =
         let q = ready-looks a t y in
-        let v = vertex-bare (cellAt (sheetOf (heldBy a)) b) (sym (q .kinds b) ∙ kind-vertex (told 4 (heldBy a) (rowsBy a) (a .kinds) e) (told 4 (heldBy a) (rowsBy a) (a .kinds) b) (eqb e b) (sym ek ∙ z)) in
+        let v = vertex-bare (cellAt (sheetOf (heldBy a)) b) (sym (q .kinds b) ∙ kind-vertex (indexValue 4 (heldBy a) (rowsBy a) (a .kinds) e) (indexValue 4 (heldBy a) (rowsBy a) (a .kinds) b) (eqb e b) (sym ek ∙ z)) in
         (read-row (a .bends) ∙ q .bends b ∙ v .0, read-row (a .counts) ∙ q .cycles b ∙ v .1)
 
-    pub edge-row : (k ka kb : ℕ) (same : Bool) (flag : ℕ) (meet : Bool) → kb ≡ told 4 (heldBy a) (rowsBy a) (a .kinds) b → k ≡ edgesNo ka kb same flag meet → k ≡ 0 → getD (a .counts) row 0 ≡ 0
+    pub edge-row : (k ka kb : ℕ) (same : Bool) (flag : ℕ) (meet : Bool) → kb ≡ indexValue 4 (heldBy a) (rowsBy a) (a .kinds) b → k ≡ edgesNo ka kb same flag meet → k ≡ 0 → getD (a .counts) row 0 ≡ 0
     edge-row k ka kb same flag meet eb ek z =
         let q = ready-looks a t y in
         read-row (a .counts) ∙ q .cycles b
@@ -111,7 +112,7 @@ module _ (a : Arrays) (t : Totals) (y : Ready a t) where
 
   -- ---- what the swap asks
   pub swap-asks : (b e : ℕ) (flip : Bool) (s : Swap) → s ≡ oneFor b e flip
-      → Fits (heldBy a) × (Lengths a × ((t .cycles ≡ cycleTotal (heldBy a)) × ((s .n ≤ 2) × ((allReal (spread cyclesAt (reshape (rewired sameVertex (swapHalf s)) (sheetOf (heldBy a) .cells))) ≡ true)
+      → Fits (heldBy a) × (Lengths a × ((t .cycles ≡ cycleTotal (heldBy a)) × ((s .n ≤ 2) × ((allReal (spread entryCycles (reshape (rewired sameVertex (swapHalf s)) (sheetOf (heldBy a) .cells))) ≡ true)
       × ((over stepsIn (reshape (rewired sameVertex (swapHalf s)) (sheetOf (heldBy a) .cells)) ≤ 2048) × ((t .steps ≡ stepTotal (heldBy a))
       × (((s .n ≤ 1) × (_≡_ {A = ℕ} 0 0)) ⊎ ((1 ≤ s .n) × (over stepsIn (reshape (rewired sameVertex (swapHalf s)) (sheetOf (heldBy a) .cells)) ≡ 0 + t .steps)))))))))
   swap-asks b e flip s es =
@@ -120,7 +121,7 @@ module _ (a : Arrays) (t : Totals) (y : Ready a t) where
       let f = ready-fits a t y in
       let h : swapHalf s ≡ inPlaceOf b e flip = ap swapHalf es ∙ one-for b e flip in
       let n : s .n ≡ 1 = ap (λ (k : Swap). k .n) es in
-      let real = subst (λ (σ : Halfedge → List Halfedge). allReal (spread cyclesAt (reshape (rewired sameVertex σ) (sheetOf d .cells))) ≡ true) (sym h) (real-with d z f _ (one-some b e flip)) in
+      let real = subst (λ (σ : Halfedge → List Halfedge). allReal (spread entryCycles (reshape (rewired sameVertex σ) (sheetOf d .cells))) ≡ true) (sym h) (real-with d z f _ (one-some b e flip)) in
       let room = subst (λ (σ : Halfedge → List Halfedge). over stepsIn (reshape (rewired sameVertex σ) (sheetOf d .cells)) ≤ 2048) (sym h) (room-with d z f _ (one-few b e flip)) in
       (f, (y .long, (ready-cycles a t y, (omega (arith, n), (real, (room, (ready-steps a t y, inl (omega (arith, n), refl))))))))
 

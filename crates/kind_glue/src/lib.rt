@@ -28,7 +28,7 @@ pub fn glue_vertices(
     ensures { λ r. ⌜ Obeyed (entry next (now (count .entry)) ids kinds starts ends bends counts px py cycles steps bx by) (glueVertices a b) (exit next (now (count .exit)) ids kinds starts ends bends counts px py cycles steps bx by) r ⌝ }
 {
     let n = *count;
-    let no = glue::vertices_no(ids, kinds, n, a, b);
+    let no = ask_glue::vertices_no(ids, kinds, n, a, b);
     if no != 0 {
         return lent::line_of(no);
     }
@@ -52,7 +52,7 @@ pub fn glue_vertices(
         a,
         b,
     );
-    let k = kernel_keep::drop_bare(
+    let k = kernel_drop::drop_bare(
         next,
         n,
         ids,
@@ -106,15 +106,15 @@ pub fn glue_edges(
     let n = *count;
     let ka = store::value_at(4, ids, kinds, n, a);
     let kb = store::value_at(4, ids, kinds, n, b);
-    let meet = glue::ends_of(ids, starts, ends, n, a, b, flag);
-    let no = glue::edges_no(ka, kb, a == b, flag, meet);
+    let meet = ask_glue::ends_of(ids, starts, ends, n, a, b, flag);
+    let no = ask_glue::edges_no(ka, kb, a == b, flag, meet);
     if no != 0 {
         return lent::line_of(no);
     }
     let row = store::find(ids, n, b);
-    let base = cycles::bend_start(bends, row);
+    let base = rows_spans::bend_start(bends, row);
     let m = store::wide(bends[row]);
-    let w = rewire::one_for(b, a, flag == 1);
+    let w = rows_steps::one_for(b, a, flag == 1);
     kernel_swap::swap_steps(
         next,
         n,
@@ -135,7 +135,7 @@ pub fn glue_edges(
         0,
         w,
     );
-    let k = kernel_keep::drop_row(
+    let k = kernel_drop::drop_row(
         next,
         n,
         ids,

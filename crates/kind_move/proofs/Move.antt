@@ -20,14 +20,14 @@ use Rattle.store.specs.Edits.{withCells}
 use Rattle.store.specs.Index.{Indexes, rowOf}
 use Rattle.store.specs.Sizes.{Sizes}
 use Rattle.store.proofs.Rows.{getD-any}
-use Rattle.rewire.proofs.Renamed.{noCell}
-use Rattle.rewire.proofs.Placed.{row-counted, moved-is}
+use Rattle.rows_steps.proofs.Renamed.{noCell}
+use Rattle.rows_steps.proofs.Placed.{row-counted, moved-is}
 use Rattle.sound.specs.Soundness.{soundDrawing}
-use Rattle.sound.specs.Looks.{told}
+use Rattle.sound.specs.Looks.{indexValue}
 use Rattle.sound.proofs.Meaning.{sound-fits}
 use Rattle.answer.specs.Answers.{outcome, Answers}
 use Rattle.answer.proofs.Asked.{kind-vertex}
-use Rattle.edits.proofs.Edit.{move-passed, move-row, move-new, move-change, move-result, edit-answers}
+use Rattle.law_move_delete.proofs.Edit.{move-passed, move-row, move-new, move-change, move-result, edit-answers}
 use Rattle.lent.specs.Arrays.{Arrays, shapeBy, shapeAt, positionIn, cellsBy, heldBy, rowsBy, normal, soundArrays, Lengths}
 use Rattle.lent.proofs.Held.{held-sizes, held-indexes, cells-set, cells-id, place-other, place-same}
 use Rattle.lent.specs.declared.Line.{Line}
@@ -66,7 +66,7 @@ outcome-is next n out e f =
     let h : n + (out .next - next) - out .count ≡ 0 = omega (arith, e, f) in
     λ i. record { number = 0; first = cond (eqb (sym g i) 0) 0 next; new = sym g i; removed = sym h i; drawing = out }
 
-module _ (a : Arrays) (l : Lengths a) (w : T (soundArrays a)) (v : ℕ) (p : Position) (k row : ℕ) (e : k ≡ told 4 (heldBy a) (rowsBy a) (a .kinds) v) (k0 : k ≡ 0) (er : row ≡ rowOf v (take (a .count) (a .ids))) where
+module _ (a : Arrays) (l : Lengths a) (w : T (soundArrays a)) (v : ℕ) (p : Position) (k row : ℕ) (e : k ≡ indexValue 4 (heldBy a) (rowsBy a) (a .kinds) v) (k0 : k ≡ 0) (er : row ≡ rowOf v (take (a .count) (a .ids))) where
   pub moved-row : row < 256
   moved-row =
       let d = heldBy a in

@@ -5,9 +5,9 @@ use Rattle.number.specs.Said.{no}
 use Rattle.complex.specs.Decode.{uncut}
 use Rattle.store.specs.View.{sheetOf}
 use Rattle.answer.specs.declared.Totals.{Totals}
-use Rattle.uncut_case.proofs.Passing.{uncut-no-4, uncut-no-6}
-use Rattle.uncut.specs.Decided.{uncutAsked}
-use Rattle.uncut.proofs.Cases.{asked-4, asked-6}
+use Rattle.law_uncut.proofs.Passing.{uncut-no-4, uncut-no-6}
+use Rattle.ask_uncut.specs.Decided.{uncutAsked}
+use Rattle.ask_uncut.proofs.Cases.{asked-4, asked-6}
 use Rattle.lent.specs.Arrays.{Arrays, heldBy}
 use Rattle.lent.specs.declared.Line.{Line}
 use Rattle.lent.specs.Replies.{lineOf, Ready, Obeyed}

@@ -1,15 +1,16 @@
 ghost use mathlib.Core.Path.{_≡_};
 ghost use Rattle.complex.specs.Decode.{uncut as uncutting};
 ghost use Rattle.store.specs.View.{sheetOf};
-ghost use Rattle.uncut_case.specs.Cases.{vertexSays, edgeSays};
-ghost use Rattle.uncut.specs.Decided.{caseSays, uncutAsked};
+ghost use Rattle.ask_uncut_ends.specs.Cases.{vertexSays};
+ghost use Rattle.ask_uncut.specs.Cases.{edgeSays};
+ghost use Rattle.ask_uncut.specs.Decided.{caseSays, uncutAsked};
 ghost use Rattle.lent.specs.Arrays.{heldBy, lent, entry, exit};
 ghost use Rattle.lent.specs.Replies.{Ready, Obeyed};
 use answer::Totals;
+use ask_uncut::AtEdge;
+use ask_uncut::Case;
+use ask_uncut_ends::AtVertex;
 use lent::Line;
-use uncut::Case;
-use uncut_case::AtEdge;
-use uncut_case::AtVertex;
 
 // The case of 0E at the cell i.
 fn case_in(
@@ -35,14 +36,24 @@ fn case_in(
 {
     let k = store::value_at(4, ids, kinds, count, i);
     if k == 0 {
-        let v = uncut_case::at_vertex(ids, kinds, starts, ends, count, cycles, t.cycles, steps, i);
+        let v = ask_uncut_ends::at_vertex(
+            ids,
+            kinds,
+            starts,
+            ends,
+            count,
+            cycles,
+            t.cycles,
+            steps,
+            i,
+        );
         return Case::Vertex(v);
     }
     if 2 < k {
         return Case::Dead;
     }
-    let x = uncut_case::uses_of(ids, counts, count, cycles, steps, i);
-    let e = uncut::edge_case(k == 2, x);
+    let x = ask_uncut_uses::uses_of(ids, counts, count, cycles, steps, i);
+    let e = ask_uncut::edge_case(k == 2, x);
     Case::Edge(e)
 }
 

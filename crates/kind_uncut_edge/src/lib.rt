@@ -1,22 +1,23 @@
 ghost use mathlib.Core.Path.{_≡_};
 ghost use mathlib.Core.Bool.{true};
 ghost use mathlib.Core.List.{[]};
-ghost use Prim.Native.Nat.{_-_, _≤_};
+ghost use Prim.Native.Nat.{_-_, _<_, _≤_};
+ghost use lib.ListN.{length};
 ghost use Rattle.complex.specs.Cells.{face, cellAt};
 ghost use Rattle.complex.specs.Edits.{neither, replaced, rebuild};
 ghost use Rattle.complex.specs.Decode.{uncut};
-ghost use Rattle.complex.specs.Uncut.{uncutCase, twoFaces, oneCycle, rings};
+ghost use Rattle.complex.specs.Uncut.{uncutCase, uncutResult, twoFaces, oneCycle, rings};
 ghost use Rattle.complex.specs.Sound.{cellsMost};
 ghost use Rattle.store.specs.View.{sheetOf};
-ghost use Rattle.cycles.specs.Building.{Built, built};
-ghost use Rattle.uncut_case.specs.Found.{useAt};
-ghost use Rattle.uncut_edge.specs.Needs.{joinedCycles, partedCycles, ringlessCycles, Case, Going};
+ghost use Rattle.rows_spans.specs.Building.{Built, built};
+ghost use Rattle.ask_uncut_uses.specs.Uses.{useAt};
+ghost use Rattle.law_uncut_edge.specs.Needs.{joinedCycles, partedCycles, ringlessCycles, Case, Takes, Going};
 ghost use Rattle.lent.specs.Arrays.{heldBy, rowsBy, normal, Lengths, lent, entry, exit};
 ghost use Rattle.lent.specs.Replies.{Ready, Obeyed, Holds};
 use answer::Totals;
-use cycles::Used;
+use ask_uncut_uses::Use;
 use lent::Line;
-use uncut_case::Use;
+use rows_spans::Used;
 
 // The cells i and j go, and the face f gets the cycles of a list.
 fn without_cells(
@@ -37,8 +38,8 @@ fn without_cells(
     i: u32,
     j: u32,
     f: u32,
-    numbers: &[u32; 512],
-    places: &[u32; 2048],
+    numbers: &[u32],
+    places: &[u32],
     u: Used,
 ) -> usize
     requires { ⌜ Going (heldBy (lent next count ids kinds starts ends bends counts px py cycles steps bx by)) (rowsBy (lent next count ids kinds starts ends bends counts px py cycles steps bx by)) i j f (now numbers) u (now places) ⌝ }
@@ -89,6 +90,13 @@ fn gone(n: usize, k: usize) -> Line
     }
 }
 
+// Whether arrays of 32 counts and 128 steps have room for the cycles of a drawing, and a cycle more.
+fn few(t: Totals) -> bool
+    ensures { λ r. ⌜ (r ≡ true → (t .cycles < 32) × (t .steps ≤ 128)) ⌝ }
+{
+    t.cycles < 32 && t.steps <= 128
+}
+
 // ---- an open edge between two faces
 
 // The cycles of both faces.
@@ -111,17 +119,92 @@ fn joined(
     e: u32,
     u: Use,
     w: Use,
-    numbers: &mut [u32; 512],
-    places: &mut [u32; 2048],
+    numbers: &mut [u32],
+    places: &mut [u32],
 ) -> Used
     requires { ⌜ Ready (lent next count ids kinds starts ends bends counts px py cycles steps bx by) t ⌝ }
     requires { ⌜ Case (heldBy (lent next count ids kinds starts ends bends counts px py cycles steps bx by)) (rowsBy (lent next count ids kinds starts ends bends counts px py cycles steps bx by)) e (twoFaces (useAt e u) (useAt e w)) ⌝ }
+    requires { ⌜ Takes (length (now numbers)) (length (now places)) (uncutResult (sheetOf (heldBy (lent next count ids kinds starts ends bends counts px py cycles steps bx by))) e (twoFaces (useAt e u) (useAt e w))) ⌝ }
     ensures { λ r. ⌜ Built (joinedCycles (cellAt (sheetOf (heldBy (entry next count ids kinds starts ends bends counts px py cycles steps bx by)))) (useAt e u) (useAt e w)) (now (numbers .exit)) r (now (places .exit)) ⌝ }
 {
     let p = kernel_places::place_of(count, ids, counts, cycles, t, u.face, u.cycle);
     let q = kernel_places::place_of(count, ids, counts, cycles, t, w.face, w.cycle);
     let v = kernel_places::head_of(count, ids, starts, ends, e, u.back);
     kernel_paths::merged_cycles(cycles, steps, p, u.step, q, w.step, v, numbers, places)
+}
+
+// The edge e goes with the face of w, and the face of u has the cycles of both.
+fn join_faces(
+    next: u32,
+    count: usize,
+    ids: &mut [u32; 256],
+    kinds: &mut [u32; 256],
+    starts: &mut [u32; 256],
+    ends: &mut [u32; 256],
+    bends: &mut [u32; 256],
+    counts: &mut [u32; 256],
+    px: &mut [f64; 256],
+    py: &mut [f64; 256],
+    cycles: &mut [u32; 512],
+    steps: &mut [u32; 2048],
+    bx: &mut [f64; 2048],
+    by: &mut [f64; 2048],
+    t: Totals,
+    e: u32,
+    u: Use,
+    w: Use,
+    numbers: &mut [u32],
+    places: &mut [u32],
+) -> usize
+    requires { ⌜ Ready (lent next count ids kinds starts ends bends counts px py cycles steps bx by) t ⌝ }
+    requires { ⌜ Case (heldBy (lent next count ids kinds starts ends bends counts px py cycles steps bx by)) (rowsBy (lent next count ids kinds starts ends bends counts px py cycles steps bx by)) e (twoFaces (useAt e u) (useAt e w)) ⌝ }
+    requires { ⌜ Takes (length (now numbers)) (length (now places)) (uncutResult (sheetOf (heldBy (lent next count ids kinds starts ends bends counts px py cycles steps bx by))) e (twoFaces (useAt e u) (useAt e w))) ⌝ }
+    ensures { λ r. ⌜ Holds (uncutResult (sheetOf (heldBy (entry next count ids kinds starts ends bends counts px py cycles steps bx by))) e (twoFaces (useAt e u) (useAt e w))) (exit next r ids kinds starts ends bends counts px py cycles steps bx by) ⌝ }
+{
+    let l = joined(
+        next,
+        count,
+        ids,
+        kinds,
+        starts,
+        ends,
+        bends,
+        counts,
+        px,
+        py,
+        cycles,
+        steps,
+        bx,
+        by,
+        t,
+        e,
+        u,
+        w,
+        numbers,
+        places,
+    );
+    without_cells(
+        next,
+        count,
+        ids,
+        kinds,
+        starts,
+        ends,
+        bends,
+        counts,
+        px,
+        py,
+        cycles,
+        steps,
+        bx,
+        by,
+        e,
+        w.face,
+        u.face,
+        numbers,
+        places,
+        l,
+    )
 }
 
 // The result is never too large.
@@ -151,9 +234,37 @@ pub fn two_faces(
 {
     let id = *next;
     let n = *count;
+    if few(t) {
+        let mut numbers = [0u32; 32];
+        let mut places = [0u32; 128];
+        let k = join_faces(
+            id,
+            n,
+            ids,
+            kinds,
+            starts,
+            ends,
+            bends,
+            counts,
+            px,
+            py,
+            cycles,
+            steps,
+            bx,
+            by,
+            t,
+            e,
+            u,
+            w,
+            &mut numbers,
+            &mut places,
+        );
+        *count = k;
+        return gone(n, k);
+    }
     let mut numbers = [0u32; 512];
     let mut places = [0u32; 2048];
-    let l = joined(
+    let k = join_faces(
         id,
         n,
         ids,
@@ -174,28 +285,6 @@ pub fn two_faces(
         w,
         &mut numbers,
         &mut places,
-    );
-    let k = without_cells(
-        id,
-        n,
-        ids,
-        kinds,
-        starts,
-        ends,
-        bends,
-        counts,
-        px,
-        py,
-        cycles,
-        steps,
-        bx,
-        by,
-        e,
-        w.face,
-        u.face,
-        &numbers,
-        &places,
-        l,
     );
     *count = k;
     gone(n, k)
@@ -223,11 +312,12 @@ fn parted(
     e: u32,
     u: Use,
     w: Use,
-    numbers: &mut [u32; 512],
-    places: &mut [u32; 2048],
+    numbers: &mut [u32],
+    places: &mut [u32],
 ) -> Used
     requires { ⌜ Ready (lent next count ids kinds starts ends bends counts px py cycles steps bx by) t ⌝ }
     requires { ⌜ Case (heldBy (lent next count ids kinds starts ends bends counts px py cycles steps bx by)) (rowsBy (lent next count ids kinds starts ends bends counts px py cycles steps bx by)) e (oneCycle (useAt e u) (useAt e w)) ⌝ }
+    requires { ⌜ Takes (length (now numbers)) (length (now places)) (uncutResult (sheetOf (heldBy (lent next count ids kinds starts ends bends counts px py cycles steps bx by))) e (oneCycle (useAt e u) (useAt e w))) ⌝ }
     ensures { λ r. ⌜ Built (partedCycles (cellAt (sheetOf (heldBy (entry next count ids kinds starts ends bends counts px py cycles steps bx by)))) (useAt e u) (useAt e w)) (now (numbers .exit)) r (now (places .exit)) ⌝ }
 {
     let p = kernel_places::place_of(count, ids, counts, cycles, t, u.face, u.cycle);
@@ -243,6 +333,80 @@ fn parted(
         last,
         numbers,
         places,
+    )
+}
+
+// The edge e goes, and its face has two cycles in the place of one.
+fn part_cycle(
+    next: u32,
+    count: usize,
+    ids: &mut [u32; 256],
+    kinds: &mut [u32; 256],
+    starts: &mut [u32; 256],
+    ends: &mut [u32; 256],
+    bends: &mut [u32; 256],
+    counts: &mut [u32; 256],
+    px: &mut [f64; 256],
+    py: &mut [f64; 256],
+    cycles: &mut [u32; 512],
+    steps: &mut [u32; 2048],
+    bx: &mut [f64; 2048],
+    by: &mut [f64; 2048],
+    t: Totals,
+    e: u32,
+    u: Use,
+    w: Use,
+    numbers: &mut [u32],
+    places: &mut [u32],
+) -> usize
+    requires { ⌜ Ready (lent next count ids kinds starts ends bends counts px py cycles steps bx by) t ⌝ }
+    requires { ⌜ Case (heldBy (lent next count ids kinds starts ends bends counts px py cycles steps bx by)) (rowsBy (lent next count ids kinds starts ends bends counts px py cycles steps bx by)) e (oneCycle (useAt e u) (useAt e w)) ⌝ }
+    requires { ⌜ Takes (length (now numbers)) (length (now places)) (uncutResult (sheetOf (heldBy (lent next count ids kinds starts ends bends counts px py cycles steps bx by))) e (oneCycle (useAt e u) (useAt e w))) ⌝ }
+    ensures { λ r. ⌜ Holds (uncutResult (sheetOf (heldBy (entry next count ids kinds starts ends bends counts px py cycles steps bx by))) e (oneCycle (useAt e u) (useAt e w))) (exit next r ids kinds starts ends bends counts px py cycles steps bx by) ⌝ }
+{
+    let l = parted(
+        next,
+        count,
+        ids,
+        kinds,
+        starts,
+        ends,
+        bends,
+        counts,
+        px,
+        py,
+        cycles,
+        steps,
+        bx,
+        by,
+        t,
+        e,
+        u,
+        w,
+        numbers,
+        places,
+    );
+    without_cells(
+        next,
+        count,
+        ids,
+        kinds,
+        starts,
+        ends,
+        bends,
+        counts,
+        px,
+        py,
+        cycles,
+        steps,
+        bx,
+        by,
+        e,
+        e,
+        u.face,
+        numbers,
+        places,
+        l,
     )
 }
 
@@ -289,9 +453,37 @@ pub fn one_cycle(
     if no != 0 {
         return lent::line_of(no);
     }
+    if few(t) {
+        let mut numbers = [0u32; 32];
+        let mut places = [0u32; 128];
+        let k = part_cycle(
+            id,
+            n,
+            ids,
+            kinds,
+            starts,
+            ends,
+            bends,
+            counts,
+            px,
+            py,
+            cycles,
+            steps,
+            bx,
+            by,
+            t,
+            e,
+            u,
+            w,
+            &mut numbers,
+            &mut places,
+        );
+        *count = k;
+        return gone(n, k);
+    }
     let mut numbers = [0u32; 512];
     let mut places = [0u32; 2048];
-    let l = parted(
+    let k = part_cycle(
         id,
         n,
         ids,
@@ -312,28 +504,6 @@ pub fn one_cycle(
         w,
         &mut numbers,
         &mut places,
-    );
-    let k = without_cells(
-        id,
-        n,
-        ids,
-        kinds,
-        starts,
-        ends,
-        bends,
-        counts,
-        px,
-        py,
-        cycles,
-        steps,
-        bx,
-        by,
-        e,
-        e,
-        u.face,
-        &numbers,
-        &places,
-        l,
     );
     *count = k;
     gone(n, k)
@@ -361,16 +531,91 @@ fn ringless(
     e: u32,
     u: Use,
     w: Use,
-    numbers: &mut [u32; 512],
-    places: &mut [u32; 2048],
+    numbers: &mut [u32],
+    places: &mut [u32],
 ) -> Used
     requires { ⌜ Ready (lent next count ids kinds starts ends bends counts px py cycles steps bx by) t ⌝ }
     requires { ⌜ Case (heldBy (lent next count ids kinds starts ends bends counts px py cycles steps bx by)) (rowsBy (lent next count ids kinds starts ends bends counts px py cycles steps bx by)) e (rings (useAt e u) (useAt e w)) ⌝ }
+    requires { ⌜ Takes (length (now numbers)) (length (now places)) (uncutResult (sheetOf (heldBy (lent next count ids kinds starts ends bends counts px py cycles steps bx by))) e (rings (useAt e u) (useAt e w))) ⌝ }
     ensures { λ r. ⌜ Built (ringlessCycles (cellAt (sheetOf (heldBy (entry next count ids kinds starts ends bends counts px py cycles steps bx by)))) (useAt e u) (useAt e w)) (now (numbers .exit)) r (now (places .exit)) ⌝ }
 {
     let p = kernel_places::place_of(count, ids, counts, cycles, t, u.face, u.cycle);
     let q = kernel_places::place_of(count, ids, counts, cycles, t, w.face, w.cycle);
     kernel_paths::ringed_cycles(cycles, steps, p, q, numbers, places)
+}
+
+// The closed edge e goes with the face of w, and the face of u has the cycles of both that are not of e.
+fn join_ringless(
+    next: u32,
+    count: usize,
+    ids: &mut [u32; 256],
+    kinds: &mut [u32; 256],
+    starts: &mut [u32; 256],
+    ends: &mut [u32; 256],
+    bends: &mut [u32; 256],
+    counts: &mut [u32; 256],
+    px: &mut [f64; 256],
+    py: &mut [f64; 256],
+    cycles: &mut [u32; 512],
+    steps: &mut [u32; 2048],
+    bx: &mut [f64; 2048],
+    by: &mut [f64; 2048],
+    t: Totals,
+    e: u32,
+    u: Use,
+    w: Use,
+    numbers: &mut [u32],
+    places: &mut [u32],
+) -> usize
+    requires { ⌜ Ready (lent next count ids kinds starts ends bends counts px py cycles steps bx by) t ⌝ }
+    requires { ⌜ Case (heldBy (lent next count ids kinds starts ends bends counts px py cycles steps bx by)) (rowsBy (lent next count ids kinds starts ends bends counts px py cycles steps bx by)) e (rings (useAt e u) (useAt e w)) ⌝ }
+    requires { ⌜ Takes (length (now numbers)) (length (now places)) (uncutResult (sheetOf (heldBy (lent next count ids kinds starts ends bends counts px py cycles steps bx by))) e (rings (useAt e u) (useAt e w))) ⌝ }
+    ensures { λ r. ⌜ Holds (uncutResult (sheetOf (heldBy (entry next count ids kinds starts ends bends counts px py cycles steps bx by))) e (rings (useAt e u) (useAt e w))) (exit next r ids kinds starts ends bends counts px py cycles steps bx by) ⌝ }
+{
+    let l = ringless(
+        next,
+        count,
+        ids,
+        kinds,
+        starts,
+        ends,
+        bends,
+        counts,
+        px,
+        py,
+        cycles,
+        steps,
+        bx,
+        by,
+        t,
+        e,
+        u,
+        w,
+        numbers,
+        places,
+    );
+    without_cells(
+        next,
+        count,
+        ids,
+        kinds,
+        starts,
+        ends,
+        bends,
+        counts,
+        px,
+        py,
+        cycles,
+        steps,
+        bx,
+        by,
+        e,
+        w.face,
+        u.face,
+        numbers,
+        places,
+        l,
+    )
 }
 
 // The result is never too large.
@@ -400,9 +645,37 @@ pub fn rings(
 {
     let id = *next;
     let n = *count;
+    if few(t) {
+        let mut numbers = [0u32; 32];
+        let mut places = [0u32; 128];
+        let k = join_ringless(
+            id,
+            n,
+            ids,
+            kinds,
+            starts,
+            ends,
+            bends,
+            counts,
+            px,
+            py,
+            cycles,
+            steps,
+            bx,
+            by,
+            t,
+            e,
+            u,
+            w,
+            &mut numbers,
+            &mut places,
+        );
+        *count = k;
+        return gone(n, k);
+    }
     let mut numbers = [0u32; 512];
     let mut places = [0u32; 2048];
-    let l = ringless(
+    let k = join_ringless(
         id,
         n,
         ids,
@@ -423,28 +696,6 @@ pub fn rings(
         w,
         &mut numbers,
         &mut places,
-    );
-    let k = without_cells(
-        id,
-        n,
-        ids,
-        kinds,
-        starts,
-        ends,
-        bends,
-        counts,
-        px,
-        py,
-        cycles,
-        steps,
-        bx,
-        by,
-        e,
-        w.face,
-        u.face,
-        &numbers,
-        &places,
-        l,
     );
     *count = k;
     gone(n, k)

@@ -8,7 +8,7 @@ use lib.Ieee.{Float}
 use lib.ListN.{length, take, drop, set, length-append, length-drop, length-set, length-reverse}
 use lib.Seq.{slice, length-slice, length-take-le, set-at}
 use Rattle.coordinate.specs.declared.Position.{Position}
-use Rattle.append.specs.Runs.{turn}
+use Rattle.rows_new.specs.Runs.{turn}
 use Rattle.lent.specs.Arrays.{positionsIn}
 use Rattle.lent.proofs.Held.{positions-set}
 use Rattle.kernel_bends.specs.Turned.{turned, rotated}
@@ -28,7 +28,8 @@ module _ {A : Type 0} where
   if-is false p q r f u hp hq = refl
 
   -- the front, two runs, and what stands behind them
-  module _ (f x y : List A) (d : A) (z : List A) (t m1 m2 : ℕ) (b1 b2 : Bool) (v : A) (lx : length x ≡ m1) (ly : length y ≡ m2) (lt : length f + m1 + m2 ≡ t) where
+  module _ (f x y : List A) (d : A) (z : List A) (t m1 m2 : ℕ) (b1 b2 : Bool) (v : A) (lx : length x ≡ m1) (ly : length y ≡ m2)
+      (lt : length f + m1 + m2 ≡ t) where
     abbrev start : List A
     start = f ++ (x ++ (y ++ (d ∷ z)))
 
@@ -52,7 +53,9 @@ module _ {A : Type 0} where
     first = ap (turnedIf b1 (t - m2 - m1) (t - m2)) between ∙ if-is b1 f x (v ∷ (y ++ z)) (t - m2 - m1) (t - m2) (omega (arith, lt)) (omega (arith, lt, lx))
 
     lp : length (f ++ (turn b1 x ++ (v ∷ []))) ≡ t - m2 + 1
-    lp = length-append f (turn b1 x ++ (v ∷ [])) ∙ ap (λ (n : ℕ). length f + n) (length-append (turn b1 x) (v ∷ []) ∙ ap (λ (n : ℕ). n + 1) (turn-length b1 x)) ∙ omega (arith, lx, lt)
+    lp =
+        length-append f (turn b1 x ++ (v ∷ []))
+        ∙ ap (λ (n : ℕ). length f + n) (length-append (turn b1 x) (v ∷ []) ∙ ap (λ (n : ℕ). n + 1) (turn-length b1 x)) ∙ omega (arith, lx, lt)
 
     apart : (q : List A) → (f ++ (turn b1 x ++ (v ∷ []))) ++ q ≡ f ++ (turn b1 x ++ (v ∷ q))
     apart q = append-assoc f (turn b1 x ++ (v ∷ [])) q ∙ ap (λ (l : List A). f ++ l) (append-assoc (turn b1 x) (v ∷ []) q)
@@ -85,10 +88,12 @@ module _ {A : Type 0} where
 
     pub joined-long : length (joinedRuns t m1 b1 m2 b2 v l) ≡ length l
     joined-long =
-        if-length b2 (t - m2 + 1) (t + 1) (turnedIf b1 (t - m2 - m1) (t - m2) (rotated (t - m2) t (t + 1) (set l t v))) (omega arith) (omega (arith, first-long, ht)) ∙ first-long
+        if-length b2 (t - m2 + 1) (t + 1) (turnedIf b1 (t - m2 - m1) (t - m2) (rotated (t - m2) t (t + 1) (set l t v))) (omega arith)
+        (omega (arith, first-long, ht)) ∙ first-long
 
 -- ---- the positions of two arrays
-positions-if : (b : Bool) (f u : ℕ) (xs ys : List Float) → length xs ≡ length ys → f ≤ u → u ≤ length xs → positionsIn (turnedIf b f u xs) (turnedIf b f u ys) ≡ turnedIf b f u (positionsIn xs ys)
+positions-if : (b : Bool) (f u : ℕ) (xs ys : List Float) → length xs ≡ length ys → f ≤ u → u ≤ length xs
+    → positionsIn (turnedIf b f u xs) (turnedIf b f u ys) ≡ turnedIf b f u (positionsIn xs ys)
 positions-if true f u xs ys e h g = positions-turned f u xs ys e h g
 positions-if false f u xs ys e h g = refl
 
@@ -102,10 +107,12 @@ positions-joined t m1 m2 b1 b2 p xs ys hm ht e =
     let fy = first-long t m1 m2 b1 b2 (p .y) ys hm hy in
     let sx = length-set xs t (p .x) in
     let sy = length-set ys t (p .y) in
-    positions-if b2 (t - m2 + 1) (t + 1) (turnedIf b1 (t - m2 - m1) (t - m2) (rotated (t - m2) t (t + 1) (set xs t (p .x)))) (turnedIf b1 (t - m2 - m1) (t - m2) (rotated (t - m2) t (t + 1) (set ys t (p .y))))
+    positions-if b2 (t - m2 + 1) (t + 1) (turnedIf b1 (t - m2 - m1) (t - m2) (rotated (t - m2) t (t + 1) (set xs t (p .x))))
+    (turnedIf b1 (t - m2 - m1) (t - m2) (rotated (t - m2) t (t + 1) (set ys t (p .y))))
     (fx ∙ e ∙ sym fy) (omega arith) (omega (arith, fx, ht))
     ∙ ap (turnedIf b2 (t - m2 + 1) (t + 1))
-    (positions-if b1 (t - m2 - m1) (t - m2) (rotated (t - m2) t (t + 1) (set xs t (p .x))) (rotated (t - m2) t (t + 1) (set ys t (p .y))) (rx ∙ e ∙ sym ry) (omega arith) (omega (arith, rx, ht))
+    (positions-if b1 (t - m2 - m1) (t - m2) (rotated (t - m2) t (t + 1) (set xs t (p .x))) (rotated (t - m2) t (t + 1) (set ys t (p .y))) (rx ∙ e ∙ sym ry)
+    (omega arith) (omega (arith, rx, ht))
     ∙ ap (turnedIf b1 (t - m2 - m1) (t - m2))
     (positions-rotated (t - m2) t (t + 1) (set xs t (p .x)) (set ys t (p .y)) (sx ∙ e ∙ sym sy) (omega arith) (omega arith) (omega (arith, sx, ht))
     ∙ ap (rotated (t - m2) t (t + 1)) (positions-set xs ys t p)))

@@ -15,16 +15,16 @@ use Rattle.store.specs.View.{sheetOf, Fits, bendTotal, bendCount}
 use Rattle.store.specs.Edits.{placesOf, appended}
 use Rattle.store.proofs.Lists.{places-sum}
 use Rattle.store.proofs.Grow.{grown, append-edge}
-use Rattle.append.specs.Appends.{RoomIn, Room, withCell}
-use Rattle.append.specs.Runs.{turn, run}
-use Rattle.append.proofs.Rooms.{room-first}
+use Rattle.rows_new.specs.Appends.{RoomIn, CellRoom, withCell}
+use Rattle.rows_new.specs.Runs.{turn, runAt}
+use Rattle.rows_new.proofs.Rooms.{room-first}
 use Rattle.lent.specs.Arrays.{Arrays, positionsIn, heldBy, Lengths}
 use Rattle.lent.specs.Growing.{withOpen}
 use Rattle.lent.proofs.Held.{held-sizes, held-indexes, positions-length}
 use Rattle.lent.proofs.Grown.{open-long, open-held, open-normal}
 use Rattle.lent.specs.declared.Line.{Line}
-use Rattle.kernel_keep.specs.Three.{ThreeGone}
-use Rattle.kernel_keep.proofs.Gone.{row-range}
+use Rattle.kernel_drop.specs.Three.{ThreeGone}
+use Rattle.kernel_drop.proofs.Gone.{row-range}
 use Rattle.kind_uncut_joint.specs.declared.Order.{Order}
 use Rattle.kind_uncut_joint.specs.Joining.{joinedRuns, edgeOf, leftOf, Joins, Joined}
 use Rattle.kind_uncut_joint.proofs.Bends.{turn-length, joined-are, joined-long, positions-joined}
@@ -49,7 +49,7 @@ withBoth a xs ys =
       by = ys;
     }
 
-run-length : (i n : ℕ) (l : List Position) → i + n ≤ length l → length (run i n l) ≡ n
+run-length : (i n : ℕ) (l : List Position) → i + n ≤ length l → length (runAt i n l) ≡ n
 run-length i n l h = length-take-le n (drop i l) (omega (arith, length-drop i l))
 
 module _ (a : Arrays) (o : Order) (bare t : ℕ) (p : Position) (g : Joins a o bare t p) where
@@ -63,10 +63,10 @@ module _ (a : Arrays) (o : Order) (bare t : ℕ) (p : Position) (g : Joins a o b
   P = positionsIn (a .bx) (a .by)
 
   abbrev x : List Position
-  x = run (o .first .first) (o .first .count) (positionsIn (a .bx) (a .by))
+  x = runAt (o .first .first) (o .first .count) (positionsIn (a .bx) (a .by))
 
   abbrev y : List Position
-  y = run (o .second .first) (o .second .count) (positionsIn (a .bx) (a .by))
+  y = runAt (o .second .first) (o .second .count) (positionsIn (a .bx) (a .by))
 
   abbrev new : List Position
   new = turn (o .turned) x ++ (p ∷ turn (o .turned2) y)
@@ -97,12 +97,15 @@ module _ (a : Arrays) (o : Order) (bare t : ℕ) (p : Position) (g : Joins a o b
     abbrev edge : Figure
     edge = edgeOf (positionsIn (a .bx) (a .by)) o p
 
-    room : Room (heldBy b) edge
-    room = room-first (heldBy b) (held-sizes b (gone .long)) (gone .keeps .fits) edge [] (subst (λ (s : Sheet). RoomIn s (edge ∷ [])) (sym (gone .keeps .sheet)) (g .room))
+    room : CellRoom (heldBy b) edge
+    room =
+        room-first (heldBy b) (held-sizes b (gone .long)) (gone .keeps .fits) edge []
+        (subst (λ (s : Sheet). RoomIn s (edge ∷ [])) (sym (gone .keeps .sheet)) (g .room))
 
     used : bendTotal (heldBy b) ≡ t - o .first .count - o .second .count
     used =
-        sym (ap (total (placesOf 0)) (held-indexes b (gone .long) (gone .keeps .rows) .bends) ∙ places-sum (λ (c : Cell). bendCount (c .shape)) (take (b .count) (heldBy b .cells)))
+        sym (ap (total (placesOf 0)) (held-indexes b (gone .long) (gone .keeps .rows) .bends)
+        ∙ places-sum (λ (c : Cell). bendCount (c .shape)) (take (b .count) (heldBy b .cells)))
         ∙ gone .less
 
     b-bends : length (positionsIn (b .bx) (b .by)) ≡ 2048
@@ -129,8 +132,11 @@ module _ (a : Arrays) (o : Order) (bare t : ℕ) (p : Position) (g : Joins a o b
     id-comes = omega (arith, room .ids, en)
 
     -- the bends as they stand
-    stand : positionsIn (b .bx) (b .by) ≡ take (t - o .first .count - o .second .count) (positionsIn (b .bx) (b .by)) ++ (x ++ (y ++ drop t (positionsIn (a .bx) (a .by))))
-    stand = sym (take-append-drop (t - o .first .count - o .second .count) (positionsIn (b .bx) (b .by))) ∙ ap (λ (l : List Position). take (t - o .first .count - o .second .count) (positionsIn (b .bx) (b .by)) ++ l) (gone .last)
+    stand : positionsIn (b .bx) (b .by)
+        ≡ take (t - o .first .count - o .second .count) (positionsIn (b .bx) (b .by)) ++ (x ++ (y ++ drop t (positionsIn (a .bx) (a .by))))
+    stand =
+        sym (take-append-drop (t - o .first .count - o .second .count) (positionsIn (b .bx) (b .by)))
+        ∙ ap (λ (l : List Position). take (t - o .first .count - o .second .count) (positionsIn (b .bx) (b .by)) ++ l) (gone .last)
 
     front-length : length (take (t - o .first .count - o .second .count) (positionsIn (b .bx) (b .by))) ≡ t - o .first .count - o .second .count
     front-length = length-take-le (t - o .first .count - o .second .count) (positionsIn (b .bx) (b .by)) (omega (arith, b-bends, one-more))
@@ -143,13 +149,18 @@ module _ (a : Arrays) (o : Order) (bare t : ℕ) (p : Position) (g : Joins a o b
       abbrev k : ℕ
       k = o .first .count + 1 + o .second .count
 
-      all-are : positionsIn xs ys ≡ take (t - o .first .count - o .second .count) (positionsIn (b .bx) (b .by)) ++ (turn (o .turned) x ++ (p ∷ (turn (o .turned2) y ++ drop (suc t) (positionsIn (a .bx) (a .by)))))
+      all-are : positionsIn xs ys
+          ≡ take (t - o .first .count - o .second .count) (positionsIn (b .bx) (b .by)) ++
+          (turn (o .turned) x ++ (p ∷ (turn (o .turned2) y ++ drop (suc t) (positionsIn (a .bx) (a .by)))))
       all-are =
           let z = drop-cons P t origin (omega (arith, all-bends, one-more)) in
           ap₂ positionsIn ex ey
-          ∙ positions-joined t m1 m2 (o .turned) (o .turned2) p (b .bx) (b .by) both-in (omega (arith, one-more, gone .long .bx)) (gone .long .bx ∙ sym (gone .long .by))
-          ∙ ap (joinedRuns t m1 (o .turned) m2 (o .turned2) p) (stand ∙ ap (λ (l : List Position). take (t - m1 - m2) (positionsIn (b .bx) (b .by)) ++ (x ++ (y ++ l))) z)
-          ∙ joined-are (take (t - m1 - m2) (positionsIn (b .bx) (b .by))) x y _ _ t m1 m2 (o .turned) (o .turned2) p lx ly (omega (arith, front-length, both-in))
+          ∙ positions-joined t m1 m2 (o .turned) (o .turned2) p (b .bx) (b .by) both-in (omega (arith, one-more, gone .long .bx))
+          (gone .long .bx ∙ sym (gone .long .by))
+          ∙ ap (joinedRuns t m1 (o .turned) m2 (o .turned2) p)
+          (stand ∙ ap (λ (l : List Position). take (t - m1 - m2) (positionsIn (b .bx) (b .by)) ++ (x ++ (y ++ l))) z)
+          ∙ joined-are (take (t - m1 - m2) (positionsIn (b .bx) (b .by))) x y _ _ t m1 m2 (o .turned) (o .turned2) p lx ly
+          (omega (arith, front-length, both-in))
 
       long-x : length xs ≡ 2048
       long-x = ap length ex ∙ joined-long t m1 m2 (o .turned) (o .turned2) (p .x) (b .bx) both-in (omega (arith, one-more, gone .long .bx)) ∙ gone .long .bx
@@ -181,17 +192,20 @@ module _ (a : Arrays) (o : Order) (bare t : ℕ) (p : Position) (g : Joins a o b
           let f = take u (positionsIn (b .bx) (b .by)) in
           let r : List Position = drop (suc t) P in
           ap (λ (n : ℕ). take (n + length new) (positionsIn xs ys)) used
-          ∙ ap (take (u + length new)) (all-are ∙ ap (λ (l : List Position). f ++ l) (sym (append-assoc (turn (o .turned) x) (p ∷ turn (o .turned2) y) r)) ∙ sym (append-assoc f new r))
+          ∙ ap (take (u + length new))
+          (all-are ∙ ap (λ (l : List Position). f ++ l) (sym (append-assoc (turn (o .turned) x) (p ∷ turn (o .turned2) y) r)) ∙ sym (append-assoc f new r))
           ∙ take-at (f ++ new) r (u + length new) (length-append f new ∙ ap (λ (n : ℕ). n + length new) front-length)
           ∙ ap (λ (n : ℕ). take n (positionsIn (b .bx) (b .by)) ++ new) (sym used)
 
-      comes : (sheetOf (heldBy (withOpen (withBoth b xs ys) (o .first .far) (o .second .far) (o .first .count + 1 + o .second .count))) ≡ appended (leftOf a o bare) edge)
+      comes : (sheetOf (heldBy (withOpen (withBoth b xs ys) (o .first .far) (o .second .far) (o .first .count + 1 + o .second .count)))
+          ≡ appended (leftOf a o bare) edge)
           × Fits (heldBy (withOpen (withBoth b xs ys) (o .first .far) (o .second .far) (o .first .count + 1 + o .second .count)))
       comes =
           let d = heldBy b in
           let s = o .first .far in
           let e = o .second .far in
-          let h = append-edge d (held-sizes b (gone .long)) (gone .keeps .fits) (room .cells) edge (positionsIn xs ys) refl (held-sizes c long .bends) (room .bends) taken in
+          let h = append-edge d (held-sizes b (gone .long)) (gone .keeps .fits) (room .cells) edge (positionsIn xs ys) refl (held-sizes c long .bends)
+          (room .bends) taken in
           let q : heldBy (withOpen (withBoth b xs ys) s e (o .first .count + 1 + o .second .count)) ≡ grown d edge (d .cycles) (d .steps) (positionsIn xs ys) =
           open-held c long s e k (room .cells) ∙ ap (λ (n : ℕ). withCell (heldBy c) (Open s e n)) (sym new-length) in
           (ap sheetOf q ∙ h .0 ∙ ap (λ (w : Sheet). appended w edge) (gone .keeps .sheet), subst Fits (sym q) (h .1))
@@ -213,7 +227,8 @@ module _ (a : Arrays) (o : Order) (bare t : ℕ) (p : Position) (g : Joins a o b
           removed = omega arith
 
       -- the same field by field
-      pub joined-by : (out : Arrays) → out .next ≡ b .next + 1 → out .count ≡ b .count + 1 → out .ids ≡ set (b .ids) (b .count) (b .next) → out .kinds ≡ set (b .kinds) (b .count) 1
+      pub joined-by : (out : Arrays) → out .next ≡ b .next + 1 → out .count ≡ b .count + 1 → out .ids ≡ set (b .ids) (b .count) (b .next)
+          → out .kinds ≡ set (b .kinds) (b .count) 1
           → out .starts ≡ set (b .starts) (b .count) (o .first .far) → out .ends ≡ set (b .ends) (b .count) (o .second .far)
           → out .bends ≡ set (b .bends) (b .count) (o .first .count + 1 + o .second .count) → out .counts ≡ set (b .counts) (b .count) 0
           → out .px ≡ b .px → out .py ≡ b .py → out .cycles ≡ b .cycles → out .steps ≡ b .steps → out .bx ≡ xs → out .by ≡ ys

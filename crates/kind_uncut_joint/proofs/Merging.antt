@@ -15,15 +15,15 @@ use Rattle.complex.specs.Edits.{reshape, rewired, rewiredCycle, sameVertex, inP
 use Rattle.complex.specs.Uncut.{inOne}
 use Rattle.complex.specs.Sound.{over, stepsIn as stepsHeld}
 use Rattle.store.specs.Sheet.{allReal}
-use Rattle.store.specs.Places.{cyclesAt, stepsIn, word}
+use Rattle.store.specs.Places.{entryCycles, cycleWords, word}
 use Rattle.store.specs.View.{sheetOf, Fits, cycleTotal, stepTotal}
 use Rattle.store.specs.Edits.{withEntries}
 use Rattle.store.proofs.Stands.{stands, step-total}
-use Rattle.rewire.specs.declared.Swap.{Swap}
-use Rattle.rewire.specs.Swap.{swapHalf, oneFor, noneFor}
-use Rattle.rewire.proofs.Rewired.{rewired-cycles, cycles-then}
-use Rattle.rewire.proofs.Swaps.{one-for, one-some, one-few, none-few, none-then-one}
-use Rattle.rewire.proofs.Merging.{real-with, room-with}
+use Rattle.rows_steps.specs.declared.Swap.{Swap}
+use Rattle.rows_steps.specs.Swap.{swapHalf, oneFor, noneFor}
+use Rattle.rows_steps.proofs.Rewired.{rewired-cycles, cycles-then}
+use Rattle.rows_steps.proofs.Swaps.{one-for, one-some, one-few, none-few, none-then-one}
+use Rattle.rows_steps.proofs.Merging.{real-with, room-with}
 use Rattle.lent.specs.Arrays.{Arrays, heldBy, Lengths}
 use Rattle.lent.proofs.Held.{held-sizes}
 use Rattle.kernel_swap.specs.Swaps.{SwappedIn}
@@ -48,7 +48,8 @@ spread-same σ τ e (h ∷ hs) = ap₂ (λ (a b : List Halfedge). a ++ b) (e h) 
 none-is : (y : ℕ) (h : Halfedge) → swapHalf (noneFor y) h ≡ cond (eqb y (h .edge)) [] (one h)
 none-is y h =
     sym (spread-one (swapHalf (noneFor y) h))
-    ∙ sym (spread-same (swapHalf (oneFor 0 0 false)) one (λ k. ap (λ (σ : Halfedge → List Halfedge). σ k) (one-for 0 0 false) ∙ own-place k 0) (swapHalf (noneFor y) h))
+    ∙ sym (spread-same (swapHalf (oneFor 0 0 false)) one (λ k. ap (λ (σ : Halfedge → List Halfedge). σ k) (one-for 0 0 false) ∙ own-place k 0)
+    (swapHalf (noneFor y) h))
     ∙ none-then-one 0 y 0 h
     ∙ ap (cond (eqb y (h .edge)) []) (own-place h 0)
 
@@ -83,15 +84,15 @@ module _ (r : ℕ → ℕ) (σ : Halfedge → List Halfedge) (each : (h : Halfed
   path-same [] = refl
   path-same (x ∷ hs) = let g = each x in let e = path-same hs in omega (arith, length-append (σ x) (spread σ hs), g, e)
 
-  cycle-same : (k : Cycle) → length (stepsIn (rewiredCycle r σ k)) ≡ length (stepsIn k)
+  cycle-same : (k : Cycle) → length (cycleWords (rewiredCycle r σ k)) ≡ length (cycleWords k)
   cycle-same (lone v) = refl
   cycle-same (path hs) = length-map (spread σ hs) word ∙ path-same hs ∙ sym (length-map hs word)
 
-  steps-same : (ks : List Cycle) → length (spread stepsIn (map (rewiredCycle r σ) ks)) ≡ length (spread stepsIn ks)
+  steps-same : (ks : List Cycle) → length (spread cycleWords (map (rewiredCycle r σ) ks)) ≡ length (spread cycleWords ks)
   steps-same [] = refl
   steps-same (k ∷ ks) =
-      length-append (stepsIn (rewiredCycle r σ k)) (spread stepsIn (map (rewiredCycle r σ) ks)) ∙ ap₂ _+_ (cycle-same k) (steps-same ks)
-      ∙ sym (length-append (stepsIn k) (spread stepsIn ks))
+      length-append (cycleWords (rewiredCycle r σ k)) (spread cycleWords (map (rewiredCycle r σ) ks)) ∙ ap₂ _+_ (cycle-same k) (steps-same ks)
+      ∙ sym (length-append (cycleWords k) (spread cycleWords ks))
 
 -- ---- what the swaps ask
 abbrev swapped : Arrays → Swap → List LiveCell
@@ -99,7 +100,9 @@ swapped a s = reshape (rewired sameVertex (swapHalf s)) (sheetOf (heldBy a) .cel
 
 abbrev pub Asks : Arrays → ℕ → ℕ → Swap → Type 0
 Asks a k m s =
-    Fits (heldBy a) × (Lengths a × ((k ≡ cycleTotal (heldBy a)) × ((s .n ≤ 2) × ((allReal (spread cyclesAt (reshape (rewired sameVertex (swapHalf s)) (sheetOf (heldBy a) .cells))) ≡ true)
+    Fits (heldBy a) × (Lengths a
+    × ((k ≡ cycleTotal (heldBy a))
+    × ((s .n ≤ 2) × ((allReal (spread entryCycles (reshape (rewired sameVertex (swapHalf s)) (sheetOf (heldBy a) .cells))) ≡ true)
     × ((over stepsHeld (reshape (rewired sameVertex (swapHalf s)) (sheetOf (heldBy a) .cells)) ≤ 2048) × ((m ≡ stepTotal (heldBy a))
     × (((s .n ≤ 1) × (_≡_ {A = ℕ} 0 0)) ⊎ ((1 ≤ s .n) × (over stepsHeld (reshape (rewired sameVertex (swapHalf s)) (sheetOf (heldBy a) .cells)) ≡ 0 + m)))))))))
 
@@ -112,8 +115,10 @@ module _ (a : Arrays) (k m x y : ℕ) (g : Merges a k m x y) (s : Swap) (es : s 
       let d = heldBy a in
       let z = held-sizes a (g .long) in
       let n : s .n ≡ 1 = ap (λ (t : Swap). t .n) es in
-      let real = subst (λ (σ : Halfedge → List Halfedge). allReal (spread cyclesAt (reshape (rewired sameVertex σ) (sheetOf d .cells))) ≡ true) (sym half) (real-with d z (g .fits) _ (one-some x (a .next) false)) in
-      let room = subst (λ (σ : Halfedge → List Halfedge). over stepsHeld (reshape (rewired sameVertex σ) (sheetOf d .cells)) ≤ 2048) (sym half) (room-with d z (g .fits) _ (one-few x (a .next) false)) in
+      let real = subst (λ (σ : Halfedge → List Halfedge). allReal (spread entryCycles (reshape (rewired sameVertex σ) (sheetOf d .cells))) ≡ true) (sym half)
+      (real-with d z (g .fits) _ (one-some x (a .next) false)) in
+      let room = subst (λ (σ : Halfedge → List Halfedge). over stepsHeld (reshape (rewired sameVertex σ) (sheetOf d .cells)) ≤ 2048) (sym half)
+      (room-with d z (g .fits) _ (one-few x (a .next) false)) in
       (g .fits, (g .long, (g .cycles, (omega (arith, n), (real, (room, (g .steps, inl (omega (arith, n), refl))))))))
 
   module _ (b : Arrays) (sw : SwappedIn s a b) (ec : cycleTotal (heldBy b) ≡ cycleTotal (heldBy a)) (u : Swap) (eu : u ≡ noneFor y) where
@@ -123,16 +128,18 @@ module _ (a : Arrays) (k m x y : ℕ) (g : Merges a k m x y) (s : Swap) (es : s 
     cells-are : sheetOf (heldBy b) .cells ≡ reshape (rewired sameVertex (swapHalf s)) (sheetOf (heldBy a) .cells)
     cells-are = ap (λ (t : Sheet). t .cells) (sw .sheet)
 
-    after : reshape (rewired sameVertex (swapHalf u)) (sheetOf (heldBy b) .cells) ≡ reshape (rewired sameVertex (inOne x y (a .next))) (sheetOf (heldBy a) .cells)
-    after = ap (reshape (rewired sameVertex (swapHalf u))) cells-are ∙ cells-then (swapHalf s) (swapHalf u) (inOne x y (a .next)) then (sheetOf (heldBy a) .cells)
+    after : reshape (rewired sameVertex (swapHalf u)) (sheetOf (heldBy b) .cells)
+        ≡ reshape (rewired sameVertex (inOne x y (a .next))) (sheetOf (heldBy a) .cells)
+    after =
+        ap (reshape (rewired sameVertex (swapHalf u))) cells-are ∙ cells-then (swapHalf s) (swapHalf u) (inOne x y (a .next)) then (sheetOf (heldBy a) .cells)
 
     as-many : stepTotal (heldBy b) ≡ stepTotal (heldBy a)
     as-many =
         let xs = sheetOf (heldBy a) .cells in
         step-total (heldBy b) (sheetOf (heldBy b) .cells) (stands (heldBy b) (held-sizes b (sw .long)) (sw .fits))
-        ∙ ap (λ (cs : List LiveCell). length (spread stepsIn (spread cyclesAt cs))) cells-are
-        ∙ ap (λ (ks : List Cycle). length (spread stepsIn ks)) (rewired-cycles sameVertex (swapHalf s) xs)
-        ∙ steps-same sameVertex (swapHalf s) (λ h. ap (λ (σ : Halfedge → List Halfedge). length (σ h)) half) (spread cyclesAt xs)
+        ∙ ap (λ (cs : List LiveCell). length (spread cycleWords (spread entryCycles cs))) cells-are
+        ∙ ap (λ (ks : List Cycle). length (spread cycleWords ks)) (rewired-cycles sameVertex (swapHalf s) xs)
+        ∙ steps-same sameVertex (swapHalf s) (λ h. ap (λ (σ : Halfedge → List Halfedge). length (σ h)) half) (spread entryCycles xs)
         ∙ sym (step-total (heldBy a) xs (stands (heldBy a) (held-sizes a (g .long)) (g .fits)))
 
     pub second-asks : Asks b k m u
@@ -148,7 +155,11 @@ module _ (a : Arrays) (k m x y : ℕ) (g : Merges a k m x y) (s : Swap) (es : s 
               g .cycles ∙ sym ec,
               (
                 omega (arith, n),
-                (ap (λ (cs : List LiveCell). allReal (spread cyclesAt cs)) after ∙ g .real, (room-with d z (sw .fits) (swapHalf u) few, (g .steps ∙ sym as-many, inl (omega (arith, n), refl)))),
+                (
+                  ap (λ (cs : List LiveCell). allReal (spread entryCycles cs)) after
+                      ∙ g .real,
+                  (room-with d z (sw .fits) (swapHalf u) few, (g .steps ∙ sym as-many, inl (omega (arith, n), refl))),
+                ),
               ),
             ),
           ),

@@ -11,21 +11,21 @@ use Rattle.complex.specs.Cells.{Figure, openEdge, Sheet}
 use Rattle.complex.specs.Edits.{reshape, rewired, sameVertex}
 use Rattle.complex.specs.Uncut.{inOne}
 use Rattle.store.specs.Sheet.{allReal}
-use Rattle.store.specs.Places.{cyclesAt}
+use Rattle.store.specs.Places.{entryCycles}
 use Rattle.store.specs.View.{sheetOf, Fits, cycleTotal, stepTotal}
 use Rattle.store.specs.Edits.{kept, placesOf, withEntries, appended}
-use Rattle.append.specs.Runs.{turn, run}
-use Rattle.append.specs.Appends.{RoomIn}
-use Rattle.uncut_vertex.specs.declared.Side.{Side}
+use Rattle.rows_new.specs.Runs.{turn, runAt}
+use Rattle.rows_new.specs.Appends.{RoomIn}
+use Rattle.ask_uncut_vertex.specs.declared.Side.{Side}
 use Rattle.kernel_bends.specs.Turned.{turned, rotated}
-use Rattle.kernel_keep.specs.Three.{ThreeRows}
+use Rattle.kernel_drop.specs.Three.{ThreeRows}
 use Rattle.lent.specs.Arrays.{Arrays, positionsIn, heldBy, normal, Lengths}
 use Rattle.lent.specs.declared.Line.{Line}
 use Rattle.kind_uncut_joint.specs.declared.Order.{Order}
 
 -- ---- an edge as it leaves a vertex, read from the rows
-abbrev pub sideAt : ℕ → List ℕ → List ℕ → List ℕ → Bool → Side
-sideAt row starts ends bends back =
+abbrev pub sideFrom : ℕ → List ℕ → List ℕ → List ℕ → Bool → Side
+sideFrom row starts ends bends back =
     record {
       row = row;
       far = cond back (getD starts row 0) (getD ends row 0);
@@ -49,7 +49,7 @@ pub record Merges (a : Arrays) (k m x y : ℕ) : Type 0 where
   pub small3 : a .next < 2147483648
   pub apart : x ≡ y → ⊥
   pub below : y < a .next
-  pub real : allReal (spread cyclesAt (reshape (rewired sameVertex (inOne x y (a .next))) (sheetOf (heldBy a) .cells))) ≡ true
+  pub real : allReal (spread entryCycles (reshape (rewired sameVertex (inOne x y (a .next))) (sheetOf (heldBy a) .cells))) ≡ true
 
 pub record MergedIn (a : Arrays) (x y : ℕ) (b : Arrays) : Type 0 where
   pub sheet : sheetOf (heldBy b)
@@ -72,8 +72,8 @@ joinedRuns t m1 b1 m2 b2 v l =
 abbrev pub edgeOf : List Position → Order → Position → Figure
 edgeOf bs o p =
     openEdge (o .first .far) (o .second .far)
-    (turn (o .turned) (run (o .first .first) (o .first .count) bs)
-    ++ (p ∷ turn (o .turned2) (run (o .second .first) (o .second .count) bs)))
+    (turn (o .turned) (runAt (o .first .first) (o .first .count) bs)
+    ++ (p ∷ turn (o .turned2) (runAt (o .second .first) (o .second .count) bs)))
 
 -- a's cells without the two edges and the vertex in the row bare
 abbrev pub leftOf : Arrays → Order → ℕ → Sheet

@@ -11,11 +11,11 @@ ghost use Rattle.store.specs.View.{sheetOf};
 ghost use Rattle.store.specs.Edits.{placesOf};
 ghost use Rattle.lent.specs.Arrays.{heldBy, lent, entry, exit};
 ghost use Rattle.lent.specs.Replies.{Ready, Obeyed};
-ghost use Rattle.kind_uncut_joint.specs.Joining.{sideAt, orderOf, Merges, MergedIn, turnedIf, joinedRuns, Joins, Joined};
+ghost use Rattle.kind_uncut_joint.specs.Joining.{sideFrom, orderOf, Merges, MergedIn, turnedIf, joinedRuns, Joins, Joined};
 use answer::Totals;
+use ask_uncut_vertex::Side;
 use coordinate::Position;
 use lent::Line;
-use uncut_vertex::Side;
 
 // The edge e, leaving a vertex backward or not.
 fn side_at(
@@ -33,11 +33,11 @@ fn side_at(
     requires { ⌜ rowOf e (take n (now ids)) < cellsMost ⌝ }
     requires { ⌜ total (placesOf 0) (take (rowOf e (take n (now ids))) (now bends)) ≤ bendsMost ⌝ }
     requires { ⌜ length (now bends) ≡ cellsMost ⌝ }
-    ensures { λ r. ⌜ r ≡ sideAt (rowOf e (take n (now (ids .entry)))) (now (starts .entry)) (now (ends .entry)) (now (bends .entry)) back ⌝ }
+    ensures { λ r. ⌜ r ≡ sideFrom (rowOf e (take n (now (ids .entry)))) (now (starts .entry)) (now (ends .entry)) (now (bends .entry)) back ⌝ }
 {
     let row = store::find(ids, n, e);
-    let far = uncut_vertex::either(back, starts[row], ends[row]);
-    let first = cycles::bend_start(bends, row);
+    let far = ask_uncut_vertex::either(back, starts[row], ends[row]);
+    let first = rows_spans::bend_start(bends, row);
     let m = store::wide(bends[row]);
     Side {
         row,
@@ -99,7 +99,7 @@ fn merge_steps(
     requires { ⌜ Merges (lent next count ids kinds starts ends bends counts px py cycles steps bx by) k m x y ⌝ }
     ensures { λ _. ⌜ MergedIn (entry next count ids kinds starts ends bends counts px py cycles steps bx by) x y (exit next count ids kinds starts ends bends counts px py cycles steps bx by) ⌝ }
 {
-    let one = rewire::one_for(x, next, false);
+    let one = rows_steps::one_for(x, next, false);
     kernel_swap::swap_steps(
         next,
         count,
@@ -120,7 +120,7 @@ fn merge_steps(
         0,
         one,
     );
-    let none = rewire::none_for(y);
+    let none = rows_steps::none_for(y);
     kernel_swap::swap_steps(
         next,
         count,
@@ -197,7 +197,7 @@ fn join(
     let b = o.second;
     let m1 = a.count;
     let m2 = b.count;
-    let k = kernel_keep::drop_three(
+    let k = kernel_drop::drop_three(
         id,
         n,
         ids,
@@ -279,7 +279,7 @@ pub fn jointed(
 {
     let n = *count;
     let id = *next;
-    let no = uncut_vertex::joint_no(cycles, steps, id, y, t);
+    let no = ask_uncut_vertex::bend_no(id, t, 2);
     if no != 0 {
         return lent::line_of(no);
     }

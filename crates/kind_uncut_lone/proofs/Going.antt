@@ -1,7 +1,7 @@
 -- 0E at a lone vertex in lent arrays: what is found, what is asked, and the answer. Assumes nothing.
 use Prim.Native.Nat.{ℕ, _-_, _<_, _≤_}
 use native.Mathlib.Omega.{arith}
-use mathlib.Core.Path.{_≡_, refl, sym, ap, _∙_}
+use mathlib.Core.Path.{_≡_, sym, ap, _∙_}
 use mathlib.Core.List.{List, []}
 use lib.ListN.{length, take, getD}
 use Rattle.complex.specs.Lists.{total, one, without}
@@ -10,35 +10,30 @@ use Rattle.complex.specs.Edits.{neither, replaced, rebuild}
 use Rattle.complex.specs.Decode.{uncut}
 use Rattle.complex.specs.Uncut.{lonely, uncutCase, uncutResult}
 use Rattle.store.specs.Index.{rowOf, Rising}
-use Rattle.store.specs.View.{sheetOf, cyclesOf, widthSum}
+use Rattle.store.specs.View.{sheetOf, cyclesFrom, widthSum}
 use Rattle.store.specs.Edits.{placesOf}
 use Rattle.sound.proofs.Looking.{row-is}
-use Rattle.cycles.specs.declared.Spans.{Spans}
-use Rattle.cycles.specs.declared.Used.{Used}
-use Rattle.cycles.specs.Runs.{spansOf}
-use Rattle.cycles.specs.Building.{Built, built}
+use Rattle.rows_spans.specs.declared.Spans.{Spans}
+use Rattle.rows_spans.specs.declared.Used.{Used}
+use Rattle.rows_spans.specs.Runs.{spansOf}
+use Rattle.rows_spans.specs.Building.{Built, built}
 use Rattle.answer.specs.declared.Totals.{Totals}
-use Rattle.dropping.proofs.Dropped.{live-below, row-among}
-use Rattle.outline.specs.Faces.{Within, Spanned, cyclesAt}
-use Rattle.outline.proofs.Rows.{spanned}
-use Rattle.reface.specs.Needs.{Refaced}
-use Rattle.uncut_case.proofs.Passing.{uncut-result}
-use Rattle.uncut_lone.specs.declared.Held.{Held}
-use Rattle.uncut_lone.specs.Lone.{lonePlace, holding}
-use Rattle.uncut_lone.proofs.Sheets.{Found}
-use Rattle.uncut_lone.proofs.Going.{live, seeking, here, row-below, a-face, it-stays, named, place-below, refaced, asked, roomed}
+use Rattle.rows_gone.proofs.Dropped.{live-below, row-among}
+use Rattle.rows_corners.specs.Faces.{Within, Spanned, cyclesAt}
+use Rattle.rows_corners.proofs.Rows.{spanned}
+use Rattle.rows_reface.specs.Needs.{Refaced}
+use Rattle.law_uncut.proofs.Passing.{uncut-result}
+use Rattle.ask_uncut_lone.specs.declared.Held.{Held}
+use Rattle.ask_uncut_lone.specs.Lone.{lonePlace, holding}
+use Rattle.ask_uncut_lone.proofs.Sheets.{Found}
+use Rattle.ask_uncut_lone.proofs.Going.{live, seeking, here, row-below, a-face, it-stays, named, place-below, refaced, asked, roomed}
 use Rattle.lent.specs.Arrays.{Arrays, heldBy, rowsBy}
 use Rattle.lent.specs.declared.Line.{Line}
 use Rattle.lent.specs.Replies.{Ready, Obeyed, Holds}
 use Rattle.lent.proofs.Sums.{ready-sizes, ready-fits, ready-drawing, ready-indexes, ready-looks, ready-cells}
-use Rattle.kernel_cycles.specs.Replacing.{Counted}
+use Rattle.kernel_cycles.specs.Replacing.{RowCounted}
 use Rattle.kernel_cycles.proofs.Ready.{ready-counted}
 use Rattle.kernel_reface.proofs.Left.{lessLine, left-fewer, left-obeyed}
-
--- ---- the list
-pub none-built : (counts steps : List ℕ) → length counts ≡ 512 → length steps ≡ 2048 → Built [] counts (record { cycles = 0; steps = 0 }) steps
-none-built counts steps c s =
-    record { list = refl; building = record { countsSize = c; stepsSize = s; width = refl; cycleRoom = omega arith; stepRoom = omega arith } }
 
 -- ---- the vertex
 module _ (a : Arrays) (t : Totals) (y : Ready a t) (v : ℕ) (e : uncutCase (sheetOf (heldBy a)) v ≡ lonely) where
@@ -52,7 +47,7 @@ module _ (a : Arrays) (t : Totals) (y : Ready a t) (v : ℕ) (e : uncutCase (she
   find-asks = (ready-fits a t y .cells, (y .long .ids, ready-looks a t y .rising))
 
   -- the lone cycle, and the row that holds it
-  module _ (j : ℕ) (ej : j ≡ lonePlace v (cyclesOf (take (t .cycles) (a .cycles)) (a .steps)))
+  module _ (j : ℕ) (ej : j ≡ lonePlace v (cyclesFrom (take (t .cycles) (a .cycles)) (a .steps)))
       (h : Held) (eh : h ≡ holding (take (a .count) (a .counts)) j) where
     held : Found v 0 (sheetOf (heldBy a) .cells) h
     held = here (heldBy a) (ready-sizes a t y) (ready-drawing a t y) v e (rowsBy a) (ready-indexes a t y) (t .cycles) sum-is j ej h eh
@@ -63,7 +58,7 @@ module _ (a : Arrays) (t : Totals) (y : Ready a t) (v : ℕ) (e : uncutCase (she
     pub row-few : h .row < 256
     row-few = omega (arith, row-in, ready-fits a t y .cells)
 
-    pub counted : Counted (a .counts) (a .cycles) (h .row) t
+    pub counted : RowCounted (a .counts) (a .cycles) (h .row) t
     counted = ready-counted a t y (h .row) row-in
 
     -- the face, and where its cycles stand

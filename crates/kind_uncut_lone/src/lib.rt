@@ -6,14 +6,14 @@ ghost use Rattle.complex.specs.Decode.{uncut};
 ghost use Rattle.complex.specs.Uncut.{lonely, uncutCase};
 ghost use Rattle.complex.specs.Sound.{cyclesMost, stepsMost};
 ghost use Rattle.store.specs.View.{sheetOf};
-ghost use Rattle.cycles.specs.Building.{Built};
-ghost use Rattle.outline.specs.Faces.{Within, cyclesAt};
+ghost use Rattle.rows_spans.specs.Building.{Built};
+ghost use Rattle.rows_corners.specs.Faces.{Within, cyclesAt};
 ghost use Rattle.lent.specs.Arrays.{heldBy, lent, entry, exit};
 ghost use Rattle.lent.specs.Replies.{Ready, Obeyed};
 use answer::Totals;
-use cycles::Spans;
-use cycles::Used;
 use lent::Line;
+use rows_spans::Spans;
+use rows_spans::Used;
 
 // The cycles that stand at s, but for cycle c.
 fn all_but(
@@ -21,8 +21,8 @@ fn all_but(
     steps: &[u32; 2048],
     s: Spans,
     c: usize,
-    numbers: &mut [u32; 512],
-    places: &mut [u32; 2048],
+    numbers: &mut [u32],
+    places: &mut [u32],
 ) -> Used
     requires { ⌜ Within (now cycles) (now steps) s ⌝ }
     requires { ⌜ c < s .cycles .count ⌝ }
@@ -76,8 +76,8 @@ pub fn lonely(
 {
     let n = *count;
     let id = *next;
-    let j = uncut_lone::lone_place(cycles, t.cycles, steps, v);
-    let h = uncut_lone::row_holding(counts, n, j);
+    let j = ask_uncut_lone::lone_place(cycles, t.cycles, steps, v);
+    let h = ask_uncut_lone::row_holding(counts, n, j);
     let row = h.row;
     let f = ids[row];
     let s = kernel_cycles::spans_at(counts, cycles, row, t);

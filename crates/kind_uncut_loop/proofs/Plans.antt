@@ -1,5 +1,5 @@
 -- What is found before a loop's vertex goes. Assumes nothing.
-use Prim.Native.Nat.{ℕ, _+_, _-_, _<_, _≤_}
+use Prim.Native.Nat.{ℕ, _+_, _≤_}
 use native.Mathlib.Omega.{arith}
 use mathlib.Core.Path.{_≡_, refl, sym, ap, _∙_, subst}
 use mathlib.Core.Bool.{Bool, true, false, _&&_, cond}
@@ -8,35 +8,35 @@ use lib.Dec.{T, leb, leb→le}
 use lib.ListN.{length, getD, take}
 use Rattle.coordinate.specs.declared.Position.{Position}
 use Rattle.complex.specs.Lists.{total}
-use Rattle.complex.specs.Cells.{Figure, vertex, openEdge, closedEdge, face, cellAt, isOpen, isVertex, isLive, bendsOf, cyclesOf}
+use Rattle.complex.specs.Cells.{Figure, vertex, openEdge, closedEdge, face, cellAt, isOpen, isVertex, bendsOf, cyclesOf}
 use Rattle.complex.specs.Sound.{idsEnd, cellsMost, cyclesMost, stepsMost, bendsMost}
 use Rattle.complex.specs.Decode.{uncut}
 use Rattle.complex.specs.Uncut.{loop, uncutCase}
 use Rattle.complex.specs.Commands.{result}
-use Rattle.complex.specs.Answer.{no, asked3}
+use Rattle.complex.specs.Answer.{no}
 use Rattle.complex.proofs.Bools.{both}
 use Rattle.complex.proofs.Asked.{answered-no}
 use Rattle.store.specs.Index.{rowOf}
 use Rattle.store.specs.View.{sheetOf}
 use Rattle.store.specs.Edits.{placesOf}
 use Rattle.answer.specs.declared.Totals.{Totals}
-use Rattle.answer.specs.Sizes.{Sizes, sized, moreLess, changedBy, sizesFit}
+use Rattle.answer.specs.Sizes.{SheetSizes, sized, moreLess, changedBy, sizesFit}
 use Rattle.answer.specs.Late.{sizesBy, lateNo}
 use Rattle.answer.proofs.Asked.{Asked, answer}
-use Rattle.dropping.proofs.Dropped.{live-below}
-use Rattle.cut.proofs.Found.{read-row}
-use Rattle.uncut_vertex.proofs.Told.{AtLoop}
-use Rattle.uncut_vertex.proofs.Answering.{loop-asked, loop-live, looped-needs}
+use Rattle.rows_gone.proofs.Dropped.{live-below}
+use Rattle.ask_cut_edge.proofs.Found.{read-row}
+use Rattle.ask_uncut_vertex.proofs.Told.{AtLoop}
+use Rattle.ask_uncut_vertex.proofs.Answering.{loop-asked, loop-live, looped-needs}
 use Rattle.lent.specs.Arrays.{Arrays, positionIn, heldBy, rowsBy}
 use Rattle.lent.specs.Replies.{Ready}
 use Rattle.lent.proofs.Sums.{ready-drawing, ready-sizes, ready-indexes, ready-totals, ready-looks}
-use Rattle.kernel_keep.specs.Keeps.{EdgeRow, BareRow}
-use Rattle.kind_cut_edge.proofs.Plans.{end-place}
+use Rattle.kernel_drop.specs.Gone.{EdgeRow, BareRow}
+use Rattle.kind_cut_plan.proofs.OpenPlans.{end-place}
 use Rattle.kind_uncut_loop.specs.declared.Plan.{Plan}
-use Rattle.kind_uncut_loop.specs.Uncutting.{Goes, Planned}
+use Rattle.kind_uncut_loop.specs.Uncutting.{LoopPlanned}
 
 -- questions 7 and 8 got a yes: the bends keep their ceiling
-late-bends : (next new : ℕ) (z : Sizes) → lateNo next new z ≡ 0 → z .bends ≤ 2048
+late-bends : (next new : ℕ) (z : SheetSizes) → lateNo next new z ≡ 0 → z .bends ≤ 2048
 late-bends next new z = go (leb (next + new) idsEnd) (sizesFit z) refl
   where
     go : (i k : Bool) → sizesFit z ≡ k → _≡_ {A = ℕ} (cond i (cond k 0 8) 7) 0 → z .bends ≤ 2048
@@ -63,7 +63,7 @@ module _ (a : Arrays) (t : Totals) (y : Ready a t) (v e : ℕ) (h : uncutCase (s
     says : Asked (heldBy a) (uncut v) r
     says = loop-asked (heldBy a) (ready-sizes a t y) (ready-drawing a t y) v e h (rowsBy a) (ready-indexes a t y) t (ready-totals a t y) r er
 
-    pub planned-no : (q : Plan) → q .no ≡ r → (r ≡ 0 → ⊥) → Planned a t v e q
+    pub planned-no : (q : Plan) → q .no ≡ r → (r ≡ 0 → ⊥) → LoopPlanned a t v e q
     planned-no q en nz =
         record {
           refused =
@@ -108,7 +108,7 @@ module _ (a : Arrays) (t : Totals) (y : Ready a t) (v e : ℕ) (h : uncutCase (s
             all = ap (λ (u : Totals). u .bends) (y .sums);
           }
 
-      pub planned : Planned a t v e (record { no = 0; vertex = rv; row = re; base = base; m = m; p = p })
+      pub planned : LoopPlanned a t v e (record { no = 0; vertex = rv; row = re; base = base; m = m; p = p })
       planned =
           record {
             refused = λ i. absurd (i refl);

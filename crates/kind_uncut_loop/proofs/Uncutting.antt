@@ -2,31 +2,29 @@
 use Prim.Native.Nat.{ℕ, suc, _+_, _-_, _<_, _≤_}
 use native.Mathlib.Omega.{arith}
 use mathlib.Core.Path.{_≡_, refl, sym, ap, _∙_, subst}
-use mathlib.Core.Bool.{true, false, cond}
-use mathlib.Core.List.{List, [], _∷_}
-use lib.Dec.{T, eqb}
-use lib.ListN.{length, set, take, replicate}
+use mathlib.Core.Bool.{true, false}
+use mathlib.Core.List.{List, _∷_}
+use lib.ListN.{set, replicate}
 use Rattle.coordinate.specs.declared.Position.{Position}
-use Rattle.complex.specs.Cells.{Figure, closedEdge, Sheet}
+use Rattle.complex.specs.Cells.{Figure, closedEdge}
 use Rattle.complex.specs.Edits.{reshape, rewired, sameVertex, neither, inPlaceOf}
 use Rattle.complex.specs.Decode.{uncut}
 use Rattle.complex.specs.Uncut.{loop, uncutCase}
 use Rattle.complex.specs.Commands.{result}
-use Rattle.store.specs.declared.Drawing.{Drawing}
 use Rattle.store.specs.View.{sheetOf, Fits, bendTotal}
 use Rattle.store.specs.Edits.{appended, withEntries}
 use Rattle.store.proofs.Grow.{next-is}
-use Rattle.append.specs.Runs.{run}
-use Rattle.append.specs.Appends.{remade, Room}
-use Rattle.append.proofs.RunLists.{run-length}
+use Rattle.rows_new.specs.Runs.{runAt}
+use Rattle.rows_new.specs.Appends.{remade, CellRoom}
+use Rattle.rows_new.proofs.RunLists.{run-length}
 use Rattle.answer.specs.declared.Totals.{Totals}
-use Rattle.answer.specs.Answers.{outcome}
 use Rattle.answer.proofs.Asked.{answers}
-use Rattle.dropping.proofs.Both.{dropped-both}
-use Rattle.rewire.specs.Swap.{oneFor}
-use Rattle.rewire.specs.declared.Swap.{Swap}
-use Rattle.uncut_case.proofs.Passing.{uncut-result}
-use Rattle.uncut_vertex.proofs.Joining.{loopRuns, loop-room, loop-result}
+use Rattle.rows_gone.proofs.Both.{dropped-both}
+use Rattle.rows_steps.specs.Swap.{oneFor}
+use Rattle.rows_steps.specs.declared.Swap.{Swap}
+use Rattle.law_uncut.proofs.Passing.{uncut-result}
+use Rattle.ask_uncut_vertex.proofs.Answering.{new-outcome}
+use Rattle.ask_uncut_vertex.proofs.Joining.{loop-room, loop-result}
 use Rattle.lent.specs.Arrays.{Arrays, positionsIn, heldBy, Lengths}
 use Rattle.lent.specs.declared.Line.{Line}
 use Rattle.lent.specs.Replies.{answerBy, Ready, Obeyed}
@@ -37,17 +35,10 @@ use Rattle.lent.proofs.Grown.{closed-long, closed-normal, closed-comes}
 use Rattle.kernel_swap.specs.Swaps.{SwappedIn}
 use Rattle.kernel_swap.proofs.Lent.{withPools}
 use Rattle.kernel_swap.proofs.Asking.{one-swapped}
-use Rattle.kernel_keep.specs.Keeps.{EdgeRow, BareRow, PairGone}
-use Rattle.kernel_keep.proofs.Gone.{row-range}
+use Rattle.kernel_drop.specs.Gone.{EdgeRow, BareRow, PairGone}
+use Rattle.kernel_drop.proofs.Gone.{row-range}
 use Rattle.kind_uncut_loop.specs.declared.Plan.{Plan}
-use Rattle.kind_uncut_loop.specs.Uncutting.{Goes}
-
-new-outcome : (next n k : ℕ) (out : Drawing) → out .next ≡ next + 1 → out .count ≡ k + 1
-    → record { number = 0; first = next; new = 1; removed = n - k; drawing = out } ≡ outcome next n out
-new-outcome next n k out e f =
-    let g : 1 ≡ out .next - next = omega (arith, e) in
-    let h : n - k ≡ n + (out .next - next) - out .count = omega (arith, e, f) in
-    λ i. record { number = 0; first = cond (eqb (g i) 0) 0 next; new = g i; removed = h i; drawing = out }
+use Rattle.kind_uncut_loop.specs.Uncutting.{LoopGoes}
 
 more-one : (n m : ℕ) → n ≡ m → suc n ≡ m + 1
 more-one n m e = omega (arith, e)
@@ -76,7 +67,7 @@ closed-row b o k en ec ei ek es ee eb ey ex eu eq et ef eg =
       by = eg i;
     }
 
-module _ (a : Arrays) (t : Totals) (y : Ready a t) (v e : ℕ) (h : uncutCase (sheetOf (heldBy a)) v ≡ loop e) (r : Plan) (g : Goes a t v e r) where
+module _ (a : Arrays) (t : Totals) (y : Ready a t) (v e : ℕ) (h : uncutCase (sheetOf (heldBy a)) v ≡ loop e) (r : Plan) (g : LoopGoes a t v e r) where
   pub bends-in : (r .base + r .m ≤ t .bends) × (t .bends ≤ 2048)
   bends-in = row-range a (y .long) (ready-fits a t y) (ready-rows a t y) (r .row) (r .base) (r .m) (t .bends) (g .edge)
 
@@ -104,9 +95,9 @@ module _ (a : Arrays) (t : Totals) (y : Ready a t) (v e : ℕ) (h : uncutCase (s
 
       -- the new edge's bends
       abbrev round : List Position
-      round = r .p ∷ run (r .base) (r .m) (heldBy a .bends)
+      round = r .p ∷ runAt (r .base) (r .m) (heldBy a .bends)
 
-      room : Room (heldBy b) (closedEdge round)
+      room : CellRoom (heldBy b) (closedEdge round)
       room =
           loop-room (heldBy a) (ready-sizes a t y) v (r .vertex) e (r .row) (r .p) (r .base) (r .m) (g .looped) (heldBy b) (held-sizes b (gone .long))
           (gone .keeps .fits) left .room
@@ -124,7 +115,7 @@ module _ (a : Arrays) (t : Totals) (y : Ready a t) (v e : ℕ) (h : uncutCase (s
       came =
           closed-comes b (gone .long) (r .m + 1) round room
           (more-one _ (r .m) (run-length (r .base) (r .m) (heldBy a .bends) (omega (arith, bends-in .0, bends-in .1, ready-sizes a t y .bends))))
-          (ap (λ (n : ℕ). run n (r .m + 1) (positionsIn (b .bx) (b .by))) used ∙ gone .bends)
+          (ap (λ (n : ℕ). runAt n (r .m + 1) (positionsIn (b .bx) (b .by))) used ∙ gone .bends)
 
       made : sheetOf (heldBy out) ≡ result (sheetOf (heldBy a)) (uncut v)
       made =
@@ -141,7 +132,7 @@ module _ (a : Arrays) (t : Totals) (y : Ready a t) (v e : ℕ) (h : uncutCase (s
             answers =
                 answers (heldBy a) (ready-sizes a t y) (ready-drawing a t y) (uncut v) 0 (g .asked) refl (heldBy out) (held-sizes out long) (came .1) made
                 (answerBy k (heldBy out))
-                (ap (λ (u : Line). answerBy u (heldBy out)) ek ∙ new-outcome (a .next) (a .count) (b .count) (heldBy out) (ap (λ (n : ℕ). n + 1) en) refl);
+                (ap (λ (u : Line). answerBy u (heldBy out)) ek ∙ new-outcome (a .next) (a .count) _ (heldBy out) (ap (λ (n : ℕ). n + 1) en) (omega arith));
             back = λ n. absurd (n (ap (λ (u : Line). u .number) ek));
             rows = closed-normal b (gone .long) (r .m + 1) (room .cells) (gone .keeps .rows);
           }

@@ -4,7 +4,7 @@ ghost use Rattle.complex.specs.Uncut.{loop, uncutCase};
 ghost use Rattle.store.specs.View.{sheetOf};
 ghost use Rattle.lent.specs.Arrays.{heldBy, lent, entry, exit};
 ghost use Rattle.lent.specs.Replies.{Ready, Obeyed};
-ghost use Rattle.kind_uncut_loop.specs.Uncutting.{Planned};
+ghost use Rattle.kind_uncut_loop.specs.Uncutting.{LoopPlanned};
 use answer::Totals;
 use coordinate::Position;
 use lent::Line;
@@ -42,9 +42,9 @@ fn loop_plan(
 ) -> Plan
     requires { ⌜ Ready (lent next count ids kinds starts ends bends counts px py cycles steps bx by) t ⌝ }
     requires { ⌜ uncutCase (sheetOf (heldBy (lent next count ids kinds starts ends bends counts px py cycles steps bx by))) v ≡ loop e ⌝ }
-    ensures { λ r. ⌜ Planned (entry next count ids kinds starts ends bends counts px py cycles steps bx by) t v e r ⌝ }
+    ensures { λ r. ⌜ LoopPlanned (entry next count ids kinds starts ends bends counts px py cycles steps bx by) t v e r ⌝ }
 {
-    let no = uncut_vertex::bend_no(next, t, 1, 0);
+    let no = ask_uncut_vertex::bend_no(next, t, 1);
     if no != 0 {
         return Plan {
             no,
@@ -58,7 +58,7 @@ fn loop_plan(
     let vertex = store::find(ids, count, v);
     let row = store::find(ids, count, e);
     let p = lent::vertex_at(px, py, vertex);
-    let base = cycles::bend_start(bends, row);
+    let base = rows_spans::bend_start(bends, row);
     let m = store::wide(bends[row]);
     Plan {
         no: 0,
@@ -120,7 +120,7 @@ pub fn looped(
     if no != 0 {
         return lent::line_of(no);
     }
-    let w = rewire::one_for(e, id, false);
+    let w = rows_steps::one_for(e, id, false);
     kernel_swap::swap_steps(
         id,
         n,
@@ -142,7 +142,7 @@ pub fn looped(
         w,
     );
     let m = c.m;
-    let k = kernel_keep::drop_pair(
+    let k = kernel_drop::drop_pair(
         id,
         n,
         ids,

@@ -3,8 +3,8 @@ ghost use Rattle.complex.specs.Decode.{unglue as ungluing};
 ghost use Rattle.lent.specs.Arrays.{lent, entry, exit};
 ghost use Rattle.lent.specs.Replies.{Ready, Obeyed};
 use answer::Totals;
-use copies::Use;
 use lent::Line;
+use rows_uses::Use;
 
 // 09: question 4, then by the kind of the cell.
 pub fn unglue(

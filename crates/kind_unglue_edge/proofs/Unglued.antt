@@ -15,20 +15,20 @@ use Rattle.answer.specs.Sizes.{sized, nothing, moreLess, changedBy}
 use Rattle.store.specs.declared.Drawing.{Drawing}
 use Rattle.store.specs.Index.{Indexes, rowOf}
 use Rattle.store.specs.Sizes.{Sizes}
-use Rattle.store.specs.View.{sheetOf, cyclesOf}
+use Rattle.store.specs.View.{sheetOf, cyclesFrom}
 use Rattle.sound.specs.Soundness.{soundDrawing}
-use Rattle.sound.specs.Looks.{told}
+use Rattle.sound.specs.Looks.{indexValue}
 use Rattle.sound.proofs.Meaning.{sound-fits, live-row}
-use Rattle.append.specs.Requirements.{CopiesRoom}
+use Rattle.rows_new.specs.Requirements.{CopiesRoom}
 use Rattle.answer.specs.declared.Answer.{Answer}
 use Rattle.answer.specs.declared.Totals.{Totals}
 use Rattle.answer.specs.Answers.{refusal, Answers}
 use Rattle.answer.specs.Late.{sizesBy, lateNo}
-use Rattle.copies.specs.declared.Use.{Use}
-use Rattle.copies.specs.declared.Use.the-variants.{Step, Ring, Lone}
-use Rattle.copies.specs.Copying.{usesIn}
-use Rattle.unglue.specs.Unglues.{hasUses}
-use Rattle.unglue.proofs.Edge as edge
+use Rattle.rows_uses.specs.declared.Use.{Use}
+use Rattle.rows_uses.specs.declared.Use.the-variants.{Step, Ring, Lone}
+use Rattle.rows_uses.specs.Uses.{usesIn}
+use Rattle.ask_unglue.specs.Unglues.{hasUses}
+use Rattle.ask_unglue.proofs.Edge as edge
 use Rattle.lent.specs.Arrays.{Arrays, heldBy, rowsBy}
 use Rattle.lent.specs.declared.Line.{Line}
 use Rattle.lent.specs.Replies.{lineOf, answerBy, Ready, Obeyed}
@@ -63,7 +63,7 @@ module _ (u : Use) (a : Arrays) (t : Totals) (r : Ready a t) (e : ℕ) (h : T (h
   refused n l el f =
       record { answers = f (answerBy l (heldBy a)) (ap (λ (k : Line). answerBy k (heldBy a)) el); back = λ g. refl; rows = rows-of a (r .sound) }
 
-  module _ (n : ℕ) (en : n ≡ total (usesIn u e) (cyclesOf (take (t .cycles) (a .cycles)) (a .steps))) where
+  module _ (n : ℕ) (en : n ≡ total (usesIn u e) (cyclesFrom (take (t .cycles) (a .cycles)) (a .steps))) where
     pub few-parts : n ≤ 2048
     few-parts = edge.few-parts u d z w (rowsBy a) x e h t (r .sums) n en
 
@@ -77,7 +77,7 @@ module _ (u : Use) (a : Arrays) (t : Totals) (r : Ready a t) (e : ℕ) (h : T (h
           (ap (λ (i : ℕ). ltb i (a .count)) er ∙ live-row d z (sound-fits d w) (rowsBy a) x e ∙ uses-live u (cellAt (sheetOf d) e) h)
 
       module _ (b : ℕ) (eb : b ≡ getD (a .bends) row 0) where
-        bends-told : b ≡ told 0 (heldBy a) (rowsBy a) (a .bends) e
+        bends-told : b ≡ indexValue 0 (heldBy a) (rowsBy a) (a .bends) e
         bends-told = eb ∙ sym (getD-take (a .count) (a .bends) row 0 row-in) ∙ ap (λ (i : ℕ). getD (take (a .count) (a .bends)) i 0) er
 
         pub bends-small : b ≤ 2048

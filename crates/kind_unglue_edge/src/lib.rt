@@ -2,12 +2,12 @@ ghost use lib.Dec.{T};
 ghost use Rattle.complex.specs.Cells.{cellAt};
 ghost use Rattle.complex.specs.Decode.{unglue as ungluing};
 ghost use Rattle.store.specs.View.{sheetOf};
-ghost use Rattle.unglue.specs.Unglues.{hasUses};
+ghost use Rattle.ask_unglue.specs.Unglues.{hasUses};
 ghost use Rattle.lent.specs.Arrays.{heldBy, lent, entry, exit};
 ghost use Rattle.lent.specs.Replies.{Ready, Obeyed};
 use answer::Totals;
-use copies::Use;
 use lent::Line;
+use rows_uses::Use;
 
 // 09, of an open edge by its steps or of a closed edge by its cycles: a copy for each use but the first.
 pub fn unglue_edge(
@@ -36,14 +36,14 @@ pub fn unglue_edge(
     let n = *count;
     let id = *next;
     let m = t.cycles;
-    let parts = copies::count_uses(u, cycles, m, steps, e);
+    let parts = rows_uses::count_uses(u, cycles, m, steps, e);
     if parts < 2 {
         return lent::line_of(6);
     }
     let more = parts - 1;
     let row = store::find(ids, n, e);
     let b = store::wide(bends[row]);
-    let no = unglue::late_copies(id, t, b, more);
+    let no = ask_unglue::late_copies(id, t, b, more);
     if no != 0 {
         return lent::line_of(no);
     }

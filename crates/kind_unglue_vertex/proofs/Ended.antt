@@ -16,13 +16,14 @@ use Rattle.store.specs.declared.Shape.{Shape}
 use Rattle.store.specs.declared.Cell.{Cell}
 use Rattle.store.specs.View.{sheetOf, Fits, cycleTotal}
 use Rattle.store.specs.Edits.{withEntries}
-use Rattle.rewire.specs.Ends.{reEnded, endedShape, endedCells}
-use Rattle.rewire.proofs.Placed.{ended-is}
+use Rattle.rows_steps.specs.Ends.{reEnded, endedShape, endedCells}
+use Rattle.rows_steps.proofs.Placed.{ended-is}
 use Rattle.sound.proofs.Meaning.{sound-fits}
 use Rattle.answer.specs.declared.Totals.{Totals}
-use Rattle.copies.specs.declared.Use.the-variants.{Lone}
-use Rattle.unglue.specs.Places.{endOf, EndMarks, NewEnds, GroupedEnds}
-use Rattle.unglue.proofs.Vertex.{mid-rises, parted}
+use Rattle.rows_uses.specs.declared.Use.the-variants.{Lone}
+use Rattle.rows_ends.specs.Ends.{endAfter, EndMarks, NewEnds}
+use Rattle.ask_unglue.specs.Places.{GroupedEnds}
+use Rattle.ask_unglue.proofs.Vertex.{mid-rises, parted}
 use Rattle.lent.specs.Arrays.{Arrays, shapeBy, shapeAt, positionIn, cellsBy, heldBy, rowsBy, rowNormal, normalAt, normal, Lengths}
 use Rattle.lent.specs.Replies.{Ready}
 use Rattle.lent.proofs.Held.{all-at, all-intro, held-sizes, held-indexes}
@@ -68,8 +69,8 @@ module _ (a : Arrays) (v next : ℕ) (at : List Bool) (G : List ℕ) (M : EndMar
           let z : j * 2 + 0 ≡ j * 2 = omega arith in
           let ms : getD at (j * 2 + 0) false ≡ false = ap (λ (p : ℕ). getD at p false) z ∙ M .start j h ∙ ap (λ (t : Bool). t && eqb (getD (a .starts) j 0) v) q in
           let me : getD at (j * 2 + 1) false ≡ false = M .end j h ∙ ap (λ (t : Bool). t && eqb (getD (a .ends) j 0) v) q in
-          let s = A .changed j h ∙ ap (λ (t : Bool). endOf t (getD G (j * 2 + 0) 0) (getD (a .starts) j 0) v next) ms in
-          let e = B .changed j h ∙ ap (λ (t : Bool). endOf t (getD G (j * 2 + 1) 0) (getD (a .ends) j 0) v next) me in
+          let s = A .changed j h ∙ ap (λ (t : Bool). endAfter t (getD G (j * 2 + 0) 0) (getD (a .starts) j 0) v next) ms in
+          let e = B .changed j h ∙ ap (λ (t : Bool). endAfter t (getD G (j * 2 + 1) 0) (getD (a .ends) j 0) v next) me in
           ap₂ (λ (x y : ℕ). rowNormal (getD (a .kinds) j 0) x y (getD (a .bends) j 0) (getD (a .counts) j 0)) s e
 
   pub ends-normal : normal a ≡ true → normal (withEnds a ss es) ≡ true

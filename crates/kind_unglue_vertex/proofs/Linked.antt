@@ -5,13 +5,13 @@ use mathlib.Core.Path.{_≡_, sym, ap, _∙_}
 use lib.ListN.{length, take}
 use Rattle.store.specs.View.{widthSum}
 use Rattle.answer.specs.declared.Totals.{Totals}
-use Rattle.unglue.specs.Places.{Rows}
+use Rattle.rows_links.specs.Links.{IdRows}
 use Rattle.lent.specs.Arrays.{Arrays}
 use Rattle.lent.specs.Replies.{Ready}
 use Rattle.lent.proofs.Sums.{ready-fits, ready-looks, ready-cycles, ready-steps}
 
 module _ (a : Arrays) (t : Totals) (r : Ready a t) where
-  pub linked-rows : Rows (a .ids) (a .count)
+  pub linked-rows : IdRows (a .ids) (a .count)
   linked-rows = record { few = ready-fits a t r .cells; size = r .long .ids; rising = ready-looks a t r .rising }
 
   pub linked-cycles : t .cycles ≤ length (a .cycles)

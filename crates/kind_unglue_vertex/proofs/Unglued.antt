@@ -12,16 +12,16 @@ use Rattle.answer.specs.Sizes.{sized, nothing, moreLess, changedBy}
 use Rattle.store.specs.declared.Drawing.{Drawing}
 use Rattle.store.specs.Index.{Indexes, rowOf}
 use Rattle.store.specs.Sizes.{Sizes}
-use Rattle.store.specs.View.{sheetOf, cyclesOf, bendTotal}
+use Rattle.store.specs.View.{sheetOf, cyclesFrom, bendTotal}
 use Rattle.sound.specs.Soundness.{soundDrawing}
-use Rattle.append.specs.Requirements.{CopiesRoom}
+use Rattle.rows_new.specs.Requirements.{CopiesRoom}
 use Rattle.answer.specs.declared.Answer.{Answer}
 use Rattle.answer.specs.declared.Totals.{Totals}
 use Rattle.answer.specs.Answers.{refusal, Answers}
 use Rattle.answer.specs.Late.{sizesBy, lateNo}
-use Rattle.copies.specs.declared.Use.the-variants.{Lone}
-use Rattle.copies.specs.Copying.{usesIn}
-use Rattle.unglue.proofs.Parts as parts
+use Rattle.rows_uses.specs.declared.Use.the-variants.{Lone}
+use Rattle.rows_uses.specs.Uses.{usesIn}
+use Rattle.ask_unglue.proofs.Parts as parts
 use Rattle.lent.specs.Arrays.{Arrays, heldBy, rowsBy, totalsOf}
 use Rattle.lent.specs.declared.Line.{Line}
 use Rattle.lent.specs.Replies.{lineOf, answerBy, Ready, Obeyed}
@@ -33,7 +33,7 @@ use Rattle.kernel_copies.proofs.Coming.{more-outcome}
 use Rattle.kind_unglue_vertex.specs.Parts.{Parted}
 
 module _ (a : Arrays) (t : Totals) (r : Ready a t) (v : ℕ) (tv : T (isVertex (cellAt (sheetOf (heldBy a)) v))) (g : ℕ) (eg : g ≡ length (groups (sheetOf (heldBy a) .cells) v)) (k : ℕ) (ek : k ≡ g)
-    (b : ℕ) (eb : b ≡ total (usesIn Lone v) (cyclesOf (take (t .cycles) (a .cycles)) (a .steps))) where
+    (b : ℕ) (eb : b ≡ total (usesIn Lone v) (cyclesFrom (take (t .cycles) (a .cycles)) (a .steps))) where
   abbrev d : Drawing
   d = heldBy a
 

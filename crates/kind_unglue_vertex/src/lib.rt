@@ -5,13 +5,13 @@ ghost use lib.ListN.{length};
 ghost use Rattle.complex.specs.Cells.{cellAt, isVertex};
 ghost use Rattle.complex.specs.Decode.{unglue as ungluing};
 ghost use Rattle.store.specs.View.{sheetOf};
-ghost use Rattle.unglue.specs.Places.{GroupedEnds, Fresh};
+ghost use Rattle.ask_unglue.specs.Places.{GroupedEnds, Fresh};
 ghost use Rattle.lent.specs.Arrays.{heldBy, rowsBy, lent, entry, exit};
 ghost use Rattle.lent.specs.Replies.{Ready, Obeyed};
 ghost use Rattle.kind_unglue_vertex.specs.Parts.{Parted};
 use answer::Totals;
-use copies::Use;
 use lent::Line;
+use rows_uses::Use;
 
 // The groups of the ends at vertex v, and how many there are. Room for the links is made as long as the steps ask for.
 fn group_ends(
@@ -40,17 +40,17 @@ fn group_ends(
     ensures { λ r. ⌜ GroupedEnds (heldBy (entry next count ids kinds starts ends bends counts px py cycles steps bx by)) (rowsBy (entry next count ids kinds starts ends bends counts px py cycles steps bx by)) v r (now (at .exit)) (now (groups .exit)) ⌝ }
     ensures { λ r. ⌜ r ≤ 512 ⌝ }
 {
-    unglue::mark_ends(kinds, starts, ends, count, v, at);
+    rows_ends::mark_ends(kinds, starts, ends, count, v, at);
     if t.steps <= 256 {
         let mut xs = [0u32; 256];
         let mut ys = [0u32; 256];
-        let k = unglue::find_links(ids, count, at, cycles, t.cycles, steps, &mut xs, &mut ys);
-        return unglue::find_groups(groups, at, &xs, &ys, k, count * 2);
+        let k = rows_links::find_links(ids, count, at, cycles, t.cycles, steps, &mut xs, &mut ys);
+        return rows_groups::find_groups(groups, at, &xs, &ys, k, count * 2);
     }
     let mut xs = [0u32; 2048];
     let mut ys = [0u32; 2048];
-    let k = unglue::find_links(ids, count, at, cycles, t.cycles, steps, &mut xs, &mut ys);
-    unglue::find_groups(groups, at, &xs, &ys, k, count * 2)
+    let k = rows_links::find_links(ids, count, at, cycles, t.cycles, steps, &mut xs, &mut ys);
+    rows_groups::find_groups(groups, at, &xs, &ys, k, count * 2)
 }
 
 // The ends at v and the lone cycles of v become its copies.
@@ -81,8 +81,8 @@ fn part_ends(
     requires { ⌜ (g ≤ 512) × (length (now at) ≡ 512) × (length (now groups) ≡ 512) ⌝ }
     ensures { λ _. ⌜ Parted (entry next count ids kinds starts ends bends counts px py cycles steps bx by) v (exit next count ids kinds starts ends bends counts px py cycles steps bx by) ⌝ }
 {
-    unglue::new_ends(0, at, groups, count, v, next, starts);
-    unglue::new_ends(1, at, groups, count, v, next, ends);
+    rows_ends::new_ends(0, at, groups, count, v, next, starts);
+    rows_ends::new_ends(1, at, groups, count, v, next, ends);
     kernel_copies::copy_uses(
         Use::Lone,
         next,
@@ -152,13 +152,13 @@ pub fn unglue_vertex(
         &mut at,
         &mut groups,
     );
-    let lone = copies::count_uses(Use::Lone, cycles, t.cycles, steps, v);
+    let lone = rows_uses::count_uses(Use::Lone, cycles, t.cycles, steps, v);
     let parts = store::wide(g) + lone;
     if parts < 2 {
         return lent::line_of(6);
     }
     let more = parts - 1;
-    let no = unglue::late_copies(id, t, 0, more);
+    let no = ask_unglue::late_copies(id, t, 0, more);
     if no != 0 {
         return lent::line_of(no);
     }

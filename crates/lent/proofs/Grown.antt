@@ -21,12 +21,12 @@ use Rattle.store.specs.declared.Drawing.{Drawing}
 use Rattle.store.specs.View.{sheetOf, Fits, bendTotal, bendCount, cycleTotal, cycleCount, stepTotal}
 use Rattle.store.specs.Sizes.{Sizes}
 use Rattle.store.specs.Sheet.{allReal}
-use Rattle.store.specs.Places.{shapeOf, cyclesIn, bendsIn, numOf, stepsIn}
+use Rattle.store.specs.Places.{shapeOf, figureCycles, figureBends, numOf, cycleWords}
 use Rattle.store.specs.Edits.{withCells, appended}
 use Rattle.store.proofs.Grow.{append, append-edge, no-more}
 use Rattle.store.proofs.Lists.{sum-append}
-use Rattle.append.specs.Appends.{withCell, Room}
-use Rattle.append.specs.Runs.{run}
+use Rattle.rows_new.specs.Appends.{withCell, CellRoom}
+use Rattle.rows_new.specs.Runs.{runAt}
 use Rattle.lent.specs.Arrays.{Arrays, shapeBy, shapeAt, positionIn, positionsIn, heldBy, rowNormal, normalAt, normal, Lengths}
 use Rattle.lent.specs.Growing.{withRow, withVertex, withOpen, withClosed, withFace}
 use Rattle.lent.proofs.Held.{held-sizes, cells-set, all-at, all-intro, place-other, place-same}
@@ -153,7 +153,7 @@ module _ (a : Arrays) (l : Lengths a) (p : Position) where
     pub vertex-cycles : cycleTotal (heldBy (withVertex a p)) ≡ cycleTotal (heldBy a)
     vertex-cycles = ap cycleTotal vertex-held ∙ cycle-more (heldBy a) (held-sizes a l) h (Vertex p) ∙ omega arith
 
-  pub vertex-comes : Room (heldBy a) (vertex p) → (sheetOf (heldBy (withVertex a p)) ≡ appended (sheetOf (heldBy a)) (vertex p)) × Fits (heldBy (withVertex a p))
+  pub vertex-comes : CellRoom (heldBy a) (vertex p) → (sheetOf (heldBy (withVertex a p)) ≡ appended (sheetOf (heldBy a)) (vertex p)) × Fits (heldBy (withVertex a p))
   vertex-comes m =
       let d = heldBy a in
       let s = held-sizes a l in
@@ -162,7 +162,7 @@ module _ (a : Arrays) (l : Lengths a) (p : Position) where
       (ap sheetOf e ∙ g .0, subst Fits (sym e) (g .1))
 
 -- ---- an edge: its k bends are those that stand after those in use
-after-use : (d : Drawing) (bs : List Position) (k : ℕ) → length bs ≡ k → run (bendTotal d) k (d .bends) ≡ bs → take (bendTotal d + length bs) (d .bends) ≡ take (bendTotal d) (d .bends) ++ bs
+after-use : (d : Drawing) (bs : List Position) (k : ℕ) → length bs ≡ k → runAt (bendTotal d) k (d .bends) ≡ bs → take (bendTotal d + length bs) (d .bends) ≡ take (bendTotal d) (d .bends) ++ bs
 after-use d bs k lk eb =
     ap (λ (n : ℕ). take (bendTotal d + n) (d .bends)) lk ∙ take-add (bendTotal d) k (d .bends) ∙ ap (λ (q : List Position). take (bendTotal d) (d .bends) ++ q) eb
 
@@ -183,7 +183,7 @@ module _ (a : Arrays) (l : Lengths a) (s e k : ℕ) where
     pub open-cycles : cycleTotal (heldBy (withOpen a s e k)) ≡ cycleTotal (heldBy a)
     open-cycles = ap cycleTotal open-held ∙ cycle-more (heldBy a) (held-sizes a l) h (Open s e k) ∙ omega arith
 
-  pub open-comes : (bs : List Position) → Room (heldBy a) (openEdge s e bs) → length bs ≡ k → run (bendTotal (heldBy a)) k (positionsIn (a .bx) (a .by)) ≡ bs
+  pub open-comes : (bs : List Position) → CellRoom (heldBy a) (openEdge s e bs) → length bs ≡ k → runAt (bendTotal (heldBy a)) k (positionsIn (a .bx) (a .by)) ≡ bs
       → (sheetOf (heldBy (withOpen a s e k)) ≡ appended (sheetOf (heldBy a)) (openEdge s e bs)) × Fits (heldBy (withOpen a s e k))
   open-comes bs m lk eb =
       let d = heldBy a in
@@ -209,7 +209,7 @@ module _ (a : Arrays) (l : Lengths a) (k : ℕ) where
     pub closed-cycles : cycleTotal (heldBy (withClosed a k)) ≡ cycleTotal (heldBy a)
     closed-cycles = ap cycleTotal closed-held ∙ cycle-more (heldBy a) (held-sizes a l) h (Closed k) ∙ omega arith
 
-  pub closed-comes : (bs : List Position) → Room (heldBy a) (closedEdge bs) → length bs ≡ k → run (bendTotal (heldBy a)) k (positionsIn (a .bx) (a .by)) ≡ bs
+  pub closed-comes : (bs : List Position) → CellRoom (heldBy a) (closedEdge bs) → length bs ≡ k → runAt (bendTotal (heldBy a)) k (positionsIn (a .bx) (a .by)) ≡ bs
       → (sheetOf (heldBy (withClosed a k)) ≡ appended (sheetOf (heldBy a)) (closedEdge bs)) × Fits (heldBy (withClosed a k))
   closed-comes bs m lk eb =
       let d = heldBy a in
@@ -236,8 +236,8 @@ module _ (a : Arrays) (l : Lengths a) (k : ℕ) where
     pub face-cycles : cycleTotal (heldBy (withFace a k)) ≡ cycleTotal (heldBy a) + k
     face-cycles = ap cycleTotal face-held ∙ cycle-more (heldBy a) (held-sizes a l) h (Face k)
 
-  pub face-comes : (ks : List Cycle) → Room (heldBy a) (face ks) → length ks ≡ k → allReal ks ≡ true → run (cycleTotal (heldBy a)) k (a .cycles) ≡ map numOf ks
-      → (w : ℕ) → length (spread stepsIn ks) ≡ w → run (stepTotal (heldBy a)) w (a .steps) ≡ spread stepsIn ks
+  pub face-comes : (ks : List Cycle) → CellRoom (heldBy a) (face ks) → length ks ≡ k → allReal ks ≡ true → runAt (cycleTotal (heldBy a)) k (a .cycles) ≡ map numOf ks
+      → (w : ℕ) → length (spread cycleWords ks) ≡ w → runAt (stepTotal (heldBy a)) w (a .steps) ≡ spread cycleWords ks
       → (sheetOf (heldBy (withFace a k)) ≡ appended (sheetOf (heldBy a)) (face ks)) × Fits (heldBy (withFace a k))
   face-comes ks m lk re ek w lw es =
       let d = heldBy a in
@@ -245,7 +245,7 @@ module _ (a : Arrays) (l : Lengths a) (k : ℕ) where
       let ln = length-map ks numOf in
       let u : take (cycleTotal d + length (map numOf ks)) (d .cycles) ≡ take (cycleTotal d) (d .cycles) ++ map numOf ks =
       ap (λ (n : ℕ). take (cycleTotal d + n) (d .cycles)) (ln ∙ lk) ∙ take-add (cycleTotal d) k (d .cycles) ∙ ap (λ (q : List ℕ). take (cycleTotal d) (d .cycles) ++ q) ek in
-      let v : take (stepTotal d + length (spread stepsIn ks)) (d .steps) ≡ take (stepTotal d) (d .steps) ++ spread stepsIn ks =
+      let v : take (stepTotal d + length (spread cycleWords ks)) (d .steps) ≡ take (stepTotal d) (d .steps) ++ spread cycleWords ks =
       ap (λ (n : ℕ). take (stepTotal d + n) (d .steps)) lw ∙ take-add (stepTotal d) w (d .steps) ∙ ap (λ (q : List ℕ). take (stepTotal d) (d .steps) ++ q) es in
       let g =
       append d z (m .fits) (m .cells) (face ks) (d .cycles) (d .steps) (d .bends)

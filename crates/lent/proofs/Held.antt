@@ -15,7 +15,7 @@ use Rattle.store.specs.declared.Shape.{Shape}
 use Rattle.store.specs.declared.Cell.{Cell}
 use Rattle.store.specs.declared.Drawing.{Drawing}
 use Rattle.store.specs.View.{bendCount, cycleCount}
-use Rattle.store.specs.Index.{Indexes, kindOf, startOf, endOf}
+use Rattle.store.specs.Index.{Indexes, kindOf, shapeStart, shapeEnd}
 use Rattle.store.specs.Sizes.{Sizes}
 use Rattle.sound.specs.Rows.{allFrom}
 use Rattle.lent.specs.Arrays.{Arrays, shapeBy, shapeAt, positionIn, positionsIn, cellsBy, heldBy, rowsBy, rowNormal, normalAt, normal, Lengths}
@@ -121,8 +121,8 @@ positions-set (x ∷ xs) (y ∷ ys) (suc k) p = ap (λ (l : List Position). reco
 -- ---- a row in normal form
 pub record Told (k s e b c : ℕ) (x : Shape) : Type 0 where
   pub kind : kindOf x ≡ k
-  pub start : startOf x ≡ s
-  pub end : endOf x ≡ e
+  pub start : shapeStart x ≡ s
+  pub end : shapeEnd x ≡ e
   pub bends : bendCount x ≡ b
   pub cycles : cycleCount x ≡ c
 
@@ -172,8 +172,8 @@ module _ (a : Arrays) (l : Lengths a) where
           sizes = (l .ids, l .kinds, l .starts, l .ends, l .bends, l .counts);
           ids = cells-ids (shapeAt a) (a .count) (a .ids);
           kinds = cells-told kindOf (shapeAt a) (a .count) (a .ids) (a .kinds) (l .ids ∙ sym (l .kinds)) (λ j h. told j h .kind);
-          starts = cells-told startOf (shapeAt a) (a .count) (a .ids) (a .starts) (l .ids ∙ sym (l .starts)) (λ j h. told j h .start);
-          ends = cells-told endOf (shapeAt a) (a .count) (a .ids) (a .ends) (l .ids ∙ sym (l .ends)) (λ j h. told j h .end);
+          starts = cells-told shapeStart (shapeAt a) (a .count) (a .ids) (a .starts) (l .ids ∙ sym (l .starts)) (λ j h. told j h .start);
+          ends = cells-told shapeEnd (shapeAt a) (a .count) (a .ids) (a .ends) (l .ids ∙ sym (l .ends)) (λ j h. told j h .end);
           bends = cells-told bendCount (shapeAt a) (a .count) (a .ids) (a .bends) (l .ids ∙ sym (l .bends)) (λ j h. told j h .bends);
           cycles = cells-told cycleCount (shapeAt a) (a .count) (a .ids) (a .counts) (l .ids ∙ sym (l .counts)) (λ j h. told j h .cycles);
         }

@@ -66,9 +66,9 @@ pub fn totals(count: usize, bends: &[u32; 256], counts: &[u32; 256], cycles: &[u
     requires { ⌜ Summed (now bends) (now counts) count (now cycles) ⌝ }
     ensures { λ r. ⌜ r ≡ totalsBy count (now (bends .entry)) (now (counts .entry)) (now (cycles .entry)) ⌝ }
 {
-    let b = cycles::place_sum(0, bends, 0, count);
-    let c = cycles::place_sum(0, counts, 0, count);
-    let s = cycles::place_sum(1, cycles, 0, c);
+    let b = rows_spans::place_sum(0, bends, 0, count);
+    let c = rows_spans::place_sum(0, counts, 0, count);
+    let s = rows_spans::place_sum(1, cycles, 0, c);
     Totals {
         cells: count,
         cycles: c,

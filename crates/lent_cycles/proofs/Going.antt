@@ -13,7 +13,7 @@ use Rattle.store.specs.Edits.{placesOf}
 use Rattle.store.proofs.Lists.{sum-more, sum-le}
 use Rattle.sound.specs.Rows.{Rows, cycleGood, allFrom}
 use Rattle.sound.proofs.Testing.{and-true, and-false}
-use Rattle.lent_cycles.specs.Ring.{stepsUpto, cycleAt, cyclesRight}
+use Rattle.lent_cycles.specs.Ring.{stepsUpto, cycleRight, cyclesRight}
 
 module _ (t : Rows) (ns st : List ℕ) (k m : ℕ) where
   abbrev said : Bool → Said ℕ
@@ -23,13 +23,13 @@ module _ (t : Rows) (ns st : List ℕ) (k m : ℕ) where
   pub record Going (at i : ℕ) : Type 0 where
     pub sum : at ≡ stepsUpto ns (k + i)
     pub fits : at ≤ stepsMost
-    pub rest : allFrom (cycleAt t ns st) k m ≡ allFrom (cycleAt t ns st) (k + i) (m - i)
+    pub rest : allFrom (cycleRight t ns st) k m ≡ allFrom (cycleRight t ns st) (k + i) (m - i)
 
   pub going-start : (at : ℕ) → at ≡ stepsUpto ns k → at ≤ stepsMost → Going at 0
   going-start at e h =
       let a : k ≡ k + 0 = omega arith in
       let b : m ≡ m - 0 = omega arith in
-      record { sum = e ∙ ap (stepsUpto ns) a; fits = h; rest = ap₂ (allFrom (cycleAt t ns st)) a b }
+      record { sum = e ∙ ap (stepsUpto ns) a; fits = h; rest = ap₂ (allFrom (cycleRight t ns st)) a b }
 
   module _ (l : k + m ≤ length ns) (at i w : ℕ) (h : i < m) (g : Going at i) (e : w ≡ placesOf 1 (getD ns (k + i) 0)) where
     more : at + w ≡ stepsUpto ns (k + i + 1)
@@ -39,15 +39,15 @@ module _ (t : Rows) (ns st : List ℕ) (k m : ℕ) where
     going-over f =
         let a = more in
         let b = sum-le (placesOf 1) ns (k + i + 1) (k + m) (omega arith) in
-        sym (ap said (and-false (allFrom (cycleAt t ns st) k m) (lt-leb (stepsUpto ns (k + m)) stepsMost (omega (arith, a, b, f, g .fits)))))
+        sym (ap said (and-false (allFrom (cycleRight t ns st) k m) (lt-leb (stepsUpto ns (k + m)) stepsMost (omega (arith, a, b, f, g .fits)))))
 
-    following : allFrom (cycleAt t ns st) k m ≡ cycleAt t ns st (k + i) && allFrom (cycleAt t ns st) (k + (i + 1)) (m - (i + 1))
+    following : allFrom (cycleRight t ns st) k m ≡ cycleRight t ns st (k + i) && allFrom (cycleRight t ns st) (k + (i + 1)) (m - (i + 1))
     following =
         let a : m - i ≡ suc (m - (i + 1)) = omega arith in
         let b : suc (k + i) ≡ k + (i + 1) = omega arith in
-        g .rest ∙ ap (allFrom (cycleAt t ns st) (k + i)) a ∙ ap (λ (j : ℕ). cycleAt t ns st (k + i) && allFrom (cycleAt t ns st) j (m - (i + 1))) b
+        g .rest ∙ ap (allFrom (cycleRight t ns st) (k + i)) a ∙ ap (λ (j : ℕ). cycleRight t ns st (k + i) && allFrom (cycleRight t ns st) j (m - (i + 1))) b
 
-    this : cycleGood t (getD ns (k + i) 0) (drop at st) ≡ cycleAt t ns st (k + i)
+    this : cycleGood t (getD ns (k + i) 0) (drop at st) ≡ cycleRight t ns st (k + i)
     this = ap (λ (s : ℕ). cycleGood t (getD ns (k + i) 0) (drop s st)) (g .sum)
 
     pub going-fail : cycleGood t (getD ns (k + i) 0) (drop at st) ≡ false → no 1 ≡ said (cyclesRight t ns st k m)
@@ -67,4 +67,4 @@ module _ (t : Rows) (ns st : List ℕ) (k m : ℕ) where
       let s : at ≡ stepsUpto ns (k + m) = g .sum ∙ ap (λ (j : ℕ). stepsUpto ns (k + j)) e in
       let z : m - i ≡ 0 = omega arith in
       ap done s
-      ∙ sym (ap said (and-true _ (le-leb (stepsUpto ns (k + m)) stepsMost (omega (arith, s, g .fits))) ∙ g .rest ∙ ap (allFrom (cycleAt t ns st) (k + i)) z))
+      ∙ sym (ap said (and-true _ (le-leb (stepsUpto ns (k + m)) stepsMost (omega (arith, s, g .fits))) ∙ g .rest ∙ ap (allFrom (cycleRight t ns st) (k + i)) z))

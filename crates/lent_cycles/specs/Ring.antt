@@ -26,12 +26,12 @@ abbrev pub stepsUpto : List ℕ → ℕ → ℕ
 stepsUpto ns i = total (placesOf 1) (take i ns)
 
 -- the cycle i is right
-abbrev pub cycleAt : Rows → List ℕ → List ℕ → ℕ → Bool
-cycleAt t ns st i = cycleGood t (getD ns i 0) (drop (stepsUpto ns i) st)
+abbrev pub cycleRight : Rows → List ℕ → List ℕ → ℕ → Bool
+cycleRight t ns st i = cycleGood t (getD ns i 0) (drop (stepsUpto ns i) st)
 
 -- m cycles from the cycle k on: the steps up to the last keep the ceiling, and each is right
 abbrev pub cyclesRight : Rows → List ℕ → List ℕ → ℕ → ℕ → Bool
-cyclesRight t ns st k m = leb (stepsUpto ns (k + m)) stepsMost && allFrom (cycleAt t ns st) k m
+cyclesRight t ns st k m = leb (stepsUpto ns (k + m)) stepsMost && allFrom (cycleRight t ns st) k m
 
 -- the cases of `Steps`: 0 with how many there are, or 1
 abbrev pub stepsSay : Steps → Said ℕ

@@ -5,9 +5,9 @@ ghost use lib.Dec.{eqb};
 ghost use lib.ListN.{take, drop, length};
 ghost use Rattle.number.specs.Said.{done, no};
 ghost use Rattle.complex.specs.Lists.{all};
-ghost use Rattle.complex.specs.Sound.{cellsMost, cyclesMost, stepsMost};
+ghost use Rattle.complex.specs.Sound.{cyclesMost, stepsMost};
 ghost use Rattle.store.specs.View.{width};
-ghost use Rattle.sound.specs.Rows.{rowsOf, sideAt, goesOnAt, leadsIn, joinsIn, cycleGood};
+ghost use Rattle.sound.specs.Rows.{rowsOf, leadsIn, joinsIn, cycleGood};
 ghost use Rattle.lent_cycles.specs.Ring.{Looked, stepsUpto, cyclesRight, stepsSay};
 
 const STEPS_MOST: usize = 2048;
@@ -21,45 +21,6 @@ const CLOSED: u32 = 2;
 pub enum Steps {
     Upto(usize),
     Fault,
-}
-
-// Where the halfedge s of the edge in a row begins; with starts and ends exchanged, where it ends.
-fn side(starts: &[u32; 256], ends: &[u32; 256], n: usize, row: usize, s: u32) -> u32
-    requires { ⌜ n ≤ cellsMost ⌝ }
-    requires { ⌜ length (now starts) ≡ cellsMost ⌝ }
-    requires { ⌜ length (now ends) ≡ cellsMost ⌝ }
-    requires { ⌜ row < n ⌝ }
-    ensures { λ r. ⌜ r ≡ sideAt (take n (now (starts .entry))) (take n (now (ends .entry))) row s ⌝ }
-{
-    if s % 2 == 1 {
-        return ends[row];
-    }
-    starts[row]
-}
-
-// Whether the halfedge s, whose edge is in a row, is of an open edge and begins at u.
-fn goes_on(
-    kinds: &[u32; 256],
-    starts: &[u32; 256],
-    ends: &[u32; 256],
-    n: usize,
-    row: usize,
-    u: u32,
-    s: u32,
-) -> bool
-    requires { ⌜ n ≤ cellsMost ⌝ }
-    requires { ⌜ length (now kinds) ≡ cellsMost ⌝ }
-    requires { ⌜ length (now starts) ≡ cellsMost ⌝ }
-    requires { ⌜ length (now ends) ≡ cellsMost ⌝ }
-    requires { ⌜ row < n ⌝ }
-    ensures { λ r. ⌜ r ≡ goesOnAt (take n (now (kinds .entry))) (take n (now (starts .entry))) (take n (now (ends .entry))) row u s ⌝ }
-{
-    let k = kinds[row];
-    if k == OPEN {
-        let t = side(starts, ends, n, row, s);
-        return u == t;
-    }
-    false
 }
 
 // Whether m halfedges lead from u to w.
@@ -89,10 +50,10 @@ fn walk(
         if n <= row {
             return false;
         }
-        if !goes_on(kinds, starts, ends, n, row, at, s) {
+        if !rows_halfedge::goes_on(kinds, starts, ends, n, row, at, s) {
             return false;
         }
-        at = side(ends, starts, n, row, s);
+        at = rows_halfedge::side(ends, starts, n, row, s);
         i = i + 1;
     }
     at == w
@@ -140,8 +101,8 @@ fn path_good(
     }
     let k = kinds[row];
     if k == OPEN {
-        let u = side(ends, starts, n, row, s);
-        let w = side(starts, ends, n, row, s);
+        let u = rows_halfedge::side(ends, starts, n, row, s);
+        let w = rows_halfedge::side(starts, ends, n, row, s);
         return walk(
             table,
             ids,

@@ -10,14 +10,14 @@ use lib.Dec.{ltb, leb}
 use lib.ListN.{length, take, drop, getD}
 use lib.Seq.{drop-drop}
 use borrow.Author.Tests.{ltb-true, lt-ltb, leb-true}
-use Rattle.complex.specs.Lists.{all, rising, total}
+use Rattle.complex.specs.Lists.{all, rising}
 use Rattle.complex.proofs.Bools.{both-true}
-use Rattle.store.specs.Edits.{placesOf}
 use Rattle.store.specs.View.{width}
-use Rattle.store.proofs.Lists.{sum-more, places-one, places-none}
+use Rattle.store.proofs.Lists.{places-one}
 use Rattle.sound.specs.Rows.{Rows, cycleGood, cyclesGood, allFrom}
-use Rattle.lent_cycles.specs.Ring.{stepsUpto, cycleAt}
-use Rattle.lent_sound.specs.Walk.{idBefore, idRight, placesUpto}
+use Rattle.lent_cycles.specs.Ring.{stepsUpto, cycleRight}
+use Rattle.lent_row.specs.Row.{idBefore, idRight, placesUpto}
+use Rattle.lent_row.proofs.Rows.{places-more}
 
 pub same-truth : (a b : Bool) → (a ≡ true → b ≡ true) → (b ≡ true → a ≡ true) → a ≡ b
 same-truth true b f g = sym (f refl)
@@ -56,7 +56,7 @@ module _ (t : Rows) where
   steps-after c ns st j =
       drop-drop (stepsUpto ns j) (width c) st ∙ ap (λ (w : ℕ). drop (w + stepsUpto ns j) st) (sym (places-one c))
 
-  pub cycles-at : (ns st : List ℕ) (m j : ℕ) → m ≤ length ns → j < m → cyclesGood t (take m ns) st ≡ true → cycleAt t ns st j ≡ true
+  pub cycles-at : (ns st : List ℕ) (m j : ℕ) → m ≤ length ns → j < m → cyclesGood t (take m ns) st ≡ true → cycleRight t ns st j ≡ true
   cycles-at ns st zero j h g e = absurd (omega arith)
   cycles-at [] st (suc m) j h g e = absurd (omega arith)
   cycles-at (c ∷ ns) st (suc m) zero h g e = both-true (cycleGood t c st) (cyclesGood t (take m ns) (drop (width c) st)) e .0
@@ -64,7 +64,7 @@ module _ (t : Rows) where
       ap (cycleGood t (getD ns j 0)) (sym (steps-after c ns st j))
       ∙ cycles-at ns (drop (width c) st) m j (omega arith) (omega arith) (both-true (cycleGood t c st) (cyclesGood t (take m ns) (drop (width c) st)) e .1)
 
-  pub cycles-of : (ns st : List ℕ) (m : ℕ) → m ≤ length ns → ((j : ℕ) → j < m → cycleAt t ns st j ≡ true) → cyclesGood t (take m ns) st ≡ true
+  pub cycles-of : (ns st : List ℕ) (m : ℕ) → m ≤ length ns → ((j : ℕ) → j < m → cycleRight t ns st j ≡ true) → cyclesGood t (take m ns) st ≡ true
   cycles-of ns st zero h f = refl
   cycles-of [] st (suc m) h f = absurd (omega arith)
   cycles-of (c ∷ ns) st (suc m) h f =
@@ -93,7 +93,8 @@ rising-ends lo (x ∷ l) hi e =
     let v = rising-ends x l hi (b .1) in
     omega (arith, u, v)
 
-rising-at : (lo : ℕ) (is : List ℕ) (hi n i : ℕ) → n ≤ length is → i < n → rising lo (take n is) hi ≡ true → (ltb (getD is i 0) hi && ltb (before lo is i) (getD is i 0)) ≡ true
+rising-at : (lo : ℕ) (is : List ℕ) (hi n i : ℕ) → n ≤ length is → i < n → rising lo (take n is) hi ≡ true
+    → (ltb (getD is i 0) hi && ltb (before lo is i) (getD is i 0)) ≡ true
 rising-at lo is hi zero i h g e = absurd (omega arith)
 rising-at lo [] hi (suc n) i h g e = absurd (omega arith)
 rising-at lo (x ∷ is) hi (suc n) zero h g e =
@@ -122,9 +123,6 @@ ids-of is next n h g f =
     rising-of 0 is next n h g (λ i k. ap (λ (y : ℕ). ltb (getD is i 0) next && ltb y (getD is i 0)) (before-none is i) ∙ f i k)
 
 -- ---- rows, each with its places after those of the rows before it
-pub places-more : (l : List ℕ) (i : ℕ) → i < length l → placesUpto l (i + 1) ≡ placesUpto l i + getD l i 0
-places-more l i h = sum-more (placesOf 0) l i 0 h ∙ ap (λ (x : ℕ). placesUpto l i + x) (places-none (getD l i 0))
-
 -- where each row's places are right, all are
 pub places-of : (p : ℕ → Bool) (l : List ℕ) (n : ℕ) → n ≤ length l → ((i : ℕ) → i < n → allFrom p (placesUpto l i) (getD l i 0) ≡ true)
     → (j : ℕ) → j < placesUpto l n → p j ≡ true

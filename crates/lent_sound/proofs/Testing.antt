@@ -1,108 +1,53 @@
--- The tests of one row, one number after another. Assumes nothing.
-use Prim.Native.Nat.{ℕ, zero, suc, _+_, _-_, _<_, _≤_}
+-- The tests of bends and of bounds, one number after another. Assumes nothing.
+use Prim.Native.Nat.{ℕ, suc, _+_, _-_, _<_, _≤_}
 use mathlib.Core.Path.{_≡_, refl, ap, sym, _∙_}
 use mathlib.Core.Bool.{Bool, true, false, _&&_, cond}
-use mathlib.Core.List.{List}
 use native.Mathlib.Omega.{arith}
-use lib.Dec.{eqb, ltb}
-use lib.ListN.{take, getD}
-use lib.Seq.{getD-take}
-use borrow.Author.Tests.{eq-eqb, ne-eqb, lt-ltb, le-ltb}
-use Rattle.coordinate.specs.declared.Position.{Position}
-use Rattle.coordinate.specs.Bounds.{within}
-use Rattle.sound.specs.Rows.{rowsOf, rowGood, allFrom}
+use lib.Dec.{leb}
+use borrow.Author.Tests.{le-leb, lt-leb}
+use Rattle.complex.specs.Sound.{cellsMost, idsEnd}
+use Rattle.sound.specs.Rows.{allFrom}
 use Rattle.sound.proofs.Testing.{and-true, and-false}
 use Rattle.sound.proofs.Parts.{and-unit, and-assoc}
-use Rattle.sound.proofs.Looking.{row-other}
-use Rattle.lent.specs.Arrays.{rowNormal}
-use Rattle.lent_sound.specs.Walk.{idBefore, idRight, figureRight}
+use Rattle.lent_sound.specs.Walk.{boundsRight}
 
--- ---- the id
-before-some : (is : List ℕ) (i : ℕ) → (i ≡ 0 → ⊥) → getD is (i - 1) 0 ≡ idBefore is i
-before-some is zero h = absurd (h refl)
-before-some is (suc i) h = let e : suc i - 1 ≡ i = omega arith in ap (λ (j : ℕ). getD is j 0) e
-
-module _ (next : ℕ) (is : List ℕ) (i : ℕ) where
-  pub id-late : next ≤ getD is i 0 → false ≡ idRight next is i
-  id-late h = sym (and-false _ (le-ltb (getD is i 0) next h))
-
-  module _ (h : getD is i 0 < next) where
-    pub id-first : i ≡ 0 → ltb 0 (getD is i 0) ≡ idRight next is i
-    id-first e = sym (and-true _ (lt-ltb (getD is i 0) next h) ∙ ap (λ (j : ℕ). ltb (idBefore is j) (getD is i 0)) e)
-
-    pub id-after : (i ≡ 0 → ⊥) → ltb (getD is (i - 1) 0) (getD is i 0) ≡ idRight next is i
-    id-after e = ap (λ (x : ℕ). ltb x (getD is i 0)) (before-some is i e) ∙ sym (and-true _ (lt-ltb (getD is i 0) next h))
-
--- ---- the normal form
-module _ (k s e b c : ℕ) where
-  pub normal-open : k ≡ 1 → eqb c 0 ≡ rowNormal k s e b c
-  normal-open h = rw (eq-eqb k 1 h)
-
-  module _ (n1 : k ≡ 1 → ⊥) where
-    pub normal-start : (s ≡ 0 → ⊥) → false ≡ rowNormal k s e b c
-    normal-start h = rw (ne-eqb k 1 n1, ne-eqb s 0 h)
-
-    module _ (zs : s ≡ 0) where
-      pub normal-end : (e ≡ 0 → ⊥) → false ≡ rowNormal k s e b c
-      normal-end h = rw (ne-eqb k 1 n1, eq-eqb s 0 zs, ne-eqb e 0 h)
-
-      module _ (ze : e ≡ 0) where
-        pub normal-closed : k ≡ 2 → eqb c 0 ≡ rowNormal k s e b c
-        normal-closed h = rw (ne-eqb k 1 n1, eq-eqb s 0 zs, eq-eqb e 0 ze, eq-eqb k 2 h)
-
-        module _ (n2 : k ≡ 2 → ⊥) where
-          pub normal-bends : (b ≡ 0 → ⊥) → false ≡ rowNormal k s e b c
-          normal-bends h = rw (ne-eqb k 1 n1, eq-eqb s 0 zs, eq-eqb e 0 ze, ne-eqb k 2 n2, ne-eqb b 0 h)
-
-          module _ (zb : b ≡ 0) where
-            pub normal-face : k ≡ 3 → true ≡ rowNormal k s e b c
-            normal-face h = rw (ne-eqb k 1 n1, eq-eqb s 0 zs, eq-eqb e 0 ze, ne-eqb k 2 n2, eq-eqb b 0 zb, eq-eqb k 3 h)
-
-            module _ (n3 : k ≡ 3 → ⊥) where
-              pub normal-vertex : k ≡ 0 → eqb c 0 ≡ rowNormal k s e b c
-              normal-vertex h = rw (ne-eqb k 1 n1, eq-eqb s 0 zs, eq-eqb e 0 ze, ne-eqb k 2 n2, eq-eqb b 0 zb, ne-eqb k 3 n3, eq-eqb k 0 h)
-
-              pub normal-none : (k ≡ 0 → ⊥) → false ≡ rowNormal k s e b c
-              normal-none h = rw (ne-eqb k 1 n1, eq-eqb s 0 zs, eq-eqb e 0 ze, ne-eqb k 2 n2, eq-eqb b 0 zb, ne-eqb k 3 n3, ne-eqb k 0 h)
-
--- ---- the figure
-module _ (n : ℕ) (is ks ss es bs : List ℕ) (i : ℕ) (p : Position) (h : i < n) where
-  kind-is : (b : Bool) → eqb (getD ks i 0) 0 ≡ b → eqb (getD (take n ks) i 0) 0 ≡ b
-  kind-is b e = ap (λ (k : ℕ). eqb k 0) (getD-take n ks i 0 h) ∙ e
-
-  pub figure-other : (getD ks i 0 ≡ 0 → ⊥) → (r : Bool) → r ≡ rowGood (rowsOf n is ks ss es) (take n bs) i → r ≡ figureRight (rowsOf n is ks ss es) (take n bs) i p
-  figure-other f r e =
-      e
-      ∙ sym (ap (λ (b : Bool). rowGood (rowsOf n is ks ss es) (take n bs) i && cond b (within p) true) (kind-is false (ne-eqb (getD ks i 0) 0 f))
-      ∙ and-unit (rowGood (rowsOf n is ks ss es) (take n bs) i))
-
-  pub figure-vertex : getD ks i 0 ≡ 0 → (r : Bool) → r ≡ within p → r ≡ figureRight (rowsOf n is ks ss es) (take n bs) i p
-  figure-vertex z r e =
-      e
-      ∙ sym (and-true _ (sym (row-other n is ks ss es bs i h (λ q. omega (arith, q, z)) (λ q. omega (arith, q, z))))
-      ∙ ap (λ (b : Bool). cond b (within p) true) (kind-is true (eq-eqb (getD ks i 0) 0 z)))
-
--- ---- some numbers one after another: b tells whether the first i are right, and the rest decides
+-- ---- the numbers from k to below m: b tells whether those before i are right, and the rest decides
 module _ (p : ℕ → Bool) (k m : ℕ) where
   pub record Ranging (b : Bool) (i : ℕ) : Type 0 where
-    pub rest : allFrom p k m ≡ b && allFrom p (k + i) (m - i)
+    pub rest : allFrom p k (m - k) ≡ b && allFrom p i (m - i)
 
-  pub ranging-start : Ranging true 0
-  ranging-start =
-      let x : k ≡ k + 0 = omega arith in
-      let y : m ≡ m - 0 = omega arith in
-      record { rest = ap (λ (j : ℕ). allFrom p j m) x ∙ ap (allFrom p (k + 0)) y }
+  pub ranging-start : Ranging true k
+  ranging-start = record { rest = refl }
 
-  pub ranging-turn : (b : Bool) (i : ℕ) → i < m → Ranging b i → (r q : Bool) → q ≡ p (k + i) → r ≡ b && q → Ranging r (i + 1)
+  pub ranging-turn : (b : Bool) (i : ℕ) → i < m → Ranging b i → (r q : Bool) → q ≡ p i → r ≡ b && q → Ranging r (i + 1)
   ranging-turn b i h g r q eq er =
       let x : m - i ≡ suc (m - (i + 1)) = omega arith in
-      let y : suc (k + i) ≡ k + (i + 1) = omega arith in
+      let y : suc i ≡ i + 1 = omega arith in
       record {
         rest =
-            g .rest ∙ ap (λ (n : ℕ). b && allFrom p (k + i) n) x ∙ ap (λ (j : ℕ). b && (p (k + i) && allFrom p j (m - (i + 1)))) y
-            ∙ and-assoc b (p (k + i)) (allFrom p (k + (i + 1)) (m - (i + 1)))
-            ∙ ap (λ (t : Bool). t && allFrom p (k + (i + 1)) (m - (i + 1))) (ap (λ (t : Bool). b && t) (sym eq) ∙ sym er);
+            g .rest ∙ ap (λ (n : ℕ). b && allFrom p i n) x ∙ ap (λ (j : ℕ). b && (p i && allFrom p j (m - (i + 1)))) y
+            ∙ and-assoc b (p i) (allFrom p (i + 1) (m - (i + 1)))
+            ∙ ap (λ (t : Bool). t && allFrom p (i + 1) (m - (i + 1))) (ap (λ (t : Bool). b && t) (sym eq) ∙ sym er);
       }
 
-  pub ranging-end : (b : Bool) (i : ℕ) → i ≡ m → Ranging b i → b ≡ allFrom p k m
-  ranging-end b i e g = let z : m - i ≡ 0 = omega arith in sym (g .rest ∙ ap (λ (n : ℕ). b && allFrom p (k + i) n) z ∙ and-unit b)
+  pub ranging-end : (b : Bool) (i : ℕ) → m ≤ i → Ranging b i → b ≡ allFrom p k (m - k)
+  ranging-end b i e g = let z : m - i ≡ 0 = omega arith in sym (g .rest ∙ ap (λ (n : ℕ). b && allFrom p i n) z ∙ and-unit b)
+
+-- ---- where they are looked at
+pub looked-at : (b x r : Bool) → b ≡ true → r ≡ x → r ≡ cond b x true
+looked-at b x r e f = f ∙ sym (ap (λ (t : Bool). cond t x true) e)
+
+pub passed-over : (b x : Bool) → b ≡ false → true ≡ cond b x true
+passed-over b x e = sym (ap (λ (t : Bool). cond t x true) e)
+
+-- ---- the next id and the number of cells
+module _ (next count : ℕ) where
+  pub bounds-first : next ≡ 0 → false ≡ boundsRight next count
+  bounds-first e = sym (and-false _ (lt-leb 1 next (omega (arith, e))))
+
+  module _ (n : next ≡ 0 → ⊥) where
+    pub bounds-late : idsEnd < next → false ≡ boundsRight next count
+    bounds-late e = sym (and-true _ (le-leb 1 next (omega (arith, n))) ∙ and-false _ (lt-leb next idsEnd e))
+
+    pub bounds-count : next ≤ idsEnd → leb count cellsMost ≡ boundsRight next count
+    bounds-count e = sym (and-true _ (le-leb 1 next (omega (arith, n))) ∙ and-true _ (le-leb next idsEnd e))

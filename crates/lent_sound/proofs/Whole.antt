@@ -2,30 +2,32 @@
 use Prim.Native.Nat.{ℕ, zero, suc, _+_, _<_, _≤_}
 use mathlib.Core.Path.{_≡_, refl, ap, ap₂, sym, _∙_}
 use mathlib.Core.Bool.{Bool, true, false, _&&_, cond}
-use mathlib.Core.List.{List}
 use native.Mathlib.Omega.{arith}
-use lib.Dec.{eqb, leb, ltb}
+use lib.Dec.{eqb, leb}
 use lib.ListN.{length, take, getD}
 use lib.Seq.{getD-take}
 use borrow.Author.Tests.{ne-eqb, le-leb, leb-true}
 use Rattle.coordinate.specs.declared.Position.{Position}
 use Rattle.coordinate.specs.Bounds.{within}
-use Rattle.complex.specs.Lists.{all, rising, total}
+use Rattle.complex.specs.Lists.{all, rising}
 use Rattle.complex.specs.Sound.{cellsMost, cyclesMost, stepsMost, bendsMost, idsEnd}
 use Rattle.complex.proofs.Bools.{truth, both-true}
 use Rattle.store.specs.Edits.{placesOf}
 use Rattle.store.specs.View.{Fits, bendTotal, cycleTotal, stepTotal}
 use Rattle.store.proofs.Lists.{sum-le}
-use Rattle.sound.specs.Soundness.{fitsIn, sumsFit, soundSheet, soundDrawing, placed, cellPlaced, allPlaced}
+use Rattle.sound.specs.Soundness.{fitsIn, soundSheet, soundDrawing, placed, cellPlaced, allPlaced}
 use Rattle.sound.specs.Rows.{rowGood, allFrom, cyclesGood, numbersGood}
 use Rattle.sound.proofs.Meaning.{sound-fits}
 use Rattle.sound.proofs.Whole.{sheet-tests}
-use Rattle.lent.specs.Arrays.{Arrays, shapeBy, shapeAt, positionIn, positionsIn, heldBy, rowsBy, normalAt, normal, soundArrays, Lengths}
+use Rattle.lent.specs.Arrays.{Arrays, shapeBy, shapeAt, positionIn, heldBy, rowsBy, normalAt, normal, soundArrays, Lengths}
 use Rattle.lent.proofs.Held.{all-at, all-intro, cells-all, positions-length, positions-at, held-sizes, held-indexes}
 use Rattle.lent.proofs.Sums.{bends-held, cycles-held, steps-held}
-use Rattle.lent_cycles.specs.Ring.{stepsUpto, cycleAt, cyclesRight}
-use Rattle.lent_sound.specs.Walk.{idRight, figureRight, bendRight, placesUpto, rowsIn, rightAt, boundsRight, walkRight}
-use Rattle.lent_sound.proofs.Ranges.{same-truth, range-at, range-of, first-at, first-of, cycles-at, cycles-of, rising-ends, ids-at, ids-of, places-more, places-of, capped}
+use Rattle.lent_cycles.specs.Ring.{stepsUpto, cycleRight}
+use Rattle.lent_row.specs.Row.{idRight, figureRight, placesUpto, rowsIn, rowRight}
+use Rattle.lent_row.proofs.Rows.{places-more}
+use Rattle.lent_sound.specs.Walk.{bendRight, rightAt, boundsRight, walkRight}
+use Rattle.lent_sound.proofs.Ranges.{same-truth, range-of, first-at, first-of, cycles-at}
+use Rattle.lent_sound.proofs.Ranges.{cycles-of, rising-ends, ids-at, ids-of, places-of, capped}
 
 -- ---- rule by rule
 pub record Rules (a : Arrays) : Type 0 where
@@ -80,7 +82,8 @@ module _ (a : Arrays) (l : Lengths a) where
       let b = bends-held a l (q .rows) in
       let k = cycles-held a l (q .rows) in
       let s = steps-held a l (q .rows) in
-      let f : Fits (heldBy a) = record { cells = q .few; cycles = omega (arith, k, q .cycleSum); steps = omega (arith, s, q .stepSum); bends = omega (arith, b, q .bendSum) } in
+      let f : Fits (heldBy a) =
+      record { cells = q .few; cycles = omega (arith, k, q .cycleSum); steps = omega (arith, s, q .stepSum); bends = omega (arith, b, q .bendSum) } in
       let fit : fitsIn (heldBy a) ≡ true =
       ap₂ _&&_ (le-leb (a .count) cellsMost (f .cells))
       (ap₂ _&&_ (le-leb (bendTotal (heldBy a)) bendsMost (f .bends))
@@ -110,30 +113,39 @@ record Parts (a : Arrays) (i : ℕ) : Type 0 where
   vertex : cond (eqb (getD (take (a .count) (a .kinds)) i 0) 0) (within (positionIn (a .px) (a .py) i)) true ≡ true
   bends : allFrom (bendRight (a .bx) (a .by)) (placesUpto (a .bends) i) (getD (a .bends) i 0) ≡ true
   stepSum : leb (stepsUpto (a .cycles) (placesUpto (a .counts) i + getD (a .counts) i 0)) stepsMost ≡ true
-  cycles : allFrom (cycleAt (rowsIn a) (a .cycles) (a .steps)) (placesUpto (a .counts) i) (getD (a .counts) i 0) ≡ true
+  cycles : allFrom (cycleRight (rowsIn a) (a .cycles) (a .steps)) (placesUpto (a .counts) i) (getD (a .counts) i 0) ≡ true
 
-parts-of : (a : Arrays) (i : ℕ) → rightAt a i ≡ true → Parts a i
+parts-of : (a : Arrays) (i : ℕ) → rightAt true a i ≡ true → Parts a i
 parts-of a i e =
-    let b1 = both-true (idRight (a .next) (a .ids) i) _ e in
+    let b0 = both-true (rowRight a i) _ e in
+    let b1 = both-true (idRight (a .next) (a .ids) i) _ (b0 .0) in
     let b2 = both-true (normalAt (a .kinds) (a .starts) (a .ends) (a .bends) (a .counts) i) _ (b1 .1) in
     let b3 = both-true (leb (placesUpto (a .bends) (i + 1)) bendsMost) _ (b2 .1) in
     let b4 = both-true (leb (placesUpto (a .counts) (i + 1)) cyclesMost) _ (b3 .1) in
     let b5 = both-true (figureRight (rowsIn a) (take (a .count) (a .bends)) i (positionIn (a .px) (a .py) i)) _ (b4 .1) in
-    let b6 = both-true (allFrom (bendRight (a .bx) (a .by)) (placesUpto (a .bends) i) (getD (a .bends) i 0)) _ (b5 .1) in
     let f = both-true (rowGood (rowsIn a) (take (a .count) (a .bends)) i) _ (b5 .0) in
-    let k = both-true (leb (stepsUpto (a .cycles) (placesUpto (a .counts) i + getD (a .counts) i 0)) stepsMost) _ (b6 .1) in
-    record { id = b1 .0; row = b2 .0; bendSum = b3 .0; cycleSum = b4 .0; edge = f .0; vertex = f .1; bends = b6 .0; stepSum = k .0; cycles = k .1 }
+    let k = both-true (leb (stepsUpto (a .cycles) (placesUpto (a .counts) i + getD (a .counts) i 0)) stepsMost) _ (b5 .1) in
+    record { id = b1 .0; row = b2 .0; bendSum = b3 .0; cycleSum = b4 .0; edge = f .0; vertex = f .1; bends = b0 .1; stepSum = k .0; cycles = k .1 }
 
-parts-right : (a : Arrays) (i : ℕ) → Parts a i → rightAt a i ≡ true
+parts-right : (a : Arrays) (i : ℕ) → Parts a i → rightAt true a i ≡ true
 parts-right a i q =
-    ap₂ _&&_ (q .id) (ap₂ _&&_ (q .row) (ap₂ _&&_ (q .bendSum) (ap₂ _&&_ (q .cycleSum)
-    (ap₂ _&&_ (ap₂ _&&_ (q .edge) (q .vertex)) (ap₂ _&&_ (q .bends) (ap₂ _&&_ (q .stepSum) (q .cycles)))))))
+    ap₂ _&&_
+    (ap₂ _&&_ (q .id) (ap₂ _&&_ (q .row) (ap₂ _&&_ (q .bendSum) (ap₂ _&&_ (q .cycleSum)
+    (ap₂ _&&_ (ap₂ _&&_ (q .edge) (q .vertex)) (ap₂ _&&_ (q .stepSum) (q .cycles)))))))
+    (q .bends)
+
+row-bends : (a : Arrays) (i : ℕ) → rowRight a i ≡ true → leb (placesUpto (a .bends) (i + 1)) bendsMost ≡ true
+row-bends a i e =
+    let b1 = both-true (idRight (a .next) (a .ids) i) _ e in
+    let b2 = both-true (normalAt (a .kinds) (a .starts) (a .ends) (a .bends) (a .counts) i) _ (b1 .1) in
+    both-true (leb (placesUpto (a .bends) (i + 1)) bendsMost) _ (b2 .1) .0
 
 module _ (a : Arrays) (l : Lengths a) where
   held-placed : a .count ≤ cellsMost → allFrom (placedIn a) 0 (a .count) ≡ all cellPlaced (take (a .count) (heldBy a .cells))
   held-placed h =
       cells-all (placedIn a) placed (shapeAt a) (a .count) (a .ids) (omega (arith, l .ids, h))
-      (λ j. row-placed (getD (a .kinds) j 0) (getD (a .starts) j 0) (getD (a .ends) j 0) (getD (a .bends) j 0) (getD (a .counts) j 0) (positionIn (a .px) (a .py) j))
+      (λ j. row-placed (getD (a .kinds) j 0) (getD (a .starts) j 0) (getD (a .ends) j 0) (getD (a .bends) j 0) (getD (a .counts) j 0)
+      (positionIn (a .px) (a .py) j))
 
   bend-in : (j : ℕ) → j < bendsMost → getD (heldBy a .bends) j (positionIn (a .px) (a .py) 0) ≡ positionIn (a .bx) (a .by) j
   bend-in j h = positions-at (a .bx) (a .by) j (positionIn (a .px) (a .py) 0) (omega (arith, l .bx, h)) (omega (arith, l .by, h))
@@ -141,15 +153,28 @@ module _ (a : Arrays) (l : Lengths a) where
   bends-long : length (heldBy a .bends) ≡ bendsMost
   bends-long = positions-length (a .bx) (a .by) (l .bx ∙ sym (l .by)) ∙ l .bx
 
+  -- where all bends in use lie in bounds, those of each row do
+  bends-in : a .count ≤ cellsMost → placesUpto (a .bends) (a .count) ≤ bendsMost
+      → all within (take (placesUpto (a .bends) (a .count)) (heldBy a .bends)) ≡ true
+      → (i : ℕ) → i < a .count → allFrom (bendRight (a .bx) (a .by)) (placesUpto (a .bends) i) (getD (a .bends) i 0) ≡ true
+  bends-in few most e i h =
+      let m = places-more (a .bends) i (omega (arith, l .bends, h, few)) in
+      let k = sum-le (placesOf 0) (a .bends) (i + 1) (a .count) (omega (arith, h)) in
+      range-of (bendRight (a .bx) (a .by)) (placesUpto (a .bends) i) (getD (a .bends) i 0)
+      (λ j u v.
+      ap within (sym (bend-in j (omega (arith, v, m, k, most))))
+      ∙ first-at within (positionIn (a .px) (a .py) 0) (heldBy a .bends) (placesUpto (a .bends) (a .count)) j (omega (arith, bends-long, most))
+      (omega (arith, v, m, k)) e)
+
   module _ (q : Rules a) (i : ℕ) (h : i < a .count) where
     rules-parts : Parts a i
     rules-parts =
         let few = q .few in
-        let mb = places-more (a .bends) i (omega (arith, l .bends, h, few)) in
         let mc = places-more (a .counts) i (omega (arith, l .counts, h, few)) in
         let lb = sum-le (placesOf 0) (a .bends) (i + 1) (a .count) (omega (arith, h)) in
         let lc = sum-le (placesOf 0) (a .counts) (i + 1) (a .count) (omega (arith, h)) in
-        let ls = sum-le (placesOf 1) (a .cycles) (placesUpto (a .counts) i + getD (a .counts) i 0) (placesUpto (a .counts) (a .count)) (omega (arith, mc, lc)) in
+        let ls = sum-le (placesOf 1) (a .cycles) (placesUpto (a .counts) i + getD (a .counts) i 0) (placesUpto (a .counts) (a .count))
+        (omega (arith, mc, lc)) in
         record {
           id = ids-at (a .ids) (a .next) (a .count) i (omega (arith, l .ids, few)) h (q .ids);
           row = all-at (normalAt (a .kinds) (a .starts) (a .ends) (a .bends) (a .counts)) (a .count) i h (q .rows);
@@ -159,16 +184,13 @@ module _ (a : Arrays) (l : Lengths a) where
           vertex =
               ap (λ (k : ℕ). cond (eqb k 0) (within (positionIn (a .px) (a .py) i)) true) (getD-take (a .count) (a .kinds) i 0 h)
               ∙ all-at (placedIn a) (a .count) i h (held-placed few ∙ q .vertices);
-          bends =
-              range-of (bendRight (a .bx) (a .by)) (placesUpto (a .bends) i) (getD (a .bends) i 0)
-              (λ j u v.
-              ap within (sym (bend-in j (omega (arith, v, mb, lb, q .bendSum))))
-              ∙ first-at within (positionIn (a .px) (a .py) 0) (heldBy a .bends) (placesUpto (a .bends) (a .count)) j (omega (arith, bends-long, q .bendSum)) (omega (arith, v, mb, lb)) (q .bends));
+          bends = bends-in few (q .bendSum) (q .bends) i h;
           stepSum = le-leb (stepsUpto (a .cycles) (placesUpto (a .counts) i + getD (a .counts) i 0)) stepsMost (omega (arith, ls, q .stepSum));
           cycles =
-              range-of (cycleAt (rowsIn a) (a .cycles) (a .steps)) (placesUpto (a .counts) i) (getD (a .counts) i 0)
+              range-of (cycleRight (rowsIn a) (a .cycles) (a .steps)) (placesUpto (a .counts) i) (getD (a .counts) i 0)
               (λ j u v.
-              cycles-at (rowsIn a) (a .cycles) (a .steps) (placesUpto (a .counts) (a .count)) j (omega (arith, l .cycles, q .cycleSum)) (omega (arith, v, mc, lc)) (q .rings));
+              cycles-at (rowsIn a) (a .cycles) (a .steps) (placesUpto (a .counts) (a .count)) j (omega (arith, l .cycles, q .cycleSum))
+              (omega (arith, v, mc, lc)) (q .rings));
         }
 
   parts-rules : 0 < a .next → a .next ≤ idsEnd → a .count ≤ cellsMost → ((i : ℕ) → i < a .count → Parts a i) → Rules a
@@ -189,7 +211,7 @@ module _ (a : Arrays) (l : Lengths a) where
         edges = all-intro (rowGood (rowsIn a) (take (a .count) (a .bends))) (a .count) (λ i h. f i h .edge);
         rings =
             cycles-of (rowsIn a) (a .cycles) (a .steps) (placesUpto (a .counts) (a .count)) (omega (arith, l .cycles, cs))
-            (places-of (cycleAt (rowsIn a) (a .cycles) (a .steps)) (a .counts) (a .count) (omega (arith, l .counts, few)) (λ i h. f i h .cycles));
+            (places-of (cycleRight (rowsIn a) (a .cycles) (a .steps)) (a .counts) (a .count) (omega (arith, l .counts, few)) (λ i h. f i h .cycles));
         vertices =
             sym (held-placed few)
             ∙ all-intro (placedIn a) (a .count)
@@ -202,22 +224,48 @@ module _ (a : Arrays) (l : Lengths a) where
             ∙ places-of (bendRight (a .bx) (a .by)) (a .bends) (a .count) (omega (arith, l .bends, few)) (λ i h. f i h .bends) j u);
       }
 
-  walk-of : soundArrays a ≡ true → walkRight a ≡ true
+  walk-of : soundArrays a ≡ true → walkRight true a ≡ true
   walk-of e =
       let q = rules-of a l e in
       ap₂ _&&_
-      (ap₂ _&&_ (le-leb 1 (a .next) (rising-ends 0 (take (a .count) (a .ids)) (a .next) (q .ids))) (ap₂ _&&_ (le-leb (a .next) idsEnd (q .last)) (le-leb (a .count) cellsMost (q .few))))
-      (all-intro (rightAt a) (a .count) (λ i h. parts-right a i (rules-parts q i h)))
+      (ap₂ _&&_ (le-leb 1 (a .next) (rising-ends 0 (take (a .count) (a .ids)) (a .next) (q .ids)))
+      (ap₂ _&&_ (le-leb (a .next) idsEnd (q .last)) (le-leb (a .count) cellsMost (q .few))))
+      (all-intro (rightAt true a) (a .count) (λ i h. parts-right a i (rules-parts q i h)))
 
-  walk-sound : walkRight a ≡ true → soundArrays a ≡ true
+  walk-sound : walkRight true a ≡ true → soundArrays a ≡ true
   walk-sound e =
-      let b = both-true (boundsRight a) (allFrom (rightAt a) 0 (a .count)) e in
+      let b = both-true (boundsRight (a .next) (a .count)) (allFrom (rightAt true a) 0 (a .count)) e in
       let b1 = both-true (leb 1 (a .next)) _ (b .0) in
       let b2 = both-true (leb (a .next) idsEnd) _ (b1 .1) in
       rules-sound a l
       (parts-rules (leb-true 1 (a .next) (b1 .0)) (leb-true (a .next) idsEnd (b2 .0)) (leb-true (a .count) cellsMost (b2 .1))
-      (λ i h. parts-of a i (all-at (rightAt a) (a .count) i h (b .1))))
+      (λ i h. parts-of a i (all-at (rightAt true a) (a .count) i h (b .1))))
 
   -- the answer of the definitions is the answer of the walk
-  pub sound-walk : soundArrays a ≡ walkRight a
-  sound-walk = same-truth (soundArrays a) (walkRight a) walk-of walk-sound
+  pub sound-walk : soundArrays a ≡ walkRight true a
+  sound-walk = same-truth (soundArrays a) (walkRight true a) walk-of walk-sound
+
+  -- ---- the places of the bends by themselves
+  abbrev bendsIn : Bool
+  bendsIn = all within (take (placesUpto (a .bends) (a .count)) (heldBy a .bends))
+
+  rows-of : soundArrays a ≡ true → (bendsIn && walkRight false a) ≡ true
+  rows-of e =
+      let b = both-true (boundsRight (a .next) (a .count)) (allFrom (rightAt true a) 0 (a .count)) (walk-of e) in
+      ap₂ _&&_ (rules-of a l e .bends)
+      (ap₂ _&&_ (b .0) (all-intro (rightAt false a) (a .count) (λ i h. ap₂ _&&_ (both-true (rowRight a i) _
+      (all-at (rightAt true a) (a .count) i h (b .1)) .0) refl)))
+
+  rows-enough : (bendsIn && walkRight false a) ≡ true → soundArrays a ≡ true
+  rows-enough e =
+      let b = both-true bendsIn (walkRight false a) e in
+      let c = both-true (boundsRight (a .next) (a .count)) (allFrom (rightAt false a) 0 (a .count)) (b .1) in
+      let few = leb-true (a .count) cellsMost (both-true (leb (a .next) idsEnd) _ (both-true (leb 1 (a .next)) _ (c .0) .1) .1) in
+      let row : (i : ℕ) → i < a .count → rowRight a i ≡ true = λ i h. both-true (rowRight a i) _ (all-at (rightAt false a) (a .count) i h (c .1)) .0 in
+      let most : placesUpto (a .bends) (a .count) ≤ bendsMost =
+      capped (placesUpto (a .bends)) bendsMost (a .count) (omega arith) (λ i h. row-bends a i (row i h)) in
+      walk-sound
+      (ap₂ _&&_ (c .0) (all-intro (rightAt true a) (a .count) (λ i h. ap₂ _&&_ (row i h) (bends-in few most (b .0) i h))))
+
+  pub sound-rows : soundArrays a ≡ bendsIn && walkRight false a
+  sound-rows = same-truth (soundArrays a) (bendsIn && walkRight false a) rows-of rows-enough

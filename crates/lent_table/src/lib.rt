@@ -33,13 +33,6 @@ pub fn fill(table: &mut [u8; 1024], ids: &[u32; 256], n: usize)
     }
 }
 
-// A place of the table as a row.
-fn row_in(x: u8) -> usize
-    ensures { λ r. ⌜ r ≡ x ⌝ }
-{
-    x as usize
-}
-
 // The first row of an id, or n, one row after another.
 fn search(ids: &[u32; 256], n: usize, id: u32) -> usize
     requires { ⌜ n ≤ cellsMost ⌝ }
@@ -61,7 +54,7 @@ pub fn row_of(table: &[u8; 1024], ids: &[u32; 256], n: usize, id: u32) -> usize
     requires { ⌜ Table n (now table) (now ids) ⌝ }
     ensures { λ r. ⌜ r ≡ rowOf id (take n (now (ids .entry))) ⌝ }
 {
-    let row = row_in(table[store::wide(id) % PLACES]);
+    let row = rows_halfedge::row_in(table[store::wide(id) % PLACES]);
     if row < n {
         if ids[row] == id {
             return row;

@@ -5,11 +5,11 @@ use mathlib.Core.Path.{_≡_, refl, sym, ap, _∙_}
 use mathlib.Core.List.{List, [], _++_}
 use lib.ListN.{length, take, drop}
 use lib.Seq.{sets, sets-eq, take-append-seam, drop-append-seam}
-use Rattle.text.specs.Texts.{Put}
+use Rattle.text.specs.Texts.{TextPut}
 use Rattle.text.proofs.Puts.{put-length}
 use Rattle.printing.specs.Texts.{Front}
 
-module _ {entry text : List ℕ} {m : ℕ} {exit : List ℕ} {r : ℕ} (p : Put entry 0 text m exit r) (h : r ≤ length entry) where
+module _ {entry text : List ℕ} {m : ℕ} {exit : List ℕ} {r : ℕ} (p : TextPut entry 0 text m exit r) (h : r ≤ length entry) where
   count-is : r ≡ length text
   count-is = let e = p .ends in omega arith
 

@@ -18,7 +18,7 @@ use Rattle.lent.proofs.Replies.{drawing-of}
 use Rattle.lent.proofs.Sums.{ready-sizes}
 use Rattle.text.specs.Texts.{lastMost, endText}
 use Rattle.text.proofs.Puts.{end-few}
-use Rattle.printing.specs.Texts.{lastText}
+use Rattle.printing_lines.specs.Lines.{lastText}
 
 module _ (a : Arrays) (t : Totals) (y : Ready a t) where
   cells-count : a .count ≡ length (sheetOf (heldBy a) .cells)

@@ -1,73 +1,26 @@
 -- A piece of what is printed: lines put one after the other, and its ends. Assumes nothing.
-use Prim.Native.Nat.{ℕ, _+_, _-_, _*_, _≤_, _<_}
+use Prim.Native.Nat.{ℕ, _+_, _≤_, _<_}
 use native.Mathlib.Omega.{arith}
 use borrow.Author.Tests.{le-leb, lt-leb}
 use mathlib.Core.Path.{_≡_, refl, sym, ap, _∙_}
 use mathlib.Core.Bool.{Bool, true, false, cond}
-use mathlib.Core.List.{List, [], _∷_, _++_, append-assoc, append-nil}
+use mathlib.Core.List.{List, [], _++_, append-nil}
 use lib.Dec.{T}
-use lib.ListN.{length, take, drop, length-append}
-use Rattle.number.specs.Readers.{spread}
+use lib.ListN.{length, take, drop}
 use Rattle.complex.specs.Cells.{Sheet}
-use Rattle.complex.specs.Program.{Line, Run, putLine, scriptMost, newline, lineText, tooLongText}
+use Rattle.complex.specs.Program.{Run, scriptMost, newline, tooLongText}
 use Rattle.complex.proofs.Bools.{false-not}
 use Rattle.store.specs.View.{sheetOf}
 use Rattle.lent.specs.Arrays.{Arrays, heldBy, soundArrays}
-use Rattle.entry_run.specs.Runs.{turnNumbers, SteppedIn}
-use Rattle.entry_run.specs.declared.Turn.{Turn}
-use Rattle.run.specs.Runs.{runFrom}
-use Rattle.run.proofs.Progress.{headLine, run-turn, run-none}
-use Rattle.run.proofs.Arrays.{sheet-sound}
-use Rattle.text.specs.Texts.{lineMost, lastMost, Put}
-use Rattle.text.proofs.Puts.{put-none, put-then, put-within, put-length}
-use Rattle.printing.specs.Texts.{lastText, runText, toPrint, LinesPut, Front, LongPut, Pieced}
+use Rattle.run_turns.specs.Runs.{runFrom}
+use Rattle.run_turns.proofs.Progress.{run-none}
+use Rattle.text.specs.Texts.{lineMost, lastMost, TextPut}
+use Rattle.text.proofs.Puts.{put-then}
+use Rattle.printing_lines.specs.Lines.{lastText, runText, LinesPut}
+use Rattle.printing_lines.proofs.Lines.{same-size}
+use Rattle.printing.specs.Texts.{toPrint, LongPut, Pieced}
 use Rattle.printing.specs.declared.Printed.{Printed}
 use Rattle.printing.proofs.Fronts.{front-text, front}
-
--- ---- lines
-pub lines-start : (a : Arrays) (script : List ℕ) (at : ℕ) (entry : List ℕ) → T (soundArrays a) → LinesPut a script at a entry entry at 0
-lines-start a script at entry w =
-    record {
-      text = [];
-      put = put-within (omega arith) (put-none entry 0);
-      room = omega arith;
-      goes = refl;
-      ahead = omega arith;
-      within = λ h. absurd (omega arith);
-      sound = w;
-    }
-
-text-turn : (l : Line) (r : Run) → runText (putLine l r) ≡ lineText l ++ runText r
-text-turn l r = append-assoc (lineText l) (spread lineText (r .lines)) (lastText (r .sheet))
-
-module _ {a : Arrays} {script : List ℕ} {from : ℕ} {b : Arrays} {entry x : List ℕ} {at end : ℕ} (p : LinesPut a script from b entry x at end) where
-  -- the buffer keeps its length
-  pub same-size : length x ≡ length entry
-  same-size = put-length (p .put)
-
-  -- a line more
-  pub lines-turn : (d : Arrays) {t : Turn} → SteppedIn b script at d t → end + lineMost ≤ length x
-      → {y : List ℕ} {r : ℕ} → Put x end (lineText (headLine (turnNumbers t))) lineMost y r → LinesPut a script from d entry y (t .end) r
-  lines-turn d {t} o h {y} {r} q =
-      let l = lineText (headLine (turnNumbers t)) in
-      let e = same-size in
-      let f = q .ends in
-      let g = q .short in
-      let i = p .ahead in
-      let j = o .turned .ahead in
-      record {
-        text = p .text ++ l;
-        put = put-within (omega arith) (put-then (p .put) q);
-        room = omega arith;
-        goes =
-            p .goes
-            ∙ ap (λ (z : Run). p .text ++ runText z) (run-turn (o .turned) (sheet-sound d (o .sound)))
-            ∙ ap (λ (z : List ℕ). p .text ++ z) (text-turn (headLine (turnNumbers t)) (runFrom (sheetOf (heldBy d)) (drop (t .end) script)))
-            ∙ sym (append-assoc (p .text) l (runText (runFrom (sheetOf (heldBy d)) (drop (t .end) script))));
-        ahead = omega arith;
-        within = λ z. o .turned .within;
-        sound = o .sound;
-      }
 
 -- ---- a piece
 module _ (s : Sheet) (script : List ℕ) (at : ℕ) where
@@ -98,7 +51,7 @@ module _ {a : Arrays} {script : List ℕ} {from : ℕ} {b : Arrays} {entry x : L
       }
 
   -- the end line is put
-  pub piece-last : length script ≤ at → end + lastMost ≤ length x → {y : List ℕ} {r : ℕ} → Put x end (lastText (sheetOf (heldBy b))) lastMost y r
+  pub piece-last : length script ≤ at → end + lastMost ≤ length x → {y : List ℕ} {r : ℕ} → TextPut x end (lastText (sheetOf (heldBy b))) lastMost y r
       → Pieced a script from b entry y (record { at = at; count = r; last = true })
   piece-last n h {y} {r} q =
       let s = sheetOf (heldBy b) in
@@ -125,7 +78,7 @@ module _ {a : Arrays} {script : List ℕ} {from : ℕ} {b : Arrays} {entry x : L
 pub long-none : (at : ℕ) (entry : List ℕ) → length entry < 9 → LongPut at entry entry (record { at = at; count = 0; last = false })
 long-none at entry h = record { front = record { fits = omega arith; same = refl; kept = refl }; goes = refl; short = λ z. h }
 
-pub long-put : (at : ℕ) (entry : List ℕ) {m : ℕ} {y : List ℕ} {r : ℕ} → 9 ≤ length entry → Put entry 0 (tooLongText ++ newline) m y r
+pub long-put : (at : ℕ) (entry : List ℕ) {m : ℕ} {y : List ℕ} {r : ℕ} → 9 ≤ length entry → TextPut entry 0 (tooLongText ++ newline) m y r
     → LongPut at entry y (record { at = at; count = r; last = true })
 long-put at entry {m} {y} {r} h q =
     let f = q .ends in

@@ -10,10 +10,11 @@ use Rattle.complex.specs.Euler.{euler}
 use Rattle.complex.specs.Program.{Run, run, Output, tooLong, printedRun, scriptMost, editOutput, newline, tooLongText, outputText}
 use Rattle.store.specs.View.{sheetOf}
 use Rattle.lent.specs.Arrays.{Arrays, heldBy}
-use Rattle.run.specs.Runs.{runFrom}
-use Rattle.run.proofs.Progress.{run-empty}
+use Rattle.run_turns.specs.Runs.{runFrom}
+use Rattle.run_turns.proofs.Progress.{run-empty}
 use Rattle.text.proofs.Puts.{output-text}
-use Rattle.printing.specs.Texts.{runText, toPrint, Call, Pieces, printedBy, PrintsAll}
+use Rattle.printing_lines.specs.Lines.{runText}
+use Rattle.printing.specs.Texts.{toPrint, PieceCall, Pieces, printedBy, PrintsAll}
 
 -- ---- at the start
 abbrev chosen : List ℕ → Bool → Output
@@ -34,7 +35,7 @@ print-start bytes =
     ∙ chosen-text bytes (leb (length bytes) scriptMost)
 
 -- ---- until the last
-pub print-pieces : (a : Arrays) (script : List ℕ) (at : ℕ) (cs : List Call) → Pieces a script at cs → printedBy cs ≡ toPrint (sheetOf (heldBy a)) script at
+pub print-pieces : (a : Arrays) (script : List ℕ) (at : ℕ) (cs : List PieceCall) → Pieces a script at cs → printedBy cs ≡ toPrint (sheetOf (heldBy a)) script at
 print-pieces a script at [] z = absurd z
 print-pieces a script at (c ∷ cs) z = go (c .piece .last) refl (λ w. print-pieces (c .arrays) script (c .piece .at) cs w)
   where
@@ -52,7 +53,7 @@ print-pieces a script at (c ∷ cs) z = go (c .piece .last) refl (λ w. print-pi
 
     go : (x : Bool) → c .piece .last ≡ x → (Pieces (c .arrays) script (c .piece .at) cs → printedBy cs ≡ toPrint b script (c .piece .at))
         → text ++ printedBy cs ≡ toPrint (sheetOf (heldBy a)) script at
-    go true e r = ap (λ (l : List Call). text ++ printedBy l) (then true e) ∙ sym (goes true e)
+    go true e r = ap (λ (l : List PieceCall). text ++ printedBy l) (then true e) ∙ sym (goes true e)
     go false e r = ap (λ (l : List ℕ). text ++ l) (r (then false e)) ∙ sym (goes false e)
 
 pub prints-all : PrintsAll

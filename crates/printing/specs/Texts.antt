@@ -1,5 +1,5 @@
 -- What `edit` prints, piece by piece. Definitions only.
-use Prim.Native.Nat.{ℕ, _+_, _-_, _*_, _≤_, _<_}
+use Prim.Native.Nat.{ℕ, _+_, _≤_, _<_}
 use mathlib.Core.Path.{_≡_}
 use mathlib.Core.Bool.{false, true, cond}
 use mathlib.Core.List.{List, [], _∷_, _++_}
@@ -7,22 +7,14 @@ use lib.Dec.{T, leb}
 use lib.ListN.{length, take, drop}
 use Rattle.number.specs.Readers.{spread}
 use Rattle.complex.specs.Cells.{Sheet}
-use Rattle.complex.specs.Euler.{euler}
-use Rattle.complex.specs.Program.{Run, scriptMost, editOutput, newline, lineText, tooLongText, outputText}
+use Rattle.complex.specs.Program.{scriptMost, editOutput, newline, tooLongText, outputText}
 use Rattle.store.specs.View.{sheetOf}
 use Rattle.lent.specs.Arrays.{Arrays, heldBy, soundArrays}
-use Rattle.entry_calls.specs.Entries.{EmptyIn}
-use Rattle.run.specs.Runs.{runFrom}
-use Rattle.text.specs.Texts.{lineMost, Put, endText}
+use Rattle.call_asked.specs.Entries.{EmptyIn}
+use Rattle.run_turns.specs.Runs.{runFrom}
+use Rattle.text.specs.Texts.{lineMost}
+use Rattle.printing_lines.specs.Lines.{runText}
 use Rattle.printing.specs.declared.Printed.{Printed}
-
--- the end line of a drawing
-abbrev pub lastText : Sheet → List ℕ
-lastText s = endText (euler (s .cells)) (length (s .cells))
-
--- what a run prints: a line per command, then the end line of the drawing after them
-abbrev pub runText : Run → List ℕ
-runText r = spread lineText (r .lines) ++ lastText (r .sheet)
 
 -- what is still to be printed for a script, where the drawing is s and the bytes from `at` on are left
 abbrev pub toPrint : Sheet → List ℕ → ℕ → List ℕ
@@ -33,16 +25,6 @@ abbrev pub stillToPrint : Sheet → List ℕ → Printed → List ℕ
 stillToPrint s script p = cond (p .last) [] (toPrint s script (p .at))
 
 -- ---- one piece
--- lines of the script's commands from `from` on stand at the buffer's front, and end at r; the bytes from `at` on are left
-pub record LinesPut (a : Arrays) (script : List ℕ) (from : ℕ) (b : Arrays) (entry exit : List ℕ) (at r : ℕ) : Type 0 where
-  pub text : List ℕ
-  pub put : Put entry 0 text (lineMost * (at - from)) exit r
-  pub room : r ≤ length entry
-  pub goes : runText (runFrom (sheetOf (heldBy a)) (drop from script)) ≡ text ++ runText (runFrom (sheetOf (heldBy b)) (drop at script))
-  pub ahead : from ≤ at
-  pub within : from < at → at ≤ length script
-  pub sound : T (soundArrays b)
-
 -- what stands at the front of a buffer, and after it what stood there
 pub record Front (entry exit : List ℕ) (n : ℕ) : Type 0 where
   pub fits : n ≤ length entry
@@ -66,23 +48,23 @@ pub record Pieced (a : Arrays) (script : List ℕ) (at : ℕ) (b : Arrays) (entr
 
 -- ---- pieces until the last
 -- a call: the arrays after it, the buffer before and after it, and its piece
-pub record Call : Type 0 where
+pub record PieceCall : Type 0 where
   pub arrays : Arrays
   pub entry : List ℕ
   pub exit : List ℕ
   pub piece : Printed
 
 -- calls until the last piece, each from where the one before it ended
-abbrev pub Pieces : Arrays → List ℕ → ℕ → List Call → Type 0
+abbrev pub Pieces : Arrays → List ℕ → ℕ → List PieceCall → Type 0
 Pieces a script at [] = ⊥
 Pieces a script at (c ∷ cs) =
     Pieced a script at (c .arrays) (c .entry) (c .exit) (c .piece)
     × cond (c .piece .last) (cs ≡ []) (Pieces (c .arrays) script (c .piece .at) cs)
 
 -- what they print, one after another
-abbrev pub printedBy : List Call → List ℕ
-printedBy = spread (λ (c : Call). take (c .piece .count) (c .exit))
+abbrev pub printedBy : List PieceCall → List ℕ
+printedBy = spread (λ (c : PieceCall). take (c .piece .count) (c .exit))
 
 -- from the empty drawing they print what the definitions say
 abbrev pub PrintsAll : Type 0
-PrintsAll = (a : Arrays) (script : List ℕ) (cs : List Call) → EmptyIn a → Pieces a script 0 cs → printedBy cs ≡ outputText (editOutput script)
+PrintsAll = (a : Arrays) (script : List ℕ) (cs : List PieceCall) → EmptyIn a → Pieces a script 0 cs → printedBy cs ≡ outputText (editOutput script)

@@ -1,7 +1,6 @@
--- A run over a script on arrays, and from the empty drawing. Assumes nothing.
-use Prim.Native.Nat.{ℕ, _+_, _≤_, _<_}
-use native.Mathlib.Omega.{arith}
-use mathlib.Core.Path.{_≡_, refl, sym, ap, _∙_, subst}
+-- A run over a script from the empty drawing, and the file of sound arrays. Assumes nothing.
+use Prim.Native.Nat.{ℕ}
+use mathlib.Core.Path.{_≡_, sym, ap, _∙_, subst}
 use mathlib.Core.List.{List}
 use lib.Dec.{T}
 use lib.ListN.{length}
@@ -16,51 +15,21 @@ use Rattle.complex.proofs.Runs.{run-after}
 use Rattle.store.specs.View.{sheetOf}
 use Rattle.store.specs.declared.Drawing.{Drawing}
 use Rattle.sound.specs.Soundness.{soundDrawing}
-use Rattle.sound.proofs.Meaning.{sound-sheet}
-use Rattle.answer.specs.declared.Totals.{Totals}
-use Rattle.answer.specs.Late.{Summed}
-use Rattle.lent.specs.Arrays.{Arrays, heldBy, soundArrays, totalsOf, Lengths}
-use Rattle.lent.specs.Replies.{Ready}
-use Rattle.lent.proofs.Sums.{ready-summed}
+use Rattle.lent.specs.Arrays.{Arrays, heldBy, soundArrays}
 use Rattle.lent.proofs.Replies.{drawing-of}
-use Rattle.entry_calls.specs.Entries.{EmptyIn}
-use Rattle.entry_run.specs.Runs.{SteppedIn}
-use Rattle.entry_run.specs.declared.Turn.{Turn}
+use Rattle.call_asked.specs.Entries.{EmptyIn}
+use Rattle.entry_turn.proofs.Turning.{sheet-sound}
+use Rattle.run_turns.specs.Runs.{runFrom}
+use Rattle.run_turns.proofs.Progress.{run-empty}
 use Rattle.core.proofs.Demand.{ends-after}
-use Rattle.run.specs.Runs.{runFrom, RanOn, RanAll}
+use Rattle.run_on.specs.Runs.{RanOn}
+use Rattle.run.specs.Runs.{RanAll}
 use Rattle.run.specs.declared.Ran.{Ran}
-use Rattle.run.proofs.Progress.{Progress, start, turn, over, run-empty}
 
--- ---- sound arrays
 module _ (a : Arrays) (w : T (soundArrays a)) where
-  pub sheet-sound : T (sound (sheetOf (heldBy a)))
-  sheet-sound = sound-sheet (heldBy a) (drawing-of a w)
-
-  pub readied : Lengths a → (t : Totals) → t ≡ totalsOf a → Ready a t
-  readied l t e = record { sound = w; long = l; sums = e }
-
-  pub sums-ask : Lengths a → Summed (a .bends) (a .counts) (a .count) (a .cycles)
-  sums-ask l = ready-summed a (totalsOf a) (readied l (totalsOf a) refl)
-
   pub write-is : (buffer : List ℕ) → writeCall (sheetOf (heldBy a)) buffer ≡ filled (fileOf (sheetOf (heldBy a))) buffer
   unfolding writeCall
-  write-is buffer = rw (true-of (sound (sheetOf (heldBy a))) sheet-sound)
-
--- ---- the loop
--- how far the run has come, with the arrays b
-pub record Come (a : Arrays) (script : List ℕ) (b : Arrays) (at commands : ℕ) : Type 0 where
-  pub progress : Progress (sheetOf (heldBy a)) script (sheetOf (heldBy b)) at commands
-  pub sound : T (soundArrays b)
-
-pub come-start : (a : Arrays) (script : List ℕ) → T (soundArrays a) → Come a script a 0 0
-come-start a script w = record { progress = start script (sheetOf (heldBy a)); sound = w }
-
-module _ {a : Arrays} {script : List ℕ} {b : Arrays} {at commands : ℕ} (p : Come a script b at commands) where
-  pub come-turn : (d : Arrays) {t : Turn} → SteppedIn b script at d t → Come a script d (t .end) (commands + 1)
-  come-turn d o = record { progress = turn (p .progress) (o .turned) (sheet-sound d (o .sound)); sound = o .sound }
-
-  pub come-end : length script ≤ at → RanOn a script b commands
-  come-end h = let o = over (p .progress) h in record { sheet = o .0; commands = o .1; sound = p .sound }
+  write-is buffer = rw (true-of (sound (sheetOf (heldBy a))) (sheet-sound a w))
 
 -- ---- from the empty drawing
 module _ {a : Arrays} (z : EmptyIn a) {script : List ℕ} {b : Arrays} {n : ℕ} (r : RanOn a script b n) where

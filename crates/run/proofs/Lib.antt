@@ -1,3 +1,1 @@
-pub mod Shorter
-pub mod Progress
 pub mod Arrays

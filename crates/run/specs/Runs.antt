@@ -2,29 +2,15 @@
 use Prim.Native.Nat.{ℕ}
 use mathlib.Core.Path.{_≡_}
 use mathlib.Core.List.{List}
-use lib.Dec.{T}
 use lib.ListN.{length}
-use Rattle.complex.specs.Cells.{Sheet, empty}
-use Rattle.complex.specs.Answer.{command, rest}
+use Rattle.complex.specs.Cells.{empty}
 use Rattle.complex.specs.Calls.{Filled, filled}
 use Rattle.complex.specs.Demands.{after, shares}
 use Rattle.complex.specs.File.{fileOf}
-use Rattle.complex.specs.Program.{Run, ran, run, commandsOf}
+use Rattle.complex.specs.Program.{run, commandsOf}
 use Rattle.store.specs.View.{sheetOf}
-use Rattle.lent.specs.Arrays.{Arrays, heldBy, soundArrays}
 use Rattle.core.specs.Demands.{Ends}
 use Rattle.run.specs.declared.Ran.{Ran}
-
--- the run over the bytes from the drawing s
-unfoldable pub runFrom : Sheet → List ℕ → Run
-unfolding command rest
-runFrom s bytes = ran (length bytes) s bytes
-
--- the run over the bytes from the arrays a leaves the arrays b after n commands
-pub record RanOn (a : Arrays) (bytes : List ℕ) (b : Arrays) (n : ℕ) : Type 0 where
-  pub sheet : sheetOf (heldBy b) ≡ runFrom (sheetOf (heldBy a)) bytes .sheet
-  pub commands : n ≡ length (runFrom (sheetOf (heldBy a)) bytes .lines)
-  pub sound : T (soundArrays b)
 
 -- r is the run over the bytes: its drawing is the one after the commands that the bytes hold, and what demand 3 says of it
 pub record RanAll (bytes : List ℕ) (r : Ran) : Type 0 where

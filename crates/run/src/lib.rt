@@ -4,107 +4,16 @@ ghost use lib.Dec.{T};
 ghost use Rattle.complex.specs.Calls.{filled};
 ghost use Rattle.complex.specs.File.{fileOf};
 ghost use Rattle.store.specs.View.{sheetOf};
-ghost use Rattle.writer.specs.Writes.{answered as written};
-ghost use Rattle.lent.specs.Arrays.{heldBy, soundArrays, lent, entry, exit};
-ghost use Rattle.lent.specs.Replies.{Ready};
-ghost use Rattle.entry_calls.specs.Entries.{EmptyIn};
-ghost use Rattle.run.specs.Runs.{RanOn, RanAll, savedTo};
-use answer::Totals;
+ghost use Rattle.file_write.specs.Writes.{writeAnswered as written};
+ghost use Rattle.lent.specs.Arrays.{heldBy, soundArrays, lent, entry};
+ghost use Rattle.run.specs.Runs.{RanAll, savedTo};
+use file_write::Written;
 use store::Drawing;
-use writer::Written;
 
 // The drawing after a script's commands, and how many there were, one that is not read among them.
 pub struct Ran {
     pub drawing: Drawing,
     pub commands: usize,
-}
-
-// The sums of sound arrays.
-pub fn sums(
-    next: u32,
-    count: usize,
-    ids: &[u32; 256],
-    kinds: &[u32; 256],
-    starts: &[u32; 256],
-    ends: &[u32; 256],
-    bends: &[u32; 256],
-    counts: &[u32; 256],
-    px: &[f64; 256],
-    py: &[f64; 256],
-    cycles: &[u32; 512],
-    steps: &[u32; 2048],
-    bx: &[f64; 2048],
-    by: &[f64; 2048],
-) -> Totals
-    requires { ⌜ T (soundArrays (lent next count ids kinds starts ends bends counts px py cycles steps bx by)) ⌝ }
-    ensures { λ r. ⌜ Ready (entry next count ids kinds starts ends bends counts px py cycles steps bx by) r ⌝ }
-{
-    lent::known(
-        next,
-        count,
-        ids,
-        kinds,
-        starts,
-        ends,
-        bends,
-        counts,
-        px,
-        py,
-        cycles,
-        steps,
-        bx,
-        by,
-    );
-    lent::totals(count, bends, counts, cycles)
-}
-
-// Runs the commands of a script from the empty drawing, each on the arrays as the one before it left them, until no byte is left or
-// one is not read: how many there were.
-fn run_on(
-    next: &mut u32,
-    count: &mut usize,
-    ids: &mut [u32; 256],
-    kinds: &mut [u32; 256],
-    starts: &mut [u32; 256],
-    ends: &mut [u32; 256],
-    bends: &mut [u32; 256],
-    counts: &mut [u32; 256],
-    px: &mut [f64; 256],
-    py: &mut [f64; 256],
-    cycles: &mut [u32; 512],
-    steps: &mut [u32; 2048],
-    bx: &mut [f64; 2048],
-    by: &mut [f64; 2048],
-    script: &[u8],
-) -> usize
-    requires { ⌜ EmptyIn (lent (now next) (now count) ids kinds starts ends bends counts px py cycles steps bx by) ⌝ }
-    ensures { λ r. ⌜ RanOn (entry (now (next .entry)) (now (count .entry)) ids kinds starts ends bends counts px py cycles steps bx by) (now (script .entry)) (exit (now (next .exit)) (now (count .exit)) ids kinds starts ends bends counts px py cycles steps bx by) r ⌝ }
-{
-    let mut at: usize = 0;
-    let mut commands: usize = 0;
-    while at < script.len() {
-        let t = entry_run::step_at(
-            next,
-            count,
-            ids,
-            kinds,
-            starts,
-            ends,
-            bends,
-            counts,
-            px,
-            py,
-            cycles,
-            steps,
-            bx,
-            by,
-            script,
-            at,
-        );
-        at = t.end;
-        commands = commands + 1;
-    }
-    commands
 }
 
 // The file of the drawing in sound arrays, in its buffer's first places.
@@ -128,7 +37,7 @@ fn write_on(
     requires { ⌜ T (soundArrays (lent next count ids kinds starts ends bends counts px py cycles steps bx by)) ⌝ }
     ensures { λ r. ⌜ written r (now (file .exit)) ≡ filled (fileOf (sheetOf (heldBy (entry next count ids kinds starts ends bends counts px py cycles steps bx by)))) (now (file .entry)) ⌝ }
 {
-    let t = sums(
+    let t = lent_sums::sums(
         next,
         count,
         ids,
@@ -182,8 +91,8 @@ pub fn run(script: &[u8]) -> Ran
     let mut steps = [0u32; 2048];
     let mut bx = [0.0; 2048];
     let mut by = [0.0; 2048];
-    entry_calls::begin(&mut next, &mut count);
-    let commands = run_on(
+    call_asked::begin(&mut next, &mut count);
+    let commands = run_on::run_on(
         &mut next,
         &mut count,
         &mut ids,
@@ -240,8 +149,8 @@ pub fn save(script: &[u8], buffer: &mut [u8]) -> Written
     let mut steps = [0u32; 2048];
     let mut bx = [0.0; 2048];
     let mut by = [0.0; 2048];
-    entry_calls::begin(&mut next, &mut count);
-    run_on(
+    call_asked::begin(&mut next, &mut count);
+    run_on::run_on(
         &mut next,
         &mut count,
         &mut ids,

@@ -13,11 +13,11 @@ use Rattle.complex.specs.Cells.{Halfedge, Cycle, lone, path}
 use Rattle.complex.specs.Sound.{stepCount}
 use Rattle.complex.specs.Decode.{stepOf, readCycle}
 use Rattle.store.specs.Sheet.{real, allReal}
-use Rattle.store.specs.Places.{numOf, stepsIn}
+use Rattle.store.specs.Places.{numOf, cycleWords}
 use Rattle.store.specs.Edits.{placesOf}
 use Rattle.store.proofs.Encode.{words}
-use Rattle.command.specs.Lists.{listOf, numbersRead, cyclesRead, Reaches, Stand}
-use Rattle.command.proofs.Rest.{leaves-number, leaves-times, cycle-none, cycle-lone, cycle-path, steps-read}
+use Rattle.decode_parts.specs.Lists.{listOf, numbersRead, cyclesRead, Reaches, Stand}
+use Rattle.decode_parts.proofs.Rest.{leaves-number, leaves-times, cycle-none, cycle-lone, cycle-path, steps-read}
 
 -- the cycle of m steps whose places hold ns
 abbrev pub cycleFrom : ℕ → List ℕ → Cycle
@@ -29,7 +29,7 @@ pub from-number : (m : ℕ) (ns : List ℕ) → length ns ≡ placesOf 1 m → n
 from-number zero ns e = refl
 from-number (suc m) ns e = length-map ns stepOf ∙ e
 
-pub from-places : (m : ℕ) (ns : List ℕ) → length ns ≡ placesOf 1 m → stepsIn (cycleFrom m ns) ≡ ns
+pub from-places : (m : ℕ) (ns : List ℕ) → length ns ≡ placesOf 1 m → cycleWords (cycleFrom m ns) ≡ ns
 from-places zero [] e = absurd (omega arith)
 from-places zero (v ∷ []) e = refl
 from-places zero (v ∷ w ∷ ns) e = absurd (omega arith)

@@ -5,8 +5,8 @@ use mathlib.Core.List.{List, [], _∷_, map, append-nil}
 use Prim.Native.Nat.{ℕ, _+_, _-_, _≤_, _<_}
 use native.Mathlib.Numerals.{add-one}
 use native.Mathlib.Omega.{arith}
-use lib.ListN.{length, getD, set, take, drop, length-map, length-set}
-use lib.Seq.{sets, length-sets, sets-eq, take-at, getD-set-same}
+use lib.ListN.{length, getD, set, drop, length-set}
+use lib.Seq.{sets, length-sets, getD-set-same}
 use Rattle.number.specs.Readers.{Read, got, bad, andThen, times, spread}
 use Rattle.number.specs.Numbers.{readNumber}
 use Rattle.number.proofs.Laws.{not-bad, got-rest}
@@ -17,16 +17,14 @@ use Rattle.complex.specs.Cells.{Cycle, lone, path}
 use Rattle.complex.specs.Sound.{stepCount}
 use Rattle.complex.specs.Decode.{readCycle}
 use Rattle.store.specs.Sheet.{real}
-use Rattle.store.specs.Places.{numOf, stepsIn}
+use Rattle.store.specs.Places.{numOf, cycleWords}
 use Rattle.store.specs.Edits.{placesOf}
-use Rattle.store.specs.Pools.{Held}
-use Rattle.store.proofs.Encode.{places-size, all-places}
-use Rattle.command.specs.Lists.{listOf, thingsRead, numbersRead, cyclesRead, Reaches, Stand}
-use Rattle.command.proofs.Rest.{Leaves, leaves-number, leaves-cycle}
-use Rattle.command.proofs.Laws.{stand-length}
-use Rattle.script.specs.Walks.{Copied, Room, Loaded}
+use Rattle.store.proofs.Encode.{places-size}
+use Rattle.decode_parts.specs.Lists.{listOf, thingsRead, numbersRead, cyclesRead, Reaches, Stand}
+use Rattle.decode_parts.proofs.Rest.{Leaves, leaves-number, leaves-cycle}
+use Rattle.script.specs.Walks.{Copied, ScriptRoom, Loaded}
 use Rattle.script.proofs.Steps.{first-thing, Walking, walking-start, walking-turn, walking-end}
-use Rattle.script.proofs.Cycles.{cycleFrom, from-number, from-places, cycle-size, real-read, reals-read, numbers-stand, cycle-is, cycle-reach}
+use Rattle.script.proofs.Cycles.{cycleFrom, from-number, from-places, cycle-size, real-read, numbers-stand, cycle-is, cycle-reach}
 
 -- ---- numbers
 -- what is left to copy makes, from here on, what all of it makes
@@ -40,7 +38,8 @@ pub copying-start : (s : List ℕ) (at n to : ℕ) (out : List ℕ) → Stand re
 copying-start s at n to out h = record { walk = walking-start readNumber s at n h; rows = refl; size = refl; numbers = refl }
 
 module _ (s : List ℕ) (at n to : ℕ) (out₀ out : List ℕ) (place left row : ℕ) (c : Copying s at n to out₀ out place left row) where
-  pub copying-turn : 0 < left → (x next : ℕ) → readNumber (drop place s) ≡ got x (drop next s) → next ≤ length s → Copying s at n to out₀ (set out row x) next (left - 1) (row + 1)
+  pub copying-turn : 0 < left → (x next : ℕ) → readNumber (drop place s) ≡ got x (drop next s) → next ≤ length s
+      → Copying s at n to out₀ (set out row x) next (left - 1) (row + 1)
   copying-turn some x next e h =
       let w = walking-turn readNumber leaves-number s at n place left (c .walk) some x next e h in
       let r = c .rows in
@@ -101,9 +100,6 @@ real-size (lone v) e = refl
 real-size (path []) e = absurd (false≢true e)
 real-size (path (h ∷ hs)) e = refl
 
-take-sets : (l vs : List ℕ) (n : ℕ) → length vs ≡ n → n ≤ length l → take n (sets l 0 vs) ≡ vs
-take-sets l vs n e h = ap (take n) (sets-eq vs l 0 (omega arith)) ∙ take-at vs (drop (0 + length vs) l) n e
-
 -- ---- one cycle
 module _ (s : List ℕ) (at m first n : ℕ) (number : readNumber (drop at s) ≡ got m (drop first s)) (wide : n ≡ placesOf 1 m) where
   -- its numbers stand, and are as many as the places that it takes
@@ -128,23 +124,25 @@ module _ (s : List ℕ) (at m first n : ℕ) (number : readNumber (drop at s) �
         lengths = ap (set counts i) (sym (from-number m ns z)) ∙ ap (λ (ks : List Cycle). sets counts i (map numOf ks)) (sym e);
         places =
             c .numbers
-            ∙ ap (sets steps used) (sym (from-places m ns z) ∙ sym (append-nil (stepsIn (cycleFrom m ns))))
-            ∙ ap (λ (ks : List Cycle). sets steps used (spread stepsIn ks)) (sym e);
+            ∙ ap (sets steps used) (sym (from-places m ns z) ∙ sym (append-nil (cycleWords (cycleFrom m ns))))
+            ∙ ap (λ (ks : List Cycle). sets steps used (spread cycleWords ks)) (sym e);
         reach = cycle-reach s at m first number next far (c .reach);
       }
 
 -- ---- a face's cycles
 -- what is left to load makes, from here on, what all of it makes
-pub record Loading (s : List ℕ) (first n : ℕ) (counts₀ : List ℕ) (row : ℕ) (steps₀ : List ℕ) (place : ℕ) (counts steps : List ℕ) (at left i used : ℕ) : Type 0 where
-  pub walk : Walking readCycle s first n at left
-  pub rows : i + left ≡ row + n
-  pub sum : used + total stepCount (cyclesRead s at left) ≡ place + total stepCount (cyclesRead s first n)
-  pub countsSize : length counts ≡ length counts₀
-  pub stepsSize : length steps ≡ length steps₀
-  pub lengths : sets counts i (map numOf (cyclesRead s at left)) ≡ sets counts₀ row (map numOf (cyclesRead s first n))
-  pub places : sets steps used (spread stepsIn (cyclesRead s at left)) ≡ sets steps₀ place (spread stepsIn (cyclesRead s first n))
+pub record Loading (s : List ℕ) (first n : ℕ) (counts₀ : List ℕ) (row : ℕ) (steps₀ : List ℕ) (place : ℕ) (counts steps : List ℕ) (at left i used : ℕ) : Type 0
+  where
+    pub walk : Walking readCycle s first n at left
+    pub rows : i + left ≡ row + n
+    pub sum : used + total stepCount (cyclesRead s at left) ≡ place + total stepCount (cyclesRead s first n)
+    pub countsSize : length counts ≡ length counts₀
+    pub stepsSize : length steps ≡ length steps₀
+    pub lengths : sets counts i (map numOf (cyclesRead s at left)) ≡ sets counts₀ row (map numOf (cyclesRead s first n))
+    pub places : sets steps used (spread cycleWords (cyclesRead s at left)) ≡ sets steps₀ place (spread cycleWords (cyclesRead s first n))
 
-pub loading-start : (s : List ℕ) (first n : ℕ) (counts : List ℕ) (row : ℕ) (steps : List ℕ) (place : ℕ) → Stand readCycle s first n → Loading s first n counts row steps place counts steps first n row place
+pub loading-start : (s : List ℕ) (first n : ℕ) (counts : List ℕ) (row : ℕ) (steps : List ℕ) (place : ℕ) → Stand readCycle s first n
+    → Loading s first n counts row steps place counts steps first n row place
 loading-start s first n counts row steps place h =
     record {
       walk = walking-start readCycle s first n h;
@@ -156,16 +154,18 @@ loading-start s first n counts row steps place h =
       places = refl;
     }
 
-module _ {s : List ℕ} {first n : ℕ} {counts₀ : List ℕ} {row : ℕ} {steps₀ : List ℕ} {place : ℕ} {counts steps : List ℕ} {at left i used : ℕ} (room : Room s first n counts₀ row steps₀ place) (l : Loading s first n counts₀ row steps₀ place counts steps at left i used) where
+module _ {s : List ℕ} {first n : ℕ} {counts₀ : List ℕ} {row : ℕ} {steps₀ : List ℕ} {place : ℕ} {counts steps : List ℕ} {at left i used : ℕ}
+    (room : ScriptRoom s first n counts₀ row steps₀ place) (l : Loading s first n counts₀ row steps₀ place counts steps at left i used) where
   module _ (some : 0 < left) where
-    pub loading-room : Room s at 1 counts i steps used
+    pub loading-room : ScriptRoom s at 1 counts i steps used
     loading-room =
         let h = l .walk .stand in
         let o = one-stands readCycle s at left some leaves-cycle h in
         let p = reach-one readCycle s at (o .end) (o .reach) in
         let w = walking-turn readCycle leaves-cycle s first n at left (l .walk) some (p .thing) (o .end) (p .read) (o .reach .fits) in
         let a : total stepCount (cyclesRead s at 1) ≡ stepCount (p .thing) + 0 = ap (total stepCount) (p .list) in
-        let b : total stepCount (cyclesRead s at left) ≡ stepCount (p .thing) + total stepCount (cyclesRead s (o .end) (left - 1)) = ap (total stepCount) (w .0) in
+        let b : total stepCount (cyclesRead s at left) ≡ stepCount (p .thing) + total stepCount (cyclesRead s (o .end) (left - 1)) = ap (total stepCount)
+        (w .0) in
         let r = l .rows in
         let u = l .sum in
         let c = l .countsSize in
@@ -174,7 +174,8 @@ module _ {s : List ℕ} {first n : ℕ} {counts₀ : List ℕ} {row : ℕ} {step
         let f = room .places in
         record { stand = o; rows = omega arith; places = omega arith }
 
-    module _ {counts′ steps′ : List ℕ} {next : ℕ} (done : Loaded s at counts i steps used counts′ steps′ next) {k : ℕ} (places-is : k ≡ placesOf 1 (getD counts′ i 0)) where
+    module _ {counts′ steps′ : List ℕ} {next : ℕ} (done : Loaded s at counts i steps used counts′ steps′ next) {k : ℕ}
+        (places-is : k ≡ placesOf 1 (getD counts′ i 0)) where
       -- the cycle that was loaded
       o : One readCycle s at next
       o = reach-one readCycle s at next (done .reach)
@@ -192,13 +193,14 @@ module _ {s : List ℕ} {first n : ℕ} {counts₀ : List ℕ} {row : ℕ} {step
           ∙ ap (placesOf 1) (getD-set-same counts i (numOf (o .thing)) 0 (omega arith))
           ∙ real-size (o .thing) (real-read (drop at s) (drop next s) (o .thing) (o .read))
 
-      written : steps′ ≡ sets steps used (stepsIn (o .thing))
-      written = done .places ∙ ap (λ (ks : List Cycle). sets steps used (spread stepsIn ks)) (o .list) ∙ ap (sets steps used) (append-nil (stepsIn (o .thing)))
+      written : steps′ ≡ sets steps used (cycleWords (o .thing))
+      written = done .places ∙ ap (λ (ks : List Cycle). sets steps used (spread cycleWords ks)) (o .list) ∙ ap (sets steps used) (append-nil (cycleWords (o .thing)))
 
       pub loading-sum : used + k ≤ length steps₀
       loading-sum =
           let w = walking-turn readCycle leaves-cycle s first n at left (l .walk) some (o .thing) next (o .read) (done .reach .fits) in
-          let b : total stepCount (cyclesRead s at left) ≡ stepCount (o .thing) + total stepCount (cyclesRead s next (left - 1)) = ap (total stepCount) (w .0) in
+          let b : total stepCount (cyclesRead s at left) ≡ stepCount (o .thing) + total stepCount (cyclesRead s next (left - 1)) = ap (total stepCount)
+          (w .0) in
           let u = l .sum in
           let f = room .places in
           let z = width in
@@ -207,25 +209,26 @@ module _ {s : List ℕ} {first n : ℕ} {counts₀ : List ℕ} {row : ℕ} {step
       pub loading-turn : Loading s first n counts₀ row steps₀ place counts′ steps′ next (left - 1) (i + 1) (used + k)
       loading-turn =
           let w = walking-turn readCycle leaves-cycle s first n at left (l .walk) some (o .thing) next (o .read) (done .reach .fits) in
-          let b : total stepCount (cyclesRead s at left) ≡ stepCount (o .thing) + total stepCount (cyclesRead s next (left - 1)) = ap (total stepCount) (w .0) in
+          let b : total stepCount (cyclesRead s at left) ≡ stepCount (o .thing) + total stepCount (cyclesRead s next (left - 1)) = ap (total stepCount)
+          (w .0) in
           let r = l .rows in
           let u = l .sum in
           let z = width in
-          let y : used + k ≡ used + length (stepsIn (o .thing)) = ap (λ (j : ℕ). used + j) (z ∙ sym (places-size (o .thing))) in
+          let y : used + k ≡ used + length (cycleWords (o .thing)) = ap (λ (j : ℕ). used + j) (z ∙ sym (places-size (o .thing))) in
           record {
             walk = w .1;
             rows = omega arith;
             sum = omega arith;
             countsSize = ap length (done .lengths) ∙ length-sets counts i (map numOf (cyclesRead s at 1)) ∙ l .countsSize;
-            stepsSize = ap length (done .places) ∙ length-sets steps used (spread stepsIn (cyclesRead s at 1)) ∙ l .stepsSize;
+            stepsSize = ap length (done .places) ∙ length-sets steps used (spread cycleWords (cyclesRead s at 1)) ∙ l .stepsSize;
             lengths =
                 (λ j. sets (stored j) (add-one i j) (map numOf (cyclesRead s next (left - 1))))
                 ∙ ap (λ (ks : List Cycle). sets counts i (map numOf ks)) (sym (w .0))
                 ∙ l .lengths;
             places =
-                (λ j. sets (written j) (y j) (spread stepsIn (cyclesRead s next (left - 1))))
-                ∙ sets-append steps used (stepsIn (o .thing)) (spread stepsIn (cyclesRead s next (left - 1)))
-                ∙ ap (λ (ks : List Cycle). sets steps used (spread stepsIn ks)) (sym (w .0))
+                (λ j. sets (written j) (y j) (spread cycleWords (cyclesRead s next (left - 1))))
+                ∙ sets-append steps used (cycleWords (o .thing)) (spread cycleWords (cyclesRead s next (left - 1)))
+                ∙ ap (λ (ks : List Cycle). sets steps used (spread cycleWords ks)) (sym (w .0))
                 ∙ l .places;
           }
 
@@ -242,26 +245,5 @@ module _ {s : List ℕ} {first n : ℕ} {counts₀ : List ℕ} {row : ℕ} {step
     pub loading-lengths : counts ≡ sets counts₀ row (map numOf (cyclesRead s first n))
     loading-lengths = ap (λ (ks : List Cycle). sets counts i (map numOf ks)) (sym nothing) ∙ l .lengths
 
-    pub loading-places : steps ≡ sets steps₀ place (spread stepsIn (cyclesRead s first n))
-    loading-places = ap (λ (ks : List Cycle). sets steps used (spread stepsIn ks)) (sym nothing) ∙ l .places
-
-pub sets-size : (l vs : List ℕ) (i n : ℕ) (r : List ℕ) → r ≡ sets l i vs → length l ≡ n → length r ≡ n
-sets-size l vs i n r e h = ap length e ∙ length-sets l i vs ∙ h
-
--- at the front of the arrays they are held
-pub loads-held : (s : List ℕ) (first n : ℕ) (counts₀ steps₀ counts steps : List ℕ) (used : ℕ) → Room s first n counts₀ 0 steps₀ 0 → used ≡ total stepCount (cyclesRead s first n)
-    → counts ≡ sets counts₀ 0 (map numOf (cyclesRead s first n)) → steps ≡ sets steps₀ 0 (spread stepsIn (cyclesRead s first n)) → Held (cyclesRead s first n) counts n steps used
-loads-held s first n counts₀ steps₀ counts steps used room u p q =
-    let e = room .rows in
-    let f = room .places in
-    let c : length counts ≡ length counts₀ = ap length p ∙ length-sets counts₀ 0 (map numOf (cyclesRead s first n)) in
-    let d : length steps ≡ length steps₀ = ap length q ∙ length-sets steps₀ 0 (spread stepsIn (cyclesRead s first n)) in
-    let a : length (map numOf (cyclesRead s first n)) ≡ n = length-map (cyclesRead s first n) numOf ∙ stand-length readCycle s first n (room .stand) in
-    let b : length (spread stepsIn (cyclesRead s first n)) ≡ used = all-places (cyclesRead s first n) ∙ sym u in
-    record {
-      lengths = ap (take n) p ∙ take-sets counts₀ (map numOf (cyclesRead s first n)) n a (omega arith);
-      places = ap (take used) q ∙ take-sets steps₀ (spread stepsIn (cyclesRead s first n)) used b (omega arith);
-      real = reals-read n (drop first s) (drop (room .stand .end) s) (cyclesRead s first n) (room .stand .reach .read);
-      lengthsRoom = omega arith;
-      placesRoom = omega arith;
-    }
+    pub loading-places : steps ≡ sets steps₀ place (spread cycleWords (cyclesRead s first n))
+    loading-places = ap (λ (ks : List Cycle). sets steps used (spread cycleWords ks)) (sym nothing) ∙ l .places

@@ -7,9 +7,9 @@ use lib.ListN.{length, drop}
 use Rattle.number.specs.Readers.{Read, got, bad, andThen, times}
 use Rattle.number.proofs.Laws.{not-bad, got-thing}
 use Rattle.number.proofs.Counted.{Things, times-cases}
-use Rattle.command.specs.Lists.{listOf, skipped, thingsRead, Reaches, Stand}
-use Rattle.command.proofs.Rest.{Leaves, leaves-times}
-use Rattle.command.proofs.Skips.{one-more, skip-turn, skip-end, skipped-to}
+use Rattle.decode_parts.specs.Lists.{listOf, skipped, thingsRead, Reaches, Stand}
+use Rattle.decode_parts.proofs.Rest.{Leaves, leaves-times}
+use Rattle.decode_parts.proofs.Skips.{one-more, skip-turn, skip-end, skipped-to}
 
 module _ {A : Type 0} (r : List ℕ → Read A) where
   -- what is read after the first thing
@@ -32,14 +32,16 @@ module _ {A : Type 0} (r : List ℕ → Read A) where
       pub first-thing : Things r (left - 1) (drop at s) (drop (stand .end) s) (thingsRead r s at left)
       first-thing =
           let e : left ≡ suc (left - 1) = omega arith in
-          times-cases r (left - 1) (drop at s) (drop (stand .end) s) (thingsRead r s at left) (ap (λ (n : ℕ). times r n (drop at s)) (sym e) ∙ stand .reach .read)
+          times-cases r (left - 1) (drop at s) (drop (stand .end) s) (thingsRead r s at left)
+          (ap (λ (n : ℕ). times r n (drop at s)) (sym e) ∙ stand .reach .read)
 
       -- the first thing, and the list that is left
       pub turn : Leaves r → (x : A) (next : ℕ) → r (drop at s) ≡ got x (drop next s) → next ≤ length s
           → (thingsRead r s at left ≡ x ∷ thingsRead r s next (left - 1)) × Stand r s next (left - 1)
       turn L x next e h = go (times r (left - 1) (drop next s)) refl
         where
-          go : (q : Read (List A)) → times r (left - 1) (drop next s) ≡ q → (thingsRead r s at left ≡ x ∷ thingsRead r s next (left - 1)) × Stand r s next (left - 1)
+          go : (q : Read (List A)) → times r (left - 1) (drop next s) ≡ q → (thingsRead r s at left ≡ x ∷ thingsRead r s next (left - 1))
+              × Stand r s next (left - 1)
           go (got xs t) f =
               let w : times r left (drop at s) ≡ got (x ∷ xs) t = first-got x (drop next s) e ∙ ap (after x) f in
               let l = leaves-times r L (left - 1) s next xs t h f in (

@@ -11,8 +11,8 @@ use Rattle.number.specs.Numbers.{readNumber}
 use Rattle.complex.specs.Lists.{all, total, holds}
 use Rattle.complex.specs.Sound.{stepCount}
 use Rattle.complex.specs.Decode.{readCycle}
-use Rattle.store.specs.Places.{numOf, stepsIn}
-use Rattle.command.specs.Lists.{numbersRead, cyclesRead, Reaches, Stand}
+use Rattle.store.specs.Places.{numOf, cycleWords}
+use Rattle.decode_parts.specs.Lists.{numbersRead, cyclesRead, Reaches, Stand}
 
 -- every number is below n
 abbrev pub below : ℕ → List ℕ → Bool
@@ -29,7 +29,7 @@ pub record Copied (s : List ℕ) (at n to : ℕ) (out₀ out : List ℕ) (next :
   pub reach : Reaches readNumber s at n next
 
 -- n cycles stand in the script, and the arrays have room for them
-pub record Room (s : List ℕ) (at n : ℕ) (counts : List ℕ) (i : ℕ) (steps : List ℕ) (used : ℕ) : Type 0 where
+pub record ScriptRoom (s : List ℕ) (at n : ℕ) (counts : List ℕ) (i : ℕ) (steps : List ℕ) (used : ℕ) : Type 0 where
   pub stand : Stand readCycle s at n
   pub rows : i + n ≤ length counts
   pub places : used + total stepCount (cyclesRead s at n) ≤ length steps
@@ -38,5 +38,5 @@ pub record Room (s : List ℕ) (at n : ℕ) (counts : List ℕ) (i : ℕ) (steps
 pub record Loaded (s : List ℕ) (at : ℕ) (counts₀ : List ℕ) (i : ℕ) (steps₀ : List ℕ) (used : ℕ)
     (counts steps : List ℕ) (next : ℕ) : Type 0 where
   pub lengths : counts ≡ sets counts₀ i (map numOf (cyclesRead s at 1))
-  pub places : steps ≡ sets steps₀ used (spread stepsIn (cyclesRead s at 1))
+  pub places : steps ≡ sets steps₀ used (spread cycleWords (cyclesRead s at 1))
   pub reach : Reaches readCycle s at 1 next

@@ -9,10 +9,10 @@ ghost use Rattle.number.specs.Numbers.{readNumber};
 ghost use Rattle.complex.specs.Lists.{total, holds, places};
 ghost use Rattle.complex.specs.Sound.{stepCount};
 ghost use Rattle.complex.specs.Decode.{readCycle};
-ghost use Rattle.store.specs.Places.{numOf, stepsIn};
-ghost use Rattle.command.specs.Lists.{numbersRead, cyclesRead, Stand};
-ghost use Rattle.script.specs.Walks.{below, Marks, Copied, Room, Loaded};
-use command::Skip;
+ghost use Rattle.store.specs.Places.{numOf, cycleWords};
+ghost use Rattle.decode_parts.specs.Lists.{numbersRead, cyclesRead, Stand};
+ghost use Rattle.script.specs.Walks.{below, Marks, Copied, ScriptRoom, Loaded};
+use decode_parts::Skip;
 use number::Number;
 // Walks along the lists that a command leaves in its script: the moved cycles of a cut, and the
 // cycles of a face.
@@ -106,7 +106,7 @@ pub fn count_cycle_steps(script: &[u8], first: usize, count: u32, max: u32) -> u
         if left == 1 {
             return sum + n;
         }
-        let Skip::To(next) = command::skip_cycle(script, at) else {
+        let Skip::To(next) = decode_parts::skip_cycle(script, at) else {
             return 0;
         };
         sum = sum + n;
@@ -147,7 +147,7 @@ fn load_cycle(
     steps: &mut [u32; 2048],
     used: usize,
 ) -> usize
-    requires { ⌜ Room (now script) at 1 (now counts) i (now steps) used ⌝ }
+    requires { ⌜ ScriptRoom (now script) at 1 (now counts) i (now steps) used ⌝ }
     requires { ⌜ length (now counts) ≡ 512 ⌝ }
     requires { ⌜ length (now steps) ≡ 2048 ⌝ }
     ensures { λ r. ⌜ Loaded (now (script .entry)) at (now (counts .entry)) i (now (steps .entry)) used (now (counts .exit)) (now (steps .exit)) r ⌝ }
@@ -171,12 +171,12 @@ pub fn put_cycles(
     steps: &mut [u32; 2048],
     place: usize,
 ) -> usize
-    requires { ⌜ Room (now script) first count (now counts) row (now steps) place ⌝ }
+    requires { ⌜ ScriptRoom (now script) first count (now counts) row (now steps) place ⌝ }
     requires { ⌜ length (now counts) ≡ 512 ⌝ }
     requires { ⌜ length (now steps) ≡ 2048 ⌝ }
     ensures { λ r. ⌜ r ≡ place + total stepCount (cyclesRead (now (script .entry)) first count) ⌝ }
     ensures { λ _. ⌜ now (counts .exit) ≡ sets (now (counts .entry)) row (map numOf (cyclesRead (now (script .entry)) first count)) ⌝ }
-    ensures { λ _. ⌜ now (steps .exit) ≡ sets (now (steps .entry)) place (spread stepsIn (cyclesRead (now (script .entry)) first count)) ⌝ }
+    ensures { λ _. ⌜ now (steps .exit) ≡ sets (now (steps .entry)) place (spread cycleWords (cyclesRead (now (script .entry)) first count)) ⌝ }
 {
     let mut at = first;
     let mut left = count;

@@ -18,11 +18,11 @@ use Rattle.store.specs.declared.Cell.{Cell}
 use Rattle.store.specs.declared.Index.{Index}
 use Rattle.store.specs.Sizes.{Sizes}
 use Rattle.store.specs.View.{sheetOf, Fits, cycleTotal, bendTotal, stepTotal, bendCount, cycleCount}
-use Rattle.store.specs.Places.{headOf}
-use Rattle.store.specs.Index.{Rising, Indexes, rowOf, kindOf, startOf as shapeStart, endOf as shapeEnd, valueAt}
+use Rattle.store.specs.Places.{entryCell}
+use Rattle.store.specs.Index.{Rising, Indexes, rowOf, kindOf, shapeStart, shapeEnd, valueAt}
 use Rattle.store.proofs.Stands.{stands, count-is, ids-same}
 use Rattle.sound.specs.Soundness.{sumsFit, fitsIn, soundSheet, soundDrawing}
-use Rattle.sound.specs.Looks.{told, Looks}
+use Rattle.sound.specs.Looks.{indexValue, Looks}
 use Rattle.sound.proofs.Parts.{is-vertex, is-open, is-closed, is-face, is-live, idRow, kindRow, startRow, endRow, bendRow, cycleRow, kind-row, start-row, end-row, bend-row, cycle-row}
 
 -- ---- the drawing fits, and its sheet is sound
@@ -130,14 +130,14 @@ row-figure (x ∷ xs) i y h = go (eqb (x .id) i) h (row-figure xs i y)
     go true k ih = refl
     go false k ih = ih (omega arith)
 
-head-in : (xs : List LiveCell) (r : ℕ) (c : Cell) (y : LiveCell) → r < length xs → getD (map headOf xs) r c ≡ headOf (getD xs r y)
+head-in : (xs : List LiveCell) (r : ℕ) (c : Cell) (y : LiveCell) → r < length xs → getD (map entryCell xs) r c ≡ entryCell (getD xs r y)
 head-in [] r c y h = absurd (omega arith)
 head-in (x ∷ xs) zero c y h = refl
 head-in (x ∷ xs) (suc r) c y h = head-in xs r c y (omega arith)
 
 module _ (d : Drawing) (z : Sizes d) (f : Fits d) (ix : Index) (x : Indexes d ix) where
   -- the cell in a row of the drawing is that of the sheet
-  pub cell-in : (r : ℕ) → r < d .count → (c : Cell) (y : LiveCell) → getD (d .cells) r c ≡ headOf (getD (sheetOf d .cells) r y)
+  pub cell-in : (r : ℕ) → r < d .count → (c : Cell) (y : LiveCell) → getD (d .cells) r c ≡ entryCell (getD (sheetOf d .cells) r y)
   cell-in r h c y =
       let n = count-is d (sheetOf d .cells) (stands d z f) z (f .cells) in
       sym (getD-take (d .count) (d .cells) r c h) ∙ ap (λ (l : List Cell). getD l r c) (stands d z f .cells) ∙ head-in (sheetOf d .cells) r c y (omega arith)
@@ -157,17 +157,17 @@ module _ (d : Drawing) (z : Sizes d) (f : Fits d) (ix : Index) (x : Indexes d ix
 
 -- ---- the kind in the row of an id
 module _ {d : Drawing} {ix : Index} (k : Looks d ix) (i : ℕ) where
-  pub vertex-at : eqb (told 4 d ix (ix .kinds) i) 0 ≡ isVertex (cellAt (sheetOf d) i)
+  pub vertex-at : eqb (indexValue 4 d ix (ix .kinds) i) 0 ≡ isVertex (cellAt (sheetOf d) i)
   vertex-at = ap (λ (n : ℕ). eqb n 0) (k .kinds i) ∙ is-vertex (cellAt (sheetOf d) i)
 
-  pub open-at : eqb (told 4 d ix (ix .kinds) i) 1 ≡ isOpen (cellAt (sheetOf d) i)
+  pub open-at : eqb (indexValue 4 d ix (ix .kinds) i) 1 ≡ isOpen (cellAt (sheetOf d) i)
   open-at = ap (λ (n : ℕ). eqb n 1) (k .kinds i) ∙ is-open (cellAt (sheetOf d) i)
 
-  pub closed-at : eqb (told 4 d ix (ix .kinds) i) 2 ≡ isClosed (cellAt (sheetOf d) i)
+  pub closed-at : eqb (indexValue 4 d ix (ix .kinds) i) 2 ≡ isClosed (cellAt (sheetOf d) i)
   closed-at = ap (λ (n : ℕ). eqb n 2) (k .kinds i) ∙ is-closed (cellAt (sheetOf d) i)
 
-  pub face-at : eqb (told 4 d ix (ix .kinds) i) 3 ≡ isFace (cellAt (sheetOf d) i)
+  pub face-at : eqb (indexValue 4 d ix (ix .kinds) i) 3 ≡ isFace (cellAt (sheetOf d) i)
   face-at = ap (λ (n : ℕ). eqb n 3) (k .kinds i) ∙ is-face (cellAt (sheetOf d) i)
 
-  pub live-at : not (eqb (told 4 d ix (ix .kinds) i) 4) ≡ isLive (cellAt (sheetOf d) i)
+  pub live-at : not (eqb (indexValue 4 d ix (ix .kinds) i) 4) ≡ isLive (cellAt (sheetOf d) i)
   live-at = ap (λ (n : ℕ). not (eqb n 4)) (k .kinds i) ∙ is-live (cellAt (sheetOf d) i)

@@ -16,9 +16,9 @@ use Rattle.complex.specs.Cells.{Figure, vertex, openEdge, closedEdge, face, Liv
 use Rattle.complex.specs.Sound.{cycleOk, figureOk, figuresOk}
 use Rattle.store.specs.declared.Shape.{Shape}
 use Rattle.store.specs.declared.Cell.{Cell}
-use Rattle.store.specs.Places.{shapeOf, headOf, cyclesIn, bendsIn, cyclesAt, bendsAt}
+use Rattle.store.specs.Places.{shapeOf, entryCell, figureCycles, figureBends, entryCycles, entryBends}
 use Rattle.store.specs.View.{bendCount, cycleCount}
-use Rattle.store.specs.Index.{kindOf, startOf as shapeStart, endOf as shapeEnd, rowOf, valueAt}
+use Rattle.store.specs.Index.{kindOf, shapeStart, shapeEnd, rowOf, valueAt}
 use Rattle.sound.specs.Soundness.{placed, cellPlaced}
 use Rattle.sound.specs.Rows.{isVertexIn, edgeGood}
 use Rattle.sound.specs.Looks.{kindNumber}
@@ -61,12 +61,12 @@ module _ {A B : Type 0} where
 
 -- ---- lookups in the rows of the cells
 module _ (g : Option Figure → ℕ) (f : Shape → ℕ) (z : ℕ) (e : g none ≡ z) (h : (s : Figure) → g (some s) ≡ f (shapeOf s)) where
-  lookup-row : (xs : List LiveCell) (i : ℕ) → valueAt z (map (λ (c : Cell). c .id) (map headOf xs)) (map (λ (c : Cell). f (c .shape)) (map headOf xs)) i ≡ g (lookup xs i)
+  lookup-row : (xs : List LiveCell) (i : ℕ) → valueAt z (map (λ (c : Cell). c .id) (map entryCell xs)) (map (λ (c : Cell). f (c .shape)) (map entryCell xs)) i ≡ g (lookup xs i)
   lookup-row [] i = sym e
   lookup-row (x ∷ xs) i = go (eqb (x .id) i) (lookup-row xs i)
     where
-      go : (b : Bool) → valueAt z (map (λ (c : Cell). c .id) (map headOf xs)) (map (λ (c : Cell). f (c .shape)) (map headOf xs)) i ≡ g (lookup xs i)
-          → getD (f (shapeOf (x .figure)) ∷ map (λ (c : Cell). f (c .shape)) (map headOf xs)) (cond b 0 (suc (rowOf i (map (λ (c : Cell). c .id) (map headOf xs))))) z ≡ g (someIf b (x .figure) (lookup xs i))
+      go : (b : Bool) → valueAt z (map (λ (c : Cell). c .id) (map entryCell xs)) (map (λ (c : Cell). f (c .shape)) (map entryCell xs)) i ≡ g (lookup xs i)
+          → getD (f (shapeOf (x .figure)) ∷ map (λ (c : Cell). f (c .shape)) (map entryCell xs)) (cond b 0 (suc (rowOf i (map (λ (c : Cell). c .id) (map entryCell xs))))) z ≡ g (someIf b (x .figure) (lookup xs i))
       go true k = sym (h (x .figure))
       go false k = k
 
@@ -138,22 +138,22 @@ is-live (some (face ks)) = refl
 
 module _ (xs : List LiveCell) where
   abbrev pub idRow : List ℕ
-  idRow = map (λ (c : Cell). c .id) (map headOf xs)
+  idRow = map (λ (c : Cell). c .id) (map entryCell xs)
 
   abbrev pub kindRow : List ℕ
-  kindRow = map (λ (c : Cell). kindOf (c .shape)) (map headOf xs)
+  kindRow = map (λ (c : Cell). kindOf (c .shape)) (map entryCell xs)
 
   abbrev pub startRow : List ℕ
-  startRow = map (λ (c : Cell). shapeStart (c .shape)) (map headOf xs)
+  startRow = map (λ (c : Cell). shapeStart (c .shape)) (map entryCell xs)
 
   abbrev pub endRow : List ℕ
-  endRow = map (λ (c : Cell). shapeEnd (c .shape)) (map headOf xs)
+  endRow = map (λ (c : Cell). shapeEnd (c .shape)) (map entryCell xs)
 
   abbrev pub bendRow : List ℕ
-  bendRow = map (λ (c : Cell). bendCount (c .shape)) (map headOf xs)
+  bendRow = map (λ (c : Cell). bendCount (c .shape)) (map entryCell xs)
 
   abbrev pub cycleRow : List ℕ
-  cycleRow = map (λ (c : Cell). cycleCount (c .shape)) (map headOf xs)
+  cycleRow = map (λ (c : Cell). cycleCount (c .shape)) (map entryCell xs)
 
   pub kind-row : (i : ℕ) → valueAt 4 idRow kindRow i ≡ kindNumber (lookup xs i)
   kind-row i = lookup-row kindNumber kindOf 4 refl kind-same xs i
@@ -185,7 +185,7 @@ module _ (xs : List LiveCell) where
 
   figure-parts : (s : Figure) → figureOk (lookup xs) s
       ≡ (placed (shapeOf s) && edgeGood (idRow xs) (kindRow xs) (kindOf (shapeOf s)) (shapeStart (shapeOf s)) (shapeEnd (shapeOf s)) (bendCount (shapeOf s)))
-      && (all within (bendsIn s) && all (cycleOk (lookup xs)) (cyclesIn s))
+      && (all within (figureBends s) && all (cycleOk (lookup xs)) (figureCycles s))
   figure-parts (vertex p) = sym (and-unit (within p && true) ∙ and-unit (within p))
   figure-parts (openEdge a b bs) =
       and-assoc (isVertex (lookup xs a)) (isVertex (lookup xs b)) (all within bs)
@@ -195,12 +195,12 @@ module _ (xs : List LiveCell) where
 
   -- the parts of a sheet's soundness, as they are tested
   pub figures-parts : figuresOk xs
-      ≡ (all cellPlaced (map headOf xs) && all cellEdge (map headOf xs)) && (all within (spread bendsAt xs) && all (cycleOk (lookup xs)) (spread cyclesAt xs))
+      ≡ (all cellPlaced (map entryCell xs) && all cellEdge (map entryCell xs)) && (all within (spread entryBends xs) && all (cycleOk (lookup xs)) (spread entryCycles xs))
   figures-parts =
       let look = lookup xs in
       all-same (λ (x : LiveCell). figureOk look (x .figure))
-      (λ (x : LiveCell). (cellPlaced (headOf x) && cellEdge (headOf x)) && (all within (bendsAt x) && all (cycleOk look) (cyclesAt x))) (λ x. figure-parts (x .figure)) xs
-      ∙ all-and (λ (x : LiveCell). cellPlaced (headOf x) && cellEdge (headOf x)) (λ (x : LiveCell). all within (bendsAt x) && all (cycleOk look) (cyclesAt x)) xs
+      (λ (x : LiveCell). (cellPlaced (entryCell x) && cellEdge (entryCell x)) && (all within (entryBends x) && all (cycleOk look) (entryCycles x))) (λ x. figure-parts (x .figure)) xs
+      ∙ all-and (λ (x : LiveCell). cellPlaced (entryCell x) && cellEdge (entryCell x)) (λ (x : LiveCell). all within (entryBends x) && all (cycleOk look) (entryCycles x)) xs
       ∙ ap₂ _&&_
-      (all-and (λ (x : LiveCell). cellPlaced (headOf x)) (λ (x : LiveCell). cellEdge (headOf x)) xs ∙ ap₂ _&&_ (all-map cellPlaced headOf xs) (all-map cellEdge headOf xs))
-      (all-and (λ (x : LiveCell). all within (bendsAt x)) (λ (x : LiveCell). all (cycleOk look) (cyclesAt x)) xs ∙ ap₂ _&&_ (all-flat within bendsAt xs) (all-flat (cycleOk look) cyclesAt xs))
+      (all-and (λ (x : LiveCell). cellPlaced (entryCell x)) (λ (x : LiveCell). cellEdge (entryCell x)) xs ∙ ap₂ _&&_ (all-map cellPlaced entryCell xs) (all-map cellEdge entryCell xs))
+      (all-and (λ (x : LiveCell). all within (entryBends x)) (λ (x : LiveCell). all (cycleOk look) (entryCycles x)) xs ∙ ap₂ _&&_ (all-flat within entryBends xs) (all-flat (cycleOk look) entryCycles xs))

@@ -10,7 +10,7 @@ use borrow.Author.Tests.{eq-eqb, ne-eqb, eqb-true, eqb-false}
 use Rattle.complex.specs.Lists.{all}
 use Rattle.complex.specs.Cells.{LiveCell, lookup, isOpen, same, tailOf, headOf}
 use Rattle.complex.specs.Sound.{leads, joins, cycleOk}
-use Rattle.store.specs.View.{halfedgeOf, width, cycleOf, cyclesOf}
+use Rattle.store.specs.View.{halfedgeOf, width, cycleOf, cyclesFrom}
 use Rattle.sound.specs.Rows.{Rows, tailIn, headIn, leadsIn, joinsIn, cycleGood, cyclesGood}
 use Rattle.sound.proofs.Parts.{and-assoc, all-same, all-map, is-open, is-closed, idRow, kindRow, startRow, endRow, kind-row, start-row, end-row, vertex-row}
 
@@ -56,6 +56,6 @@ module _ (xs : List LiveCell) where
   cycle-right (suc n) st = joins-row (take (suc n) st)
 
   -- the cycles as they are tested are the cycles as the sheet has them
-  pub cycles-right : (ns st : List ℕ) → cyclesGood cellRows ns st ≡ all (cycleOk (lookup xs)) (cyclesOf ns st)
+  pub cycles-right : (ns st : List ℕ) → cyclesGood cellRows ns st ≡ all (cycleOk (lookup xs)) (cyclesFrom ns st)
   cycles-right [] st = refl
   cycles-right (n ∷ ns) st = ap₂ _&&_ (cycle-right n st) (cycles-right ns (drop (width n) st))

@@ -19,8 +19,8 @@ use Rattle.store.specs.declared.Index.{Index}
 use Rattle.store.specs.Sizes.{Sizes}
 use Rattle.store.specs.View.{sheetOf, Fits, bendCount, cycleTotal, bendTotal}
 use Rattle.store.specs.declared.Cell.{Cell}
-use Rattle.store.specs.Places.{word, headOf, cyclesIn, bendsIn, stepsIn, cyclesAt, bendsAt}
-use Rattle.store.specs.Index.{Indexes, kindOf, startOf, endOf}
+use Rattle.store.specs.Places.{word, entryCell, figureCycles, figureBends, cycleWords, entryCycles, entryBends}
+use Rattle.store.specs.Index.{Indexes, kindOf, shapeStart, shapeEnd}
 use Rattle.store.proofs.Encode.{flat-append}
 use Rattle.store.proofs.Stands.{stands, used-cycles, bend-total, cycle-total, step-total, count-is, ids-same}
 use Rattle.sound.specs.Soundness.{soundSheet, cellPlaced, allPlaced}
@@ -31,38 +31,38 @@ use Rattle.sound.proofs.Rings.{cellRows, cycles-right}
 use Rattle.sound.proofs.Meaning.{ids-are, kinds-are, starts-are, ends-are, bends-are}
 
 -- ---- a drawing that fits keeps the ceilings
-cycles-over : (ys : List LiveCell) → over sounds.cyclesIn ys ≡ length (spread cyclesAt ys)
+cycles-over : (ys : List LiveCell) → over sounds.cyclesIn ys ≡ length (spread entryCycles ys)
 cycles-over [] = refl
-cycles-over (y ∷ ys) = ap₂ _+_ (go (y .figure)) (cycles-over ys) ∙ sym (length-append (cyclesAt y) (spread cyclesAt ys))
+cycles-over (y ∷ ys) = ap₂ _+_ (go (y .figure)) (cycles-over ys) ∙ sym (length-append (entryCycles y) (spread entryCycles ys))
   where
-    go : (s : Figure) → sounds.cyclesIn s ≡ length (cyclesIn s)
+    go : (s : Figure) → sounds.cyclesIn s ≡ length (figureCycles s)
     go (vertex p) = refl
     go (openEdge a b bs) = refl
     go (closedEdge bs) = refl
     go (face ks) = refl
 
-bends-over : (ys : List LiveCell) → over sounds.bendsIn ys ≡ length (spread bendsAt ys)
+bends-over : (ys : List LiveCell) → over sounds.bendsIn ys ≡ length (spread entryBends ys)
 bends-over [] = refl
-bends-over (y ∷ ys) = ap₂ _+_ (go (y .figure)) (bends-over ys) ∙ sym (length-append (bendsAt y) (spread bendsAt ys))
+bends-over (y ∷ ys) = ap₂ _+_ (go (y .figure)) (bends-over ys) ∙ sym (length-append (entryBends y) (spread entryBends ys))
   where
-    go : (s : Figure) → sounds.bendsIn s ≡ length (bendsIn s)
+    go : (s : Figure) → sounds.bendsIn s ≡ length (figureBends s)
     go (vertex p) = refl
     go (openEdge a b bs) = refl
     go (closedEdge bs) = refl
     go (face ks) = refl
 
-steps-of : (ks : List Cycle) → total sounds.stepCount ks ≡ length (spread stepsIn ks)
+steps-of : (ks : List Cycle) → total sounds.stepCount ks ≡ length (spread cycleWords ks)
 steps-of [] = refl
 steps-of (lone v ∷ ks) = let e = steps-of ks in omega arith
-steps-of (path hs ∷ ks) = ap₂ _+_ (sym (length-map hs word)) (steps-of ks) ∙ sym (length-append (map word hs) (spread stepsIn ks))
+steps-of (path hs ∷ ks) = ap₂ _+_ (sym (length-map hs word)) (steps-of ks) ∙ sym (length-append (map word hs) (spread cycleWords ks))
 
-steps-over : (ys : List LiveCell) → over sounds.stepsIn ys ≡ length (spread stepsIn (spread cyclesAt ys))
+steps-over : (ys : List LiveCell) → over sounds.stepsIn ys ≡ length (spread cycleWords (spread entryCycles ys))
 steps-over [] = refl
 steps-over (y ∷ ys) =
     ap₂ _+_ (go (y .figure)) (steps-over ys)
-    ∙ sym (ap length (flat-append stepsIn (cyclesAt y) (spread cyclesAt ys)) ∙ length-append (spread stepsIn (cyclesAt y)) (spread stepsIn (spread cyclesAt ys)))
+    ∙ sym (ap length (flat-append cycleWords (entryCycles y) (spread entryCycles ys)) ∙ length-append (spread cycleWords (entryCycles y)) (spread cycleWords (spread entryCycles ys)))
   where
-    go : (s : Figure) → sounds.stepsIn s ≡ length (spread stepsIn (cyclesIn s))
+    go : (s : Figure) → sounds.stepsIn s ≡ length (spread cycleWords (figureCycles s))
     go (vertex p) = refl
     go (openEdge a b bs) = refl
     go (closedEdge bs) = refl
@@ -105,21 +105,21 @@ module _ (d : Drawing) (z : Sizes d) (f : Fits d) (ix : Index) (x : Indexes d ix
   rows-are : rows ≡ cellRows (sheetOf d .cells)
   rows-are = λ i. record { ids = ids-are d z f ix x i; kinds = kinds-are d z f ix x i; starts = starts-are d z f ix x i; ends = ends-are d z f ix x i }
 
-  cells-are : take (d .count) (d .cells) ≡ map headOf (sheetOf d .cells)
+  cells-are : take (d .count) (d .cells) ≡ map entryCell (sheetOf d .cells)
   cells-are = stands d z f .cells
 
-  edges-part : allFrom (rowGood rows bendCounts) 0 (d .count) ≡ all (cellEdge (sheetOf d .cells)) (map headOf (sheetOf d .cells))
+  edges-part : allFrom (rowGood rows bendCounts) 0 (d .count) ≡ all (cellEdge (sheetOf d .cells)) (map entryCell (sheetOf d .cells))
   edges-part =
       let xs = sheetOf d .cells in
-      let e : d .count ≡ length (map headOf xs) = sym (length-take-le (d .count) (d .cells) (omega (arith, z .cells, f .cells))) ∙ ap length cells-are in
+      let e : d .count ≡ length (map entryCell xs) = sym (length-take-le (d .count) (d .cells) (omega (arith, z .cells, f .cells))) ∙ ap length cells-are in
       ap₂ (λ (t : Rows) (b : List ℕ). allFrom (rowGood t b) 0 (d .count)) rows-are (bends-are d z f ix x)
       ∙ ap (allFrom (rowGood (cellRows xs) (bendRow xs)) 0) e
-      ∙ all-rows (edgeGood (idRow xs) (kindRow xs)) (λ (c : Cell). kindOf (c .shape)) (λ (c : Cell). startOf (c .shape)) (λ (c : Cell). endOf (c .shape)) (λ (c : Cell). bendCount (c .shape)) (map headOf xs)
+      ∙ all-rows (edgeGood (idRow xs) (kindRow xs)) (λ (c : Cell). kindOf (c .shape)) (λ (c : Cell). shapeStart (c .shape)) (λ (c : Cell). shapeEnd (c .shape)) (λ (c : Cell). bendCount (c .shape)) (map entryCell xs)
 
-  bends-part : all within (take (bendTotal d) (d .bends)) ≡ all within (spread bendsAt (sheetOf d .cells))
+  bends-part : all within (take (bendTotal d) (d .bends)) ≡ all within (spread entryBends (sheetOf d .cells))
   bends-part = ap (λ (n : ℕ). all within (take n (d .bends))) (bend-total d (sheetOf d .cells) (stands d z f)) ∙ ap (all within) (stands d z f .bends .front)
 
-  cycles-part : cyclesGood rows inUse (d .steps) ≡ all (cycleOk (lookup (sheetOf d .cells))) (spread cyclesAt (sheetOf d .cells))
+  cycles-part : cyclesGood rows inUse (d .steps) ≡ all (cycleOk (lookup (sheetOf d .cells))) (spread entryCycles (sheetOf d .cells))
   cycles-part =
       let xs = sheetOf d .cells in
       ap (λ (t : Rows). cyclesGood t inUse (d .steps)) rows-are

@@ -19,14 +19,14 @@ kindNumber (some (closedEdge bs)) = 2
 kindNumber (some (face ks)) = 3
 
 -- the value that an array of the index of d has for an id, or z
-abbrev pub told : ℕ → Drawing → Index → List ℕ → ℕ → ℕ
-told z d ix vs i = valueAt z (take (d .count) (ix .ids)) (take (d .count) vs) i
+abbrev pub indexValue : ℕ → Drawing → Index → List ℕ → ℕ → ℕ
+indexValue z d ix vs i = valueAt z (take (d .count) (ix .ids)) (take (d .count) vs) i
 
 -- the index of d tells each cell of its sheet by id
 pub record Looks (d : Drawing) (ix : Index) : Type 0 where
   pub rising : Rising (take (d .count) (ix .ids))
-  pub kinds : (i : ℕ) → told 4 d ix (ix .kinds) i ≡ kindNumber (cellAt (sheetOf d) i)
-  pub starts : (i : ℕ) → told 0 d ix (ix .starts) i ≡ startOf (cellAt (sheetOf d) i)
-  pub ends : (i : ℕ) → told 0 d ix (ix .ends) i ≡ endOf (cellAt (sheetOf d) i)
-  pub bends : (i : ℕ) → told 0 d ix (ix .bends) i ≡ length (bendsOf (cellAt (sheetOf d) i))
-  pub cycles : (i : ℕ) → told 0 d ix (ix .cycles) i ≡ length (cyclesOf (cellAt (sheetOf d) i))
+  pub kinds : (i : ℕ) → indexValue 4 d ix (ix .kinds) i ≡ kindNumber (cellAt (sheetOf d) i)
+  pub starts : (i : ℕ) → indexValue 0 d ix (ix .starts) i ≡ startOf (cellAt (sheetOf d) i)
+  pub ends : (i : ℕ) → indexValue 0 d ix (ix .ends) i ≡ endOf (cellAt (sheetOf d) i)
+  pub bends : (i : ℕ) → indexValue 0 d ix (ix .bends) i ≡ length (bendsOf (cellAt (sheetOf d) i))
+  pub cycles : (i : ℕ) → indexValue 0 d ix (ix .cycles) i ≡ length (cyclesOf (cellAt (sheetOf d) i))

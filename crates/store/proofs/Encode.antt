@@ -16,9 +16,9 @@ use Rattle.complex.specs.Lists.{total}
 use Rattle.complex.specs.Sound.{stepCount}
 use Rattle.complex.specs.Cells.{Halfedge, Cycle, lone, path, Figure, vertex, openEdge, closedEdge, face, LiveCell as Entry}
 use Rattle.store.specs.Sheet.{real, allReal}
-use Rattle.store.specs.Places.{bit, word, numOf, stepsIn, shapeOf, cyclesIn, bendsIn, headOf, cyclesAt, bendsAt}
+use Rattle.store.specs.Places.{bit, word, numOf, cycleWords, shapeOf, figureCycles, figureBends, entryCell, entryCycles, entryBends}
 use Rattle.number.specs.Readers.{spread}
-use Rattle.store.specs.View.{halfedgeOf, width, cycleOf, cyclesOf, cycleCount, bendCount, figureOf, cellsOf, cycleSum, bendSum, widthSum}
+use Rattle.store.specs.View.{halfedgeOf, width, cycleOf, cyclesFrom, cycleCount, bendCount, figureOf, cellsOf, cycleSum, bendSum, widthSum}
 
 module _ {A B : Type 0} where
   pub flat-append : (f : A → List B) (xs ys : List A) → spread f (xs ++ ys) ≡ spread f xs ++ spread f ys
@@ -26,13 +26,13 @@ module _ {A B : Type 0} where
   flat-append f (x ∷ xs) ys = ap (λ (r : List B). f x ++ r) (flat-append f xs ys) ∙ sym (append-assoc (f x) (spread f xs) (spread f ys))
 
 -- the places that cycles take: a lone vertex has one
-pub places-size : (k : Cycle) → length (stepsIn k) ≡ stepCount k
+pub places-size : (k : Cycle) → length (cycleWords k) ≡ stepCount k
 places-size (lone v) = refl
 places-size (path hs) = length-map hs word
 
-pub all-places : (ks : List Cycle) → length (spread stepsIn ks) ≡ total stepCount ks
+pub all-places : (ks : List Cycle) → length (spread cycleWords ks) ≡ total stepCount ks
 all-places [] = refl
-all-places (k ∷ ks) = length-append (stepsIn k) (spread stepsIn ks) ∙ ap₂ _+_ (places-size k) (all-places ks)
+all-places (k ∷ ks) = length-append (cycleWords k) (spread cycleWords ks) ∙ ap₂ _+_ (places-size k) (all-places ks)
 
 -- a step's number, both ways
 word-half : (e : ℕ) (b : Bool) → halfedgeOf (e * 2 + bit b) ≡ record { edge = e; backward = b }
@@ -62,7 +62,7 @@ cycle-number : (n : ℕ) (st : List ℕ) → width n ≤ length st → numOf (cy
 cycle-number zero st h = refl
 cycle-number (suc n) st h = length-map (take (suc n) st) halfedgeOf ∙ length-take-le (suc n) st h
 
-pub numbers : (ns st : List ℕ) → widthSum ns ≤ length st → map numOf (cyclesOf ns st) ≡ ns
+pub numbers : (ns st : List ℕ) → widthSum ns ≤ length st → map numOf (cyclesFrom ns st) ≡ ns
 numbers [] st h = refl
 numbers (n ∷ ns) st h =
     ap₂ (λ (x : ℕ) (xs : List ℕ). x ∷ xs) (cycle-number n st (omega arith)) (numbers ns (drop (width n) st) (simp length-drop (omega arith)))
@@ -71,11 +71,11 @@ first-place : (st : List ℕ) → 1 ≤ length st → getD st 0 0 ∷ [] ≡ tak
 first-place [] h = absurd (omega arith)
 first-place (x ∷ st) h = refl
 
-cycle-places : (n : ℕ) (st : List ℕ) → width n ≤ length st → stepsIn (cycleOf n st) ≡ take (width n) st
+cycle-places : (n : ℕ) (st : List ℕ) → width n ≤ length st → cycleWords (cycleOf n st) ≡ take (width n) st
 cycle-places zero st h = first-place st h
 cycle-places (suc n) st h = words (take (suc n) st)
 
-pub places : (ns st : List ℕ) → widthSum ns ≤ length st → spread stepsIn (cyclesOf ns st) ≡ take (widthSum ns) st
+pub places : (ns st : List ℕ) → widthSum ns ≤ length st → spread cycleWords (cyclesFrom ns st) ≡ take (widthSum ns) st
 places [] st h = refl
 places (n ∷ ns) st h =
     ap₂ (λ (x xs : List ℕ). x ++ xs) (cycle-places n st (omega arith)) (places ns (drop (width n) st) (simp length-drop (omega arith)))
@@ -86,17 +86,17 @@ cycle-real zero st h = refl
 cycle-real (suc n) [] h = absurd (omega arith)
 cycle-real (suc n) (x ∷ st) h = refl
 
-pub cycles-real : (ns st : List ℕ) → widthSum ns ≤ length st → allReal (cyclesOf ns st) ≡ true
+pub cycles-real : (ns st : List ℕ) → widthSum ns ≤ length st → allReal (cyclesFrom ns st) ≡ true
 cycles-real [] st h = refl
 cycles-real (n ∷ ns) st h =
     ap₂ _&&_ (cycle-real n st (omega arith)) (cycles-real ns (drop (width n) st) (simp length-drop (omega arith)))
 
-pub take-cycles : (k : ℕ) (ns st : List ℕ) → take k (cyclesOf ns st) ≡ cyclesOf (take k ns) st
+pub take-cycles : (k : ℕ) (ns st : List ℕ) → take k (cyclesFrom ns st) ≡ cyclesFrom (take k ns) st
 take-cycles zero ns st = refl
 take-cycles (suc k) [] st = refl
 take-cycles (suc k) (n ∷ ns) st = ap (λ (r : List Cycle). cycleOf n st ∷ r) (take-cycles k ns (drop (width n) st))
 
-pub length-cycles : (ns st : List ℕ) → length (cyclesOf ns st) ≡ length ns
+pub length-cycles : (ns st : List ℕ) → length (cyclesFrom ns st) ≡ length ns
 length-cycles [] st = refl
 length-cycles (n ∷ ns) st = ap suc (length-cycles ns (drop (width n) st))
 
@@ -107,32 +107,32 @@ figure-shape (Closed n) ks bs h g = ap Closed (length-take-le n bs g)
 figure-shape (Face k) ks bs h g = ap Face (length-take-le k ks h)
 
 pub heads : (cs : List Cell) (ks : List Cycle) (bs : List Position) → cycleSum cs ≤ length ks → bendSum cs ≤ length bs
-    → map headOf (cellsOf cs ks bs) ≡ cs
+    → map entryCell (cellsOf cs ks bs) ≡ cs
 heads [] ks bs h g = refl
 heads (c ∷ cs) ks bs h g =
     ap₂ (λ (s : Shape) (r : List Cell). record { id = c .id; shape = s } ∷ r)
     (figure-shape (c .shape) ks bs (omega arith) (omega arith))
     (heads cs (drop (cycleCount (c .shape)) ks) (drop (bendCount (c .shape)) bs) (simp length-drop (omega arith)) (simp length-drop (omega arith)))
 
-figure-cycles : (s : Shape) (ks : List Cycle) (bs : List Position) → cyclesIn (figureOf s ks bs) ≡ take (cycleCount s) ks
+figure-cycles : (s : Shape) (ks : List Cycle) (bs : List Position) → figureCycles (figureOf s ks bs) ≡ take (cycleCount s) ks
 figure-cycles (Vertex p) ks bs = refl
 figure-cycles (Open s e n) ks bs = refl
 figure-cycles (Closed n) ks bs = refl
 figure-cycles (Face k) ks bs = refl
 
-pub cycles-of-cells : (cs : List Cell) (ks : List Cycle) (bs : List Position) → spread cyclesAt (cellsOf cs ks bs) ≡ take (cycleSum cs) ks
+pub cycles-of-cells : (cs : List Cell) (ks : List Cycle) (bs : List Position) → spread entryCycles (cellsOf cs ks bs) ≡ take (cycleSum cs) ks
 cycles-of-cells [] ks bs = refl
 cycles-of-cells (c ∷ cs) ks bs =
     ap₂ (λ (x xs : List Cycle). x ++ xs) (figure-cycles (c .shape) ks bs) (cycles-of-cells cs (drop (cycleCount (c .shape)) ks) (drop (bendCount (c .shape)) bs))
     ∙ sym (take-add (cycleCount (c .shape)) (cycleSum cs) ks)
 
-figure-bends : (s : Shape) (ks : List Cycle) (bs : List Position) → bendsIn (figureOf s ks bs) ≡ take (bendCount s) bs
+figure-bends : (s : Shape) (ks : List Cycle) (bs : List Position) → figureBends (figureOf s ks bs) ≡ take (bendCount s) bs
 figure-bends (Vertex p) ks bs = refl
 figure-bends (Open s e n) ks bs = refl
 figure-bends (Closed n) ks bs = refl
 figure-bends (Face k) ks bs = refl
 
-pub bends-of-cells : (cs : List Cell) (ks : List Cycle) (bs : List Position) → spread bendsAt (cellsOf cs ks bs) ≡ take (bendSum cs) bs
+pub bends-of-cells : (cs : List Cell) (ks : List Cycle) (bs : List Position) → spread entryBends (cellsOf cs ks bs) ≡ take (bendSum cs) bs
 bends-of-cells [] ks bs = refl
 bends-of-cells (c ∷ cs) ks bs =
     ap₂ (λ (x xs : List Position). x ++ xs) (figure-bends (c .shape) ks bs) (bends-of-cells cs (drop (cycleCount (c .shape)) ks) (drop (bendCount (c .shape)) bs))
@@ -145,70 +145,70 @@ path-back hs n st e = ap (map halfedgeOf) (take-at (map word hs) st n (length-ma
 path-drop : (hs : List Halfedge) (n : ℕ) (st : List ℕ) → length hs ≡ n → drop n (map word hs ++ st) ≡ st
 path-drop hs n st e = drop-at (map word hs) st n (length-map hs word ∙ e)
 
-pub cycles-back : (ks : List Cycle) (ns st : List ℕ) → allReal ks ≡ true → cyclesOf (map numOf ks ++ ns) (spread stepsIn ks ++ st) ≡ ks ++ cyclesOf ns st
+pub cycles-back : (ks : List Cycle) (ns st : List ℕ) → allReal ks ≡ true → cyclesFrom (map numOf ks ++ ns) (spread cycleWords ks ++ st) ≡ ks ++ cyclesFrom ns st
 cycles-back [] ns st h = refl
 cycles-back (lone v ∷ ks) ns st h = ap (λ (r : List Cycle). lone v ∷ r) (cycles-back ks ns st h)
 cycles-back (path [] ∷ ks) ns st h = absurd (false≢true h)
 cycles-back (path (x ∷ hs) ∷ ks) ns st h =
-    ap (λ (l : List ℕ). cyclesOf (suc (length hs) ∷ (map numOf ks ++ ns)) l) (append-assoc (map word (x ∷ hs)) (spread stepsIn ks) st)
-    ∙ ap₂ (λ (p : List Halfedge) (l : List ℕ). path p ∷ cyclesOf (map numOf ks ++ ns) l)
-    (path-back (x ∷ hs) (suc (length hs)) (spread stepsIn ks ++ st) refl)
-    (path-drop (x ∷ hs) (suc (length hs)) (spread stepsIn ks ++ st) refl)
+    ap (λ (l : List ℕ). cyclesFrom (suc (length hs) ∷ (map numOf ks ++ ns)) l) (append-assoc (map word (x ∷ hs)) (spread cycleWords ks) st)
+    ∙ ap₂ (λ (p : List Halfedge) (l : List ℕ). path p ∷ cyclesFrom (map numOf ks ++ ns) l)
+    (path-back (x ∷ hs) (suc (length hs)) (spread cycleWords ks ++ st) refl)
+    (path-drop (x ∷ hs) (suc (length hs)) (spread cycleWords ks ++ st) refl)
     ∙ ap (λ (r : List Cycle). path (x ∷ hs) ∷ r) (cycles-back ks ns st h)
 
-figure-back : (f : Figure) (ks : List Cycle) (bs : List Position) → figureOf (shapeOf f) (cyclesIn f ++ ks) (bendsIn f ++ bs) ≡ f
+figure-back : (f : Figure) (ks : List Cycle) (bs : List Position) → figureOf (shapeOf f) (figureCycles f ++ ks) (figureBends f ++ bs) ≡ f
 figure-back (vertex p) ks bs = refl
 figure-back (openEdge s e b) ks bs = ap (openEdge s e) (take-at b bs (length b) refl)
 figure-back (closedEdge b) ks bs = ap closedEdge (take-at b bs (length b) refl)
 figure-back (face k) ks bs = ap face (take-at k ks (length k) refl)
 
-cycles-past : (f : Figure) (ks : List Cycle) → drop (cycleCount (shapeOf f)) (cyclesIn f ++ ks) ≡ ks
+cycles-past : (f : Figure) (ks : List Cycle) → drop (cycleCount (shapeOf f)) (figureCycles f ++ ks) ≡ ks
 cycles-past (vertex p) ks = refl
 cycles-past (openEdge s e b) ks = refl
 cycles-past (closedEdge b) ks = refl
 cycles-past (face k) ks = drop-at k ks (length k) refl
 
-bends-past : (f : Figure) (bs : List Position) → drop (bendCount (shapeOf f)) (bendsIn f ++ bs) ≡ bs
+bends-past : (f : Figure) (bs : List Position) → drop (bendCount (shapeOf f)) (figureBends f ++ bs) ≡ bs
 bends-past (vertex p) bs = refl
 bends-past (openEdge s e b) bs = drop-at b bs (length b) refl
 bends-past (closedEdge b) bs = drop-at b bs (length b) refl
 bends-past (face k) bs = refl
 
-pub cells-back : (xs : List Entry) (ks : List Cycle) (bs : List Position) → cellsOf (map headOf xs) (spread cyclesAt xs ++ ks) (spread bendsAt xs ++ bs) ≡ xs
+pub cells-back : (xs : List Entry) (ks : List Cycle) (bs : List Position) → cellsOf (map entryCell xs) (spread entryCycles xs ++ ks) (spread entryBends xs ++ bs) ≡ xs
 cells-back [] ks bs = refl
 cells-back (x ∷ xs) ks bs =
     let f = x .figure in
-    let kr : List Cycle = spread cyclesAt xs ++ ks in
-    let br : List Position = spread bendsAt xs ++ bs in
-    ap₂ (λ (k : List Cycle) (b : List Position). cellsOf (headOf x ∷ map headOf xs) k b) (append-assoc (cyclesIn f) (spread cyclesAt xs) ks) (append-assoc (bendsIn f) (spread bendsAt xs) bs)
-    ∙ ap (λ (g : Figure). record { id = x .id; figure = g } ∷ cellsOf (map headOf xs) (drop (cycleCount (shapeOf f)) (cyclesIn f ++ kr)) (drop (bendCount (shapeOf f)) (bendsIn f ++ br))) (figure-back f kr br)
-    ∙ ap₂ (λ (k : List Cycle) (b : List Position). x ∷ cellsOf (map headOf xs) k b) (cycles-past f kr) (bends-past f br)
+    let kr : List Cycle = spread entryCycles xs ++ ks in
+    let br : List Position = spread entryBends xs ++ bs in
+    ap₂ (λ (k : List Cycle) (b : List Position). cellsOf (entryCell x ∷ map entryCell xs) k b) (append-assoc (figureCycles f) (spread entryCycles xs) ks) (append-assoc (figureBends f) (spread entryBends xs) bs)
+    ∙ ap (λ (g : Figure). record { id = x .id; figure = g } ∷ cellsOf (map entryCell xs) (drop (cycleCount (shapeOf f)) (figureCycles f ++ kr)) (drop (bendCount (shapeOf f)) (figureBends f ++ br))) (figure-back f kr br)
+    ∙ ap₂ (λ (k : List Cycle) (b : List Position). x ∷ cellsOf (map entryCell xs) k b) (cycles-past f kr) (bends-past f br)
     ∙ ap (λ (r : List Entry). x ∷ r) (cells-back xs ks bs)
 
 -- the sums are the lengths
-cycle-count : (f : Figure) → cycleCount (shapeOf f) ≡ length (cyclesIn f)
+cycle-count : (f : Figure) → cycleCount (shapeOf f) ≡ length (figureCycles f)
 cycle-count (vertex p) = refl
 cycle-count (openEdge s e b) = refl
 cycle-count (closedEdge b) = refl
 cycle-count (face k) = refl
 
-bend-count : (f : Figure) → bendCount (shapeOf f) ≡ length (bendsIn f)
+bend-count : (f : Figure) → bendCount (shapeOf f) ≡ length (figureBends f)
 bend-count (vertex p) = refl
 bend-count (openEdge s e b) = refl
 bend-count (closedEdge b) = refl
 bend-count (face k) = refl
 
-pub cycle-sum : (xs : List Entry) → cycleSum (map headOf xs) ≡ length (spread cyclesAt xs)
+pub cycle-sum : (xs : List Entry) → cycleSum (map entryCell xs) ≡ length (spread entryCycles xs)
 cycle-sum [] = refl
-cycle-sum (x ∷ xs) = ap₂ _+_ (cycle-count (x .figure)) (cycle-sum xs) ∙ sym (length-append (cyclesAt x) (spread cyclesAt xs))
+cycle-sum (x ∷ xs) = ap₂ _+_ (cycle-count (x .figure)) (cycle-sum xs) ∙ sym (length-append (entryCycles x) (spread entryCycles xs))
 
-pub bend-sum : (xs : List Entry) → bendSum (map headOf xs) ≡ length (spread bendsAt xs)
+pub bend-sum : (xs : List Entry) → bendSum (map entryCell xs) ≡ length (spread entryBends xs)
 bend-sum [] = refl
-bend-sum (x ∷ xs) = ap₂ _+_ (bend-count (x .figure)) (bend-sum xs) ∙ sym (length-append (bendsAt x) (spread bendsAt xs))
+bend-sum (x ∷ xs) = ap₂ _+_ (bend-count (x .figure)) (bend-sum xs) ∙ sym (length-append (entryBends x) (spread entryBends xs))
 
-pub width-sum : (ks : List Cycle) → allReal ks ≡ true → widthSum (map numOf ks) ≡ length (spread stepsIn ks)
+pub width-sum : (ks : List Cycle) → allReal ks ≡ true → widthSum (map numOf ks) ≡ length (spread cycleWords ks)
 width-sum [] h = refl
 width-sum (lone v ∷ ks) h = let e = width-sum ks h in omega arith
 width-sum (path [] ∷ ks) h = absurd (false≢true h)
 width-sum (path (x ∷ hs) ∷ ks) h =
-    ap₂ _+_ (ap suc (sym (length-map hs word))) (width-sum ks h) ∙ sym (length-append (map word (x ∷ hs)) (spread stepsIn ks))
+    ap₂ _+_ (ap suc (sym (length-map hs word))) (width-sum ks h) ∙ sym (length-append (map word (x ∷ hs)) (spread cycleWords ks))

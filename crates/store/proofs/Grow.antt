@@ -17,7 +17,7 @@ use Rattle.store.specs.Sheet.{real, allReal}
 use Rattle.store.specs.View.{sheetOf, Fits, cycleTotal, bendTotal, stepTotal}
 use Rattle.store.specs.Edits.{appended, withCells}
 use Rattle.store.proofs.Lists.{map-append}
-use Rattle.store.specs.Places.{shapeOf, headOf, cyclesIn, bendsIn, cyclesAt, bendsAt, numOf, stepsIn}
+use Rattle.store.specs.Places.{shapeOf, entryCell, figureCycles, figureBends, entryCycles, entryBends, numOf, cycleWords}
 use Rattle.number.specs.Readers.{spread}
 use Rattle.store.proofs.Encode.{flat-append}
 use Rattle.store.proofs.Stands.{Begins, begins-take, take-begins, Stands, stands, viewed, fitting, cycle-total, bend-total, step-total}
@@ -62,7 +62,7 @@ module _ (d r : Drawing) (z : Sizes d) (f : Fits d) where
       sheet-is r (sheetOf d) (n ∙ sym (next-is d))
       (viewed r xs (record {
         cells = c ∙ s .cells;
-        cycles = begins-same (r .cycles) (cycleTotal d) (cycle-total d xs s ∙ sym (length-map (spread cyclesAt xs) numOf)) k (s .cycles);
+        cycles = begins-same (r .cycles) (cycleTotal d) (cycle-total d xs s ∙ sym (length-map (spread entryCycles xs) numOf)) k (s .cycles);
         steps = begins-same (r .steps) (stepTotal d) (step-total d xs s) t (s .steps);
         bends = begins-same (r .bends) (bendTotal d) (bend-total d xs s) b (s .bends);
         real = s .real;
@@ -83,33 +83,33 @@ grown d x cy st bs =
 module _ (d : Drawing) (z : Sizes d) (f : Fits d) (h : d .count < 256) (x : Figure) (cy st : List ℕ) (bs : List Position) where
   -- the pools that are d's up to the sums, and then have the figure's own
   pub append : Sizes (grown d x cy st bs)
-      → cycleTotal d + length (map numOf (cyclesIn x)) ≤ 512 → take (cycleTotal d + length (map numOf (cyclesIn x))) cy ≡ take (cycleTotal d) (d .cycles) ++ map numOf (cyclesIn x)
-      → stepTotal d + length (spread stepsIn (cyclesIn x)) ≤ 2048 → take (stepTotal d + length (spread stepsIn (cyclesIn x))) st ≡ take (stepTotal d) (d .steps) ++ spread stepsIn (cyclesIn x)
-      → bendTotal d + length (bendsIn x) ≤ 2048 → take (bendTotal d + length (bendsIn x)) bs ≡ take (bendTotal d) (d .bends) ++ bendsIn x
-      → allReal (cyclesIn x) ≡ true → (sheetOf (grown d x cy st bs) ≡ appended (sheetOf d) x) × Fits (grown d x cy st bs)
+      → cycleTotal d + length (map numOf (figureCycles x)) ≤ 512 → take (cycleTotal d + length (map numOf (figureCycles x))) cy ≡ take (cycleTotal d) (d .cycles) ++ map numOf (figureCycles x)
+      → stepTotal d + length (spread cycleWords (figureCycles x)) ≤ 2048 → take (stepTotal d + length (spread cycleWords (figureCycles x))) st ≡ take (stepTotal d) (d .steps) ++ spread cycleWords (figureCycles x)
+      → bendTotal d + length (figureBends x) ≤ 2048 → take (bendTotal d + length (figureBends x)) bs ≡ take (bendTotal d) (d .bends) ++ figureBends x
+      → allReal (figureCycles x) ≡ true → (sheetOf (grown d x cy st bs) ≡ appended (sheetOf d) x) × Fits (grown d x cy st bs)
   append zr hk k ht t hb b e =
       let xs = sheetOf d .cells in
       let s = stands d z f in
       let r = grown d x cy st bs in
       let new : Entry = record { id = sheetOf d .next; figure = x } in
-      let ks = spread cyclesAt xs in
-      let fk = flat-snoc cyclesAt xs new in
+      let ks = spread entryCycles xs in
+      let fk = flat-snoc entryCycles xs new in
       let sr : Stands r (xs ++ (new ∷ [])) =
       record {
         cells =
             ap (λ (n : ℕ). take n (r .cells)) (add-one (d .count)) ∙ take-suc-set (d .cells) (d .count) _ (omega (arith, z .cells))
             ∙ ap₂ (λ (l : List Cell) (n : ℕ). l ++ (record { id = n; shape = shapeOf x } ∷ [])) (s .cells) (sym (next-is d))
-            ∙ sym (map-append headOf xs (new ∷ []));
+            ∙ sym (map-append entryCell xs (new ∷ []));
         cycles =
-            rw (fk, map-append numOf ks (cyclesIn x))
-            (begins-more cy (map numOf (cyclesIn x)) (cycleTotal d) (cycle-total d xs s ∙ sym (length-map ks numOf)) (omega (arith, zr .cycles)) k (s .cycles));
+            rw (fk, map-append numOf ks (figureCycles x))
+            (begins-more cy (map numOf (figureCycles x)) (cycleTotal d) (cycle-total d xs s ∙ sym (length-map ks numOf)) (omega (arith, zr .cycles)) k (s .cycles));
         steps =
-            rw (fk, flat-append stepsIn ks (cyclesIn x))
-            (begins-more st (spread stepsIn (cyclesIn x)) (stepTotal d) (step-total d xs s) (omega (arith, zr .steps)) t (s .steps));
+            rw (fk, flat-append cycleWords ks (figureCycles x))
+            (begins-more st (spread cycleWords (figureCycles x)) (stepTotal d) (step-total d xs s) (omega (arith, zr .steps)) t (s .steps));
         bends =
-            rw (flat-snoc bendsAt xs new)
-            (begins-more bs (bendsIn x) (bendTotal d) (bend-total d xs s) (omega (arith, zr .bends)) b (s .bends));
-        real = ap allReal fk ∙ real-append ks (cyclesIn x) (s .real) e;
+            rw (flat-snoc entryBends xs new)
+            (begins-more bs (figureBends x) (bendTotal d) (bend-total d xs s) (omega (arith, zr .bends)) b (s .bends));
+        real = ap allReal fk ∙ real-append ks (figureCycles x) (s .real) e;
       }
       in
       let n : d .next + 1 ≡ sheetOf d .next + 1 = ap (λ (m : ℕ). m + 1) (sym (next-is d)) in
@@ -117,8 +117,8 @@ module _ (d : Drawing) (z : Sizes d) (f : Fits d) (h : d .count < 256) (x : Figu
 
 -- a figure without cycles
 module _ (d : Drawing) (z : Sizes d) (f : Fits d) (h : d .count < 256) (x : Figure) (bs : List Position) where
-  pub append-edge : cyclesIn x ≡ [] → length bs ≡ 2048 → bendTotal d + length (bendsIn x) ≤ 2048
-      → take (bendTotal d + length (bendsIn x)) bs ≡ take (bendTotal d) (d .bends) ++ bendsIn x
+  pub append-edge : figureCycles x ≡ [] → length bs ≡ 2048 → bendTotal d + length (figureBends x) ≤ 2048
+      → take (bendTotal d + length (figureBends x)) bs ≡ take (bendTotal d) (d .bends) ++ figureBends x
       → (sheetOf (grown d x (d .cycles) (d .steps) bs) ≡ appended (sheetOf d) x) × Fits (grown d x (d .cycles) (d .steps) bs)
   append-edge e zb hb b =
       append d z f h x (d .cycles) (d .steps) bs

@@ -75,32 +75,6 @@ module _ {A : Type 0} where
   pub packing-start : (flags : List Bool) (l : List A) → Packing flags l 0 0 l
   packing-start flags l = record { le = omega arith; size = refl; rest = refl; front = refl }
 
-  module _ (flags : List Bool) (l₀ : List A) (i k : ℕ) (l : List A) (z : A) (y : Bool) (hf : i < length flags) (hl : i < length l₀) (p : Packing flags l₀ i k l) where
-    unread : getD l i z ≡ getD l₀ i z
-    unread = ap (λ (n : ℕ). getD l n z) (omega arith) ∙ sym (getD-drop i l 0 z) ∙ ap (λ (q : List A). getD q 0 z) (p .rest) ∙ getD-drop i l₀ 0 z ∙ ap (λ (n : ℕ). getD l₀ n z) (omega arith)
-
-    past : drop (i + 1) l ≡ drop (i + 1) l₀
-    past = sym (drop-drop 1 i l) ∙ ap (drop 1) (p .rest) ∙ drop-drop 1 i l₀
-
-    pub packing-keep : (v : A) → v ≡ getD l i z → getD flags i y ≡ false → Packing flags l₀ (i + 1) (k + 1) (set l k v)
-    packing-keep v e f =
-        let a = p .le in
-        let b = p .size in
-        record {
-          le = omega arith;
-          size = length-set l k v ∙ p .size;
-          rest = drop-set-lt (i + 1) l k v (omega arith) ∙ past;
-          front =
-              ap (λ (n : ℕ). take n (set l k v)) (add-one k) ∙ take-suc-set l k v (omega arith)
-              ∙ ap₂ (λ (x : List A) (w : A). x ++ (w ∷ [])) (p .front) (e ∙ unread)
-              ∙ sym (kept-more flags l₀ i y z hf hl ∙ simp f);
-        }
-
-    pub packing-skip : getD flags i y ≡ true → Packing flags l₀ (i + 1) k l
-    packing-skip f =
-        let a = p .le in
-        record { le = omega arith; size = p .size; rest = past; front = p .front ∙ sym (kept-more flags l₀ i y z hf hl ∙ simp (f, append-nil)) }
-
   pub packing-end : {flags : List Bool} {l₀ l : List A} {n k : ℕ} → n ≤ length l₀ → Packing flags l₀ n k l → Compacted (take n flags) (take n l₀) l
   packing-end {flags} {l₀} {l} {n} {k} h p =
       let a = p .le in
@@ -114,32 +88,6 @@ spread-append z (b ∷ bs) bs′ [] cs′ h = absurd (omega arith)
 spread-append z (b ∷ bs) bs′ (c ∷ cs) cs′ h =
     ap (λ (r : List Bool). replicate (placesOf z c) b ++ r) (spread-append z bs bs′ cs cs′ (omega arith))
     ∙ sym (append-assoc (replicate (placesOf z c) b) (spreadFlags z bs cs) (spreadFlags z bs′ cs′))
-
--- the flags of the first i cells stand at the front of out
-pub record Spreading (z : ℕ) (flags : List Bool) (counts : List ℕ) (out₀ : List Bool) (i at : ℕ) (out : List Bool) : Type 0 where
-  pub at-is : at ≡ total (placesOf z) (take i counts)
-  pub size : length out ≡ length out₀
-  pub front : take at out ≡ spreadFlags z (take i flags) (take i counts)
-
-module _ (z : ℕ) (flags : List Bool) (counts : List ℕ) (out₀ : List Bool) (i at : ℕ) (out : List Bool) (y : Bool) (hf : i < length flags) (hc : i < length counts)
-    (p : Spreading z flags counts out₀ i at out) where
-  pub spreading-sum : (k : ℕ) → k ≡ placesOf z (getD counts i 0) → at + k ≡ total (placesOf z) (take (i + 1) counts)
-  spreading-sum k e = ap₂ _+_ (p .at-is) e ∙ sym (sum-more (placesOf z) counts i 0 hc)
-
-  pub spreading-turn : (k : ℕ) (v : Bool) (out′ : List Bool) → k ≡ placesOf z (getD counts i 0) → v ≡ getD flags i y → at + k ≤ length out
-      → out′ ≡ paste out at (replicate k v) k → Spreading z flags counts out₀ (i + 1) (at + k) out′
-  spreading-turn k v out′ e g h f =
-      let r : length (replicate k v) ≡ k = length-replicate k v in
-      record {
-        at-is = spreading-sum k e;
-        size = ap length f ∙ length-paste out at (replicate k v) k h (omega arith) ∙ p .size;
-        front =
-            ap (take (at + k)) f ∙ take-paste out at (replicate k v) k (omega arith) (omega arith)
-            ∙ ap₂ (λ (a b : List Bool). a ++ b) (p .front) (take-all k (replicate k v) (omega arith) ∙ ap₂ (λ (n : ℕ) (b : Bool). replicate n b) e g ∙ sym (append-nil _))
-            ∙ sym (rw (add-one, take-suc flags i y hf, take-suc counts i 0 hc)
-            (spread-append z (take i flags) (getD flags i y ∷ []) (take i counts) (getD counts i 0 ∷ [])
-            (length-take-le i flags (omega arith) ∙ sym (length-take-le i counts (omega arith)))));
-      }
 
 pub places-of-some : (z c : ℕ) → (c ≡ 0 → ⊥) → placesOf z c ≡ c
 places-of-some z zero h = absurd (h refl)

@@ -19,17 +19,17 @@ kindOf (Open s e n) = 1
 kindOf (Closed n) = 2
 kindOf (Face k) = 3
 
-abbrev pub startOf : Shape → ℕ
-startOf (Vertex p) = 0
-startOf (Open s e n) = s
-startOf (Closed n) = 0
-startOf (Face k) = 0
+abbrev pub shapeStart : Shape → ℕ
+shapeStart (Vertex p) = 0
+shapeStart (Open s e n) = s
+shapeStart (Closed n) = 0
+shapeStart (Face k) = 0
 
-abbrev pub endOf : Shape → ℕ
-endOf (Vertex p) = 0
-endOf (Open s e n) = e
-endOf (Closed n) = 0
-endOf (Face k) = 0
+abbrev pub shapeEnd : Shape → ℕ
+shapeEnd (Vertex p) = 0
+shapeEnd (Open s e n) = e
+shapeEnd (Closed n) = 0
+shapeEnd (Face k) = 0
 
 -- the index r has the numbers of the first n cells
 pub record CellRows (cells : List Cell) (n : ℕ) (r : Index) : Type 0 where
@@ -37,8 +37,8 @@ pub record CellRows (cells : List Cell) (n : ℕ) (r : Index) : Type 0 where
       × (length (r .bends) ≡ 256) × (length (r .cycles) ≡ 256)
   pub ids : take n (r .ids) ≡ map (λ (c : Cell). c .id) (take n cells)
   pub kinds : take n (r .kinds) ≡ map (λ (c : Cell). kindOf (c .shape)) (take n cells)
-  pub starts : take n (r .starts) ≡ map (λ (c : Cell). startOf (c .shape)) (take n cells)
-  pub ends : take n (r .ends) ≡ map (λ (c : Cell). endOf (c .shape)) (take n cells)
+  pub starts : take n (r .starts) ≡ map (λ (c : Cell). shapeStart (c .shape)) (take n cells)
+  pub ends : take n (r .ends) ≡ map (λ (c : Cell). shapeEnd (c .shape)) (take n cells)
   pub bends : take n (r .bends) ≡ map (λ (c : Cell). bendCount (c .shape)) (take n cells)
   pub cycles : take n (r .cycles) ≡ map (λ (c : Cell). cycleCount (c .shape)) (take n cells)
 

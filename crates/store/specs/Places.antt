@@ -20,9 +20,9 @@ abbrev pub numOf : Cycle → ℕ
 numOf (lone v) = 0
 numOf (path hs) = length hs
 
-abbrev pub stepsIn : Cycle → List ℕ
-stepsIn (lone v) = v ∷ []
-stepsIn (path hs) = map word hs
+abbrev pub cycleWords : Cycle → List ℕ
+cycleWords (lone v) = v ∷ []
+cycleWords (path hs) = map word hs
 
 abbrev pub shapeOf : Figure → Shape
 shapeOf (vertex p) = Vertex p
@@ -30,23 +30,23 @@ shapeOf (openEdge s e bs) = Open s e (length bs)
 shapeOf (closedEdge bs) = Closed (length bs)
 shapeOf (face ks) = Face (length ks)
 
-abbrev pub cyclesIn : Figure → List Cycle
-cyclesIn (vertex p) = []
-cyclesIn (openEdge s e bs) = []
-cyclesIn (closedEdge bs) = []
-cyclesIn (face ks) = ks
+abbrev pub figureCycles : Figure → List Cycle
+figureCycles (vertex p) = []
+figureCycles (openEdge s e bs) = []
+figureCycles (closedEdge bs) = []
+figureCycles (face ks) = ks
 
-abbrev pub bendsIn : Figure → List Position
-bendsIn (vertex p) = []
-bendsIn (openEdge s e bs) = bs
-bendsIn (closedEdge bs) = bs
-bendsIn (face ks) = []
+abbrev pub figureBends : Figure → List Position
+figureBends (vertex p) = []
+figureBends (openEdge s e bs) = bs
+figureBends (closedEdge bs) = bs
+figureBends (face ks) = []
 
-abbrev pub headOf : Entry → Cell
-headOf x = record { id = x .id; shape = shapeOf (x .figure) }
+abbrev pub entryCell : Entry → Cell
+entryCell x = record { id = x .id; shape = shapeOf (x .figure) }
 
-abbrev pub cyclesAt : Entry → List Cycle
-cyclesAt x = cyclesIn (x .figure)
+abbrev pub entryCycles : Entry → List Cycle
+entryCycles x = figureCycles (x .figure)
 
-abbrev pub bendsAt : Entry → List Position
-bendsAt x = bendsIn (x .figure)
+abbrev pub entryBends : Entry → List Position
+entryBends x = figureBends (x .figure)

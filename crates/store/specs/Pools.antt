@@ -7,12 +7,12 @@ use lib.ListN.{length, take, drop}
 use Rattle.number.specs.Readers.{spread}
 use Rattle.complex.specs.Cells.{Cycle, Figure, vertex, openEdge, closedEdge, face, LiveCell}
 use Rattle.store.specs.Sheet.{allReal}
-use Rattle.store.specs.Places.{numOf, stepsIn, cyclesAt}
+use Rattle.store.specs.Places.{numOf, cycleWords, entryCycles}
 
 -- the first n places of counts and the first m of steps hold the cycles ks
 pub record Held (ks : List Cycle) (counts : List ℕ) (n : ℕ) (steps : List ℕ) (m : ℕ) : Type 0 where
   pub lengths : take n counts ≡ map numOf ks
-  pub places : take m steps ≡ spread stepsIn ks
+  pub places : take m steps ≡ spread cycleWords ks
   pub real : allReal ks ≡ true
   pub lengthsRoom : n ≤ length counts
   pub placesRoom : m ≤ length steps
@@ -27,4 +27,4 @@ dealtFigure ks (face old) = face (take (length old) ks)
 -- the cells with the cycles ks dealt out to the faces in order
 abbrev pub dealt : List Cycle → List LiveCell → List LiveCell
 dealt ks [] = []
-dealt ks (c ∷ cs) = record { id = c .id; figure = dealtFigure ks (c .figure) } ∷ dealt (drop (length (cyclesAt c)) ks) cs
+dealt ks (c ∷ cs) = record { id = c .id; figure = dealtFigure ks (c .figure) } ∷ dealt (drop (length (entryCycles c)) ks) cs

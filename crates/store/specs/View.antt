@@ -27,9 +27,9 @@ cycleOf zero st = lone (getD st 0 0)
 cycleOf (suc n) st = path (map halfedgeOf (take (suc n) st))
 
 -- the cycles, each taking its steps off the front of what is left
-abbrev pub cyclesOf : List ℕ → List ℕ → List Cycle
-cyclesOf [] st = []
-cyclesOf (n ∷ ns) st = cycleOf n st ∷ cyclesOf ns (drop (width n) st)
+abbrev pub cyclesFrom : List ℕ → List ℕ → List Cycle
+cyclesFrom [] st = []
+cyclesFrom (n ∷ ns) st = cycleOf n st ∷ cyclesFrom ns (drop (width n) st)
 
 abbrev pub cycleCount : Shape → ℕ
 cycleCount (Vertex p) = 0
@@ -58,7 +58,7 @@ cellsOf (c ∷ cs) ks bs =
     ∷ cellsOf cs (drop (cycleCount (c .shape)) ks) (drop (bendCount (c .shape)) bs)
 
 unfoldable pub sheetOf : Drawing → Sheet
-sheetOf d = record { next = d .next; cells = cellsOf (take (d .count) (d .cells)) (cyclesOf (d .cycles) (d .steps)) (d .bends) }
+sheetOf d = record { next = d .next; cells = cellsOf (take (d .count) (d .cells)) (cyclesFrom (d .cycles) (d .steps)) (d .bends) }
 
 -- the sums of the counts
 abbrev pub cycleSum : List Cell → ℕ

@@ -1,11 +1,9 @@
 ghost use mathlib.Core.Path.{_≡_};
-ghost use Prim.Native.Nat.{_+_, _<_, _≤_};
-ghost use lib.ListN.{take, length, replicate};
-ghost use lib.Seq.{paste};
-ghost use Rattle.complex.specs.Lists.{total};
+ghost use Prim.Native.Nat.{_≤_};
+ghost use lib.ListN.{take, length};
 ghost use Rattle.store.specs.View.{bendCount, cycleCount};
-ghost use Rattle.store.specs.Index.{kindOf, startOf, endOf, Rising, rowOf, valueAt};
-ghost use Rattle.store.specs.Edits.{placesOf, spreadFlags};
+ghost use Rattle.store.specs.Index.{kindOf, shapeStart, shapeEnd, Rising, rowOf, valueAt};
+ghost use Rattle.store.specs.Edits.{placesOf};
 use coordinate::Position;
 
 // What a cell is, and how many places of the arrays below are its.
@@ -81,18 +79,6 @@ pub struct Index {
     pub cycles: [u32; 256],
 }
 
-// n places from `at` on get the flag v.
-pub fn fill(out: &mut [bool], at: usize, n: usize, v: bool)
-    requires { ⌜ at + n ≤ length (now out) ⌝ }
-    ensures { λ r. ⌜ now (out .exit) ≡ paste (now (out .entry)) at (replicate n v) n ⌝ }
-{
-    let mut i: usize = 0;
-    while i < n {
-        out[at + i] = v;
-        i = i + 1;
-    }
-}
-
 // The places that a count stands for; a count 0 stands for z.
 pub fn places(z: usize, c: u32) -> usize
     ensures { λ r. ⌜ r ≡ placesOf z c ⌝ }
@@ -101,27 +87,6 @@ pub fn places(z: usize, c: u32) -> usize
         return z;
     }
     wide(c)
-}
-
-// Each flag, once for each place that its count stands for.
-pub fn spread_flags(flags: &[bool], counts: &[u32], n: usize, z: usize, out: &mut [bool]) -> usize
-    requires { ⌜ n ≤ length (now flags) ⌝ }
-    requires { ⌜ n ≤ length (now counts) ⌝ }
-    requires { ⌜ total (placesOf z) (take n (now counts)) ≤ length (now out) ⌝ }
-    ensures { λ r. ⌜ r ≡ total (placesOf z) (take n (now (counts .entry))) ⌝ }
-    ensures { λ r. ⌜ take r (now (out .exit)) ≡ spreadFlags z (take n (now (flags .entry))) (take n (now (counts .entry))) ⌝ }
-    ensures { λ r. ⌜ length (now (out .exit)) ≡ length (now (out .entry)) ⌝ }
-{
-    let mut at: usize = 0;
-    let mut i: usize = 0;
-    while i < n {
-        let k = places(z, counts[i]);
-        let v = flags[i];
-        fill(out, at, k, v);
-        at = at + k;
-        i = i + 1;
-    }
-    at
 }
 
 // The row of an id among the first n, which rise; n if it is not there.
@@ -167,7 +132,7 @@ pub fn kind_of(s: Shape) -> u32
 
 // The start of an open edge, 0 of another cell.
 pub fn start_of(s: Shape) -> u32
-    ensures { λ r. ⌜ r ≡ startOf s ⌝ }
+    ensures { λ r. ⌜ r ≡ shapeStart s ⌝ }
 {
     match s {
         Shape::Vertex(_) => 0,
@@ -183,7 +148,7 @@ pub fn start_of(s: Shape) -> u32
 
 // The end of an open edge, 0 of another cell.
 pub fn end_of(s: Shape) -> u32
-    ensures { λ r. ⌜ r ≡ endOf s ⌝ }
+    ensures { λ r. ⌜ r ≡ shapeEnd s ⌝ }
 {
     match s {
         Shape::Vertex(_) => 0,

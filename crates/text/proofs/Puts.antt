@@ -9,16 +9,16 @@ use lib.ListN.{length, take, drop, set, getD, length-append}
 use lib.Seq.{sets, length-sets, sets-eq, take-suc, take-all}
 use Rattle.number.specs.Readers.{spread}
 use Rattle.complex.specs.Program.{Line, printed, decimal, signed, eulerWord, cellsWord, lineText, outputText}
-use Rattle.text.specs.Texts.{Put, endText}
+use Rattle.text.specs.Texts.{TextPut, endText}
 use Rattle.text.proofs.Decimal.{sets-append, decimal-few}
 use Rattle.text.proofs.Signs.{signed-few}
 use mir.Syntax.{w32}
 use mir.Val.{SFits}
 
-pub put-none : (l : List ℕ) (at : ℕ) → Put l at [] 0 l at
+pub put-none : (l : List ℕ) (at : ℕ) → TextPut l at [] 0 l at
 put-none l at = record { stands = refl; ends = omega arith; short = omega arith }
 
-module _ {l : List ℕ} {at : ℕ} {u : List ℕ} {m : ℕ} {x : List ℕ} {r : ℕ} (p : Put l at u m x r) where
+module _ {l : List ℕ} {at : ℕ} {u : List ℕ} {m : ℕ} {x : List ℕ} {r : ℕ} (p : TextPut l at u m x r) where
   -- the buffer keeps its length, and the text fits its bound
   pub put-length : length x ≡ length l
   put-length = ap length (p .stands) ∙ length-sets l at u
@@ -26,7 +26,7 @@ module _ {l : List ℕ} {at : ℕ} {u : List ℕ} {m : ℕ} {x : List ℕ} {r : 
   pub put-most : r ≤ at + m
   put-most = let e = p .ends in let s = p .short in omega arith
 
-  pub put-then : {v : List ℕ} {n : ℕ} {y : List ℕ} {q : ℕ} → Put x r v n y q → Put l at (u ++ v) (m + n) y q
+  pub put-then : {v : List ℕ} {n : ℕ} {y : List ℕ} {q : ℕ} → TextPut x r v n y q → TextPut l at (u ++ v) (m + n) y q
   put-then {v} o =
       record {
         stands = o .stands ∙ ap₂ (λ (z : List ℕ) (k : ℕ). sets z k v) (p .stands) (p .ends) ∙ sym (sets-append l at u v);
@@ -34,19 +34,19 @@ module _ {l : List ℕ} {at : ℕ} {u : List ℕ} {m : ℕ} {x : List ℕ} {r : 
         short = (let e = p .short in let f = o .short in let g = length-append u v in omega arith);
       }
 
-  pub put-as : {v : List ℕ} → u ≡ v → Put l at v m x r
-  put-as e = subst (λ (t : List ℕ). Put l at t m x r) e p
+  pub put-as : {v : List ℕ} → u ≡ v → TextPut l at v m x r
+  put-as e = subst (λ (t : List ℕ). TextPut l at t m x r) e p
 
 -- one byte
-pub put-byte : (l : List ℕ) (at b : ℕ) → Put l at (b ∷ []) 1 (set l at b) (at + 1)
+pub put-byte : (l : List ℕ) (at b : ℕ) → TextPut l at (b ∷ []) 1 (set l at b) (at + 1)
 put-byte l at b = record { stands = refl; ends = refl; short = omega arith }
 
 -- a u32
-pub put-number : (l : List ℕ) (at n : ℕ) (x : List ℕ) (r : ℕ) → n < 4294967296 → r ≡ at + length (decimal n) → x ≡ sets l at (decimal n) → Put l at (decimal n) 10 x r
+pub put-number : (l : List ℕ) (at n : ℕ) (x : List ℕ) (r : ℕ) → n < 4294967296 → r ≡ at + length (decimal n) → x ≡ sets l at (decimal n) → TextPut l at (decimal n) 10 x r
 put-number l at n x r h e f = record { stands = f; ends = e; short = decimal-few n h }
 
 -- a text of fewer bytes than allowed
-pub put-within : {l : List ℕ} {at : ℕ} {u : List ℕ} {m n : ℕ} {x : List ℕ} {r : ℕ} → m ≤ n → Put l at u m x r → Put l at u n x r
+pub put-within : {l : List ℕ} {at : ℕ} {u : List ℕ} {m n : ℕ} {x : List ℕ} {r : ℕ} → m ≤ n → TextPut l at u m x r → TextPut l at u n x r
 put-within h p = record { stands = p .stands; ends = p .ends; short = (let s = p .short in omega arith) }
 
 -- the fields of a line, each with its mark
@@ -89,7 +89,7 @@ output-text ls z n = simp append-assoc
 -- ---- bytes one after the other
 -- the first i bytes of a text stand in the buffer
 abbrev pub PutUpto : List ℕ → ℕ → List ℕ → ℕ → List ℕ → Type 0
-PutUpto l at text i x = (i ≤ length text) × Put l at (take i text) i x (at + i)
+PutUpto l at text i x = (i ≤ length text) × TextPut l at (take i text) i x (at + i)
 
 pub upto-more : (l : List ℕ) (at : ℕ) (text : List ℕ) (i : ℕ) (x : List ℕ) → PutUpto l at text i x → i < length text → PutUpto l at text (i + 1) (set x (at + i) (getD text i 0))
 upto-more l at text i x p h =
@@ -98,7 +98,7 @@ upto-more l at text i x p h =
     let o = put-as q e in
     (omega arith, record { stands = o .stands; ends = (let f = o .ends in omega arith); short = o .short })
 
-pub upto-all : (l : List ℕ) (at : ℕ) (text : List ℕ) (i : ℕ) (x : List ℕ) → PutUpto l at text i x → length text ≤ i → Put l at text (length text) x (at + i)
+pub upto-all : (l : List ℕ) (at : ℕ) (text : List ℕ) (i : ℕ) (x : List ℕ) → PutUpto l at text i x → length text ≤ i → TextPut l at text (length text) x (at + i)
 upto-all l at text i x p h =
     let o = put-as (p .1) (take-all i text h) in
     record { stands = o .stands; ends = o .ends; short = omega arith }

@@ -15,7 +15,7 @@ abbrev pub lastMost : ℕ
 lastMost = 35
 
 -- a text of at most `most` bytes stands in the buffer from a place on, and ends at r
-pub record Put (entry : List ℕ) (at : ℕ) (text : List ℕ) (most : ℕ) (exit : List ℕ) (r : ℕ) : Type 0 where
+pub record TextPut (entry : List ℕ) (at : ℕ) (text : List ℕ) (most : ℕ) (exit : List ℕ) (r : ℕ) : Type 0 where
   pub stands : exit ≡ sets entry at text
   pub ends : r ≡ at + length text
   pub short : length text ≤ most

@@ -6,7 +6,7 @@ ghost use lib.IntN.{natAbs};
 ghost use lib.ListN.{length};
 ghost use lib.Seq.{sets};
 ghost use Rattle.complex.specs.Program.{decimal, signed, lineText};
-ghost use Rattle.text.specs.Texts.{lineMost, lastMost, Put, endText};
+ghost use Rattle.text.specs.Texts.{lineMost, lastMost, TextPut, endText};
 
 // A number in decimal, from a place on; the place after it.
 fn put_decimal(n: u32, out: &mut [u8], at: usize) -> usize
@@ -36,7 +36,7 @@ fn magnitude(v: i32) -> u32
 // A number, then a mark; the place after them.
 fn put_field(n: u32, mark: u8, out: &mut [u8], at: usize) -> usize
     requires { ⌜ at + length (decimal n) + 1 ≤ length (now out) ⌝ }
-    ensures { λ r. ⌜ Put (now (out .entry)) at (decimal n ++ mark ∷ []) 11 (now (out .exit)) r ⌝ }
+    ensures { λ r. ⌜ TextPut (now (out .entry)) at (decimal n ++ mark ∷ []) 11 (now (out .exit)) r ⌝ }
 {
     let end = put_decimal(n, out, at);
     out[end] = mark;
@@ -46,7 +46,7 @@ fn put_field(n: u32, mark: u8, out: &mut [u8], at: usize) -> usize
 // A line per command: number, first, new, removed; the place after it.
 pub fn put_line(number: u32, first: u32, new: u32, removed: u32, out: &mut [u8], at: usize) -> usize
     requires { ⌜ at + lineMost ≤ length (now out) ⌝ }
-    ensures { λ r. ⌜ Put (now (out .entry)) at (lineText (record { number = number; first = first; new = new; removed = removed })) lineMost (now (out .exit)) r ⌝ }
+    ensures { λ r. ⌜ TextPut (now (out .entry)) at (lineText (record { number = number; first = first; new = new; removed = removed })) lineMost (now (out .exit)) r ⌝ }
 {
     let a = put_field(number, b' ', out, at);
     let b = put_field(first, b' ', out, a);
@@ -57,7 +57,7 @@ pub fn put_line(number: u32, first: u32, new: u32, removed: u32, out: &mut [u8],
 // Bytes, from a place on; the place after them.
 pub fn put_bytes(text: &[u8], out: &mut [u8], at: usize) -> usize
     requires { ⌜ at + length (now text) ≤ length (now out) ⌝ }
-    ensures { λ r. ⌜ Put (now (out .entry)) at (now (text .entry)) (length (now (text .entry))) (now (out .exit)) r ⌝ }
+    ensures { λ r. ⌜ TextPut (now (out .entry)) at (now (text .entry)) (length (now (text .entry))) (now (out .exit)) r ⌝ }
 {
     let mut i: usize = 0;
     while i < text.len() {
@@ -70,7 +70,7 @@ pub fn put_bytes(text: &[u8], out: &mut [u8], at: usize) -> usize
 // A hyphen before a negative number; the place after it.
 fn put_signed(v: i32, out: &mut [u8], at: usize) -> usize
     requires { ⌜ at + length (signed v) ≤ length (now out) ⌝ }
-    ensures { λ r. ⌜ Put (now (out .entry)) at (signed v) 11 (now (out .exit)) r ⌝ }
+    ensures { λ r. ⌜ TextPut (now (out .entry)) at (signed v) 11 (now (out .exit)) r ⌝ }
 {
     let n = magnitude(v);
     if v < 0 {
@@ -83,7 +83,7 @@ fn put_signed(v: i32, out: &mut [u8], at: usize) -> usize
 // The end line: the Euler number and the live cells; the place after it.
 pub fn put_end(v: i32, cells: u32, out: &mut [u8], at: usize) -> usize
     requires { ⌜ at + length (endText v cells) ≤ length (now out) ⌝ }
-    ensures { λ r. ⌜ Put (now (out .entry)) at (endText v cells) lastMost (now (out .exit)) r ⌝ }
+    ensures { λ r. ⌜ TextPut (now (out .entry)) at (endText v cells) lastMost (now (out .exit)) r ⌝ }
 {
     let a = put_bytes(b"euler ", out, at);
     let b = put_signed(v, out, a);

@@ -3,10 +3,11 @@ use borrow.Author.Needs.{needs}
 use mir.Syntax.{w32}
 use mir.ValLaws.{toZ-ofZ}
 use mathlib.Core.Path.{_∙_}
-use Rattle.query.proofs.Answers.{sound-rows}
-use Rattle.query.proofs.Meaning.{euler-meant}
+use native.Mathlib.Omega.{arith}
+use Rattle.rows_marks.proofs.Marking.{counts-sum}
+use Rattle.rows_euler.proofs.Meaning.{euler-meant}
 use Rattle.lent.specs.Arrays.{Arrays, lent, heldBy, rowsBy}
-use Rattle.lent.proofs.Sums.{ready-drawing, ready-sizes, ready-fits, ready-indexes}
+use Rattle.lent.proofs.Sums.{ready-sizes, ready-fits, ready-indexes}
 use Rattle.call_euler.proofs.euler.Statement.{statement}
 use Rattle.call_euler.proofs.euler.Tie as tie
 
@@ -19,8 +20,8 @@ euler-rows-requires : tie.Need-euler-rows-requires
 euler-rows-requires c κs =
     let a = arrays c in
     let t = c .args .t in
-    let p = sound-rows (heldBy a) (ready-sizes a t (c .pre)) (rowsBy a) (ready-indexes a t (c .pre)) (ready-drawing a t (c .pre)) in
-    (p .rows, (search needs, (search needs, p .cyclesFit)))
+    let f = ready-fits a t (c .pre) in
+    (f .cells, (search needs, (search needs, omega (arith, counts-sum (heldBy a) (rowsBy a) (ready-indexes a t (c .pre)), f .cycles))))
 
 returns : tie.Need-returns
 returns c =

@@ -3,7 +3,7 @@ use Prim.Native.Nat.{_-_, _≤_}
 use borrow.Author.Needs.{needs}
 use native.Mathlib.Omega.{arith}
 use mathlib.Core.Path.{refl}
-use Rattle.call_load.proofs.Loads.{listed, Rowed, rowed-start, rowed-room, rowed-next}
+use Rattle.call_load.proofs.Loads.{listed, Rowed, rowed-start, rowed-room, rowed-next, bends-inside, bends-room, bends-as}
 use Rattle.call_load.proofs.Loads.{head-some, head-none, parts-some, parts-none, rowed-left, rowed-given}
 use Rattle.call_load.proofs.load_cells.Statement.{statement}
 use Rattle.call_load.proofs.load_cells.Tie as tie
@@ -41,7 +41,7 @@ returns c =
 
 load-parts-requires : tie.Need-load-parts-requires Inv-loop μ-loop
 load-parts-requires c κs =
-    let kt = c .before .before .before .before in
+    let kt = c .before .before in
     let h = kt .before .before .before in
     let R = h .before .before .loop .inv .1 in
     (head-some _ _ _ _ _ _ R (h .head-at .result) (h .head-at .ensures) _ _ (kt .before .cell .given .1) .inside, rowed-room _ _ _ _ _ _ R)
@@ -55,44 +55,62 @@ enum-told-2 c = search needs
 returns-2 : tie.Need-returns-2 Inv-loop μ-loop
 returns-2 c =
     let l = c .before .before in
-    let kt = l .before .before .before .before .before in
+    let kt = l .before .before .before in
     let h = kt .before .before .before in
     let R = h .before .before .loop .inv .1 in
-    parts-none _ _ _ _ _ _ R _ _ (head-some _ _ _ _ _ _ R (h .head-at .result) (h .head-at .ensures) _ _ (kt .before .cell .given .1)) _ _ _ _
-    (l .load-parts .result) (l .load-parts .ensures)
-    (c .enum-told2 .given .1) (h .before .loop-test .taken)
+    let H = head-some _ _ _ _ _ _ R (h .head-at .result) (h .head-at .ensures) _ _ (kt .before .cell .given .1) in
+    parts-none _ _ _ _ _ _ R _ _ H _ _ (l .load-parts .result) (l .load-parts .ensures) (c .enum-told2 .given .1) (h .before .loop-test .taken)
+
+bend-count-requires : tie.Need-bend-count-requires Inv-loop μ-loop
+bend-count-requires c κs = search needs
+
+put-bends-requires : tie.Need-put-bends-requires Inv-loop μ-loop
+put-bends-requires c κs =
+    let kq = c .before .before .before in
+    let l = kq .before .before .before in
+    let kt = l .before .before .before in
+    let h = kt .before .before .before in
+    let R = h .before .before .loop .inv .1 in
+    let H = head-some _ _ _ _ _ _ R (h .head-at .result) (h .head-at .ensures) _ _ (kt .before .cell .given .1) in
+    let P = parts-some _ _ _ _ _ _ R _ _ H _ _ (l .load-parts .result) (l .load-parts .ensures) _ _ (kq .before .q .given .1) in
+    let e = c .before .before .bend-count .ensures in
+    (bends-inside _ _ _ _ _ _ _ _ _ _ P _ e, (bends-room _ _ _ _ _ _ _ _ _ _ P _ e, (R .long .bx, R .long .by)))
 
 put-cell-requires : tie.Need-put-cell-requires Inv-loop μ-loop
 put-cell-requires c κs =
-    let l = c .before .before .before .before .before .before .before .before .before .before .before in
-    let test = l .before .before .before .before .before .before .before .before .before in
+    let kq = c .before .before .before .before .before .before .before .before .before .before .before .before in
+    let test = kq .before .before .before .before .before .before .before .before .before .before in
     let st = test .before .before .before .before .before .before .before .before .before .before .before .before .before .before .before .before in
     omega (arith, test .loop-test .taken, st .pre .1)
 
 add-i : tie.Need-add-i Inv-loop μ-loop
 add-i c =
-    let l = c .before .before .before .before .before .before .before .before .before .before .before .before in
-    let test = l .before .before .before .before .before .before .before .before .before in
+    let kq = c .before .before .before .before .before .before .before .before .before .before .before .before .before in
+    let test = kq .before .before .before .before .before .before .before .before .before .before in
     let st = test .before .before .before .before .before .before .before .before .before .before .before .before .before .before .before .before in
     omega (arith, test .loop-test .taken, st .pre .1)
 
 loop-less : tie.Need-loop-less Inv-loop μ-loop
-loop-less c = search needs
+loop-less c =
+    let kq = c .before .before .before .before .before .before .before .before .before .before .before .before .before in
+    let test = kq .before .before .before .before .before .before .before .before .before .before in
+    omega (arith, test .loop-test .taken)
 
 loop-again : tie.Need-loop-again Inv-loop μ-loop
 loop-again c =
-    let kq = c .before .before .before .before .before .before .before .before .before in
+    let b = c .before .before .before .before .before .before .before .before .before in
+    let kq = b .before .before .before .before in
     let l = kq .before .before .before in
-    let kt = l .before .before .before .before .before in
+    let kt = l .before .before .before in
     let h = kt .before .before .before in
-    let test = h .before in
-    let lp = test .before in
-    let st = lp .before .before .before .before .before .before .before .before .before .before .before .before .before .before .before in
-    let R = lp .loop .inv .1 in
-    let t = test .loop-test .taken in
+    let R = h .before .before .loop .inv .1 in
     let H = head-some _ _ _ _ _ _ R (h .head-at .result) (h .head-at .ensures) _ _ (kt .before .cell .given .1) in
-    let P = parts-some _ _ _ _ _ _ R _ _ H _ _ _ _ (l .load-parts .result) (l .load-parts .ensures) _ _ (kq .before .q .given .1) in
-    (omega (arith, t), rowed-next _ _ _ _ _ _ R _ _ H _ _ _ _ _ _ P t (omega (arith, t, st .pre .1)) _ _ _ _ _ _ _ _ (c .put-cell .ensures))
+    let P = parts-some _ _ _ _ _ _ R _ _ H _ _ (l .load-parts .result) (l .load-parts .ensures) _ _ (kq .before .q .given .1) in
+    let lp = h .before .before in
+    let st = lp .before .before .before .before .before .before .before .before .before .before .before .before .before .before .before in
+    let t = h .before .loop-test .taken in
+    let Q = bends-as _ _ (kt .before .cell .given .0 .0 .shape) _ _ _ _ _ _ (b .before .before .before .bend-count .ensures) (b .put-bends .ensures) in
+    (omega (arith, t), rowed-next _ _ _ _ _ _ R _ _ H _ _ _ _ _ _ P Q t (omega (arith, t, st .pre .1)) _ _ _ _ _ _ _ _ (c .put-cell .ensures))
 
 returns-3 : tie.Need-returns-3 Inv-loop μ-loop
 returns-3 c =
@@ -121,6 +139,8 @@ load-cells-spec =
     enum-known-q
     enum-told-2
     returns-2
+    bend-count-requires
+    put-bends-requires
     put-cell-requires
     add-i
     loop-less

@@ -4,7 +4,7 @@ use native.Mathlib.Omega.{arith}
 use mathlib.Core.Path.{_≡_, refl, _∙_}
 use denote.Ref.{now}
 use Rattle.store.specs.View.{bendCount, cycleCount}
-use Rattle.reader.proofs.ShapeParts.{too-many-bends, too-few-bytes}
+use Rattle.file_read.proofs.ShapeParts.{too-many-bends, too-few-bytes}
 use Rattle.call_load.proofs.Loads.{parts-stored}
 use Rattle.call_load.proofs.load_parts.Statement.{statement}
 use Rattle.call_load.proofs.load_parts.Tie as tie
@@ -33,7 +33,7 @@ sub-if1 c = search needs
 
 returns : tie.Need-returns
 returns c =
-    let w = c .before in
+    let w = c .before .before in
     let st = w .before .before .before .before .before in
     let a = st .args in
     (refl, too-many-bends (now (a .s)) (a .first) (a .shape) (a .used) _ (counts w .0) (omega (arith, c .if1 .taken, st .pre .1 .bendsFit)))
@@ -46,16 +46,13 @@ sub-if2 c = search needs
 
 returns-2 : tie.Need-returns-2
 returns-2 c =
-    let w = c .before .before in
+    let w = c .before .before .before in
     let st = w .before .before .before .before .before in
     let a = st .args in
     (refl, too-few-bytes (now (a .s)) (a .first) (a .shape) (a .used) _ (counts w .0) (st .pre .0) (omega (arith, c .if2 .taken, st .pre .0)))
 
-put-bends-requires : tie.Need-put-bends-requires
-put-bends-requires c κs = search needs
-
-add-t16 : tie.Need-add-t16
-add-t16 c = search needs
+add-t12 : tie.Need-add-t12
+add-t12 c = search needs
 
 add-load-cycles : tie.Need-add-load-cycles
 add-load-cycles c = search needs
@@ -65,16 +62,14 @@ load-cycles-requires c κs = search needs
 
 returns-3 : tie.Need-returns-3
 returns-3 c =
-    let p = c .before .before .before in
-    let i = p .before .before .before in
-    let w = i .before .before in
+    let i = c .before .before .before .before in
+    let w = i .before .before .before in
     let st = w .before .before .before .before .before in
     let a = st .args in
     let n = counts w in
-    parts-stored (now (a .s)) (a .first) (a .shape) (now (a .bx)) (now (a .by)) (now (a .cycles)) (now (a .steps)) (a .used) _ _ _ _ (c .load-cycles .result)
-    (w .before .before .before .bend-count .result) (w .before .before .wide .result) (w .wide2 .result) (w .before .before .before .bend-count .ensures)
-    (n .0) (n .1)
-    (omega (arith, i .if2 .left, st .pre .0)) (omega (arith, i .before .if1 .left, st .pre .1 .bendsFit)) (p .put-bends .ensures) (c .load-cycles .ensures)
+    parts-stored (now (a .s)) (a .first) (a .shape) (now (a .cycles)) (now (a .steps)) (a .used) _ _ (c .load-cycles .result)
+    (w .before .before .wide .result) (w .wide2 .result) (n .0) (n .1)
+    (omega (arith, i .if2 .left, st .pre .0)) (omega (arith, i .before .if1 .left, st .pre .1 .bendsFit)) (c .load-cycles .ensures)
 
 pub load-parts-spec : {M : Type 1} → statement M
 load-parts-spec =
@@ -89,8 +84,7 @@ load-parts-spec =
     mul-bytes
     sub-if2
     returns-2
-    put-bends-requires
-    add-t16
+    add-t12
     add-load-cycles
     load-cycles-requires
     returns-3)

@@ -23,7 +23,7 @@ returns c =
     let l = c .before .before in
     let i = l .before .before .before .before .before .before .before .before .before .before .before .before .before in
     let r = i .before in
-    absurd (no-refusal (now (r .before .before .args .bytes)) (sym (r .readable .ensures) ∙ i .if1 .taken)
+    absurd (no-refusal (now (r .before .before .before .before .args .bytes)) (sym (r .readable .ensures) ∙ i .if1 .taken)
     (loaded-none _ _ (l .load .result) (l .load .ensures) (c .enum-told .given .1)))
 
 returns-2 : tie.Need-returns-2
@@ -31,11 +31,11 @@ returns-2 c =
     let l = c .before .before .before in
     let i = l .before .before .before .before .before .before .before .before .before .before .before .before .before in
     let r = i .before in
-    read-in (now (r .before .before .args .bytes)) _ (loaded-some _ _ (l .load .result) (l .load .ensures) _ _ (c .before .free .given .1)) _
+    read-in (now (r .before .before .before .before .args .bytes)) _ (loaded-some _ _ (l .load .result) (l .load .ensures) _ _ (c .before .free .given .1)) _
     (sym (r .readable .ensures) ∙ i .if1 .taken)
 
 returns-3 : tie.Need-returns-3
-returns-3 c = let r = c .before in not-in (now (r .before .before .args .bytes)) _ (sym (r .readable .ensures) ∙ c .if1 .left)
+returns-3 c = let r = c .before in not-in (now (r .before .before .before .before .args .bytes)) _ (sym (r .readable .ensures) ∙ c .if1 .left)
 
 pub read-spec : {M : Type 1} → statement M
 read-spec = tie.close (tie.spec readable-requires load-requires enum-known-free enum-told returns returns-2 returns-3)

@@ -1,23 +1,45 @@
--- `readable` meets its contract: what `open` says of arrays of its own. Assumes nothing.
+-- `readable` meets its contract: question 1 of the rows that were loaded, and what was said of the bends. Assumes nothing.
 use borrow.Author.Needs.{needs}
-use Rattle.call_read.proofs.Judged.{opened-told, none-told}
+use Rattle.call_read.proofs.Judged.{rows-some, rows-none, rows-right, rows-bent}
 use Rattle.call_read.proofs.readable.Statement.{statement}
 use Rattle.call_read.proofs.readable.Tie as tie
 
-open-requires : tie.Need-open-requires
-open-requires c κs = search needs
+load-rows-requires : tie.Need-load-rows-requires
+load-rows-requires c κs = search needs
+
+enum-known-next : tie.Need-enum-known-next
+enum-known-next c = search needs
 
 enum-told : tie.Need-enum-told
 enum-told c = search needs
 
-enum-told-2 : tie.Need-enum-told-2
-enum-told-2 c = search needs
-
 returns : tie.Need-returns
-returns c = let o = c .before .before in none-told _ _ (o .«open» .result) (o .«open» .ensures) (c .enum-told2 .given .1)
+returns c = let l = c .before .before in rows-none _ _ (l .load-rows .result) (l .load-rows .ensures) (c .enum-told .given .1)
+
+rows-sound-requires : tie.Need-rows-sound-requires
+rows-sound-requires c κs = search needs
 
 returns-2 : tie.Need-returns-2
-returns-2 c = let o = c .before .before in opened-told _ _ (o .«open» .result) (o .«open» .ensures) _ (c .enum-told .given .1)
+returns-2 c =
+    let i = c .before .before .before .before .before .before .before .before .before .before .before .before in
+    let k = i .before .before in
+    let l = k .before .before in
+    rows-right _ _ _ (rows-some _ _ (l .load-rows .result) (l .load-rows .ensures) _ _ _ (k .next .given .1)) (i .if1 .taken) _ (c .rows-sound .ensures)
+
+returns-3 : tie.Need-returns-3
+returns-3 c =
+    let k = c .before .before in
+    let l = k .before .before in
+    rows-bent _ _ _ (rows-some _ _ (l .load-rows .result) (l .load-rows .ensures) _ _ _ (k .next .given .1)) (c .if1 .left)
 
 pub readable-spec : {M : Type 1} → statement M
-readable-spec = tie.close (tie.spec open-requires enum-told enum-told-2 returns returns-2)
+readable-spec =
+    tie.close
+    (tie.spec
+    load-rows-requires
+    enum-known-next
+    enum-told
+    returns
+    rows-sound-requires
+    returns-2
+    returns-3)

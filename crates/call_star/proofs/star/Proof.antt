@@ -1,7 +1,7 @@
 -- `star` meets its contract: questions 4 and 9 of sound arrays. Assumes nothing.
 use borrow.Author.Needs.{needs}
 use mathlib.Core.Path.{_∙_}
-use Rattle.query.proofs.Answers.{sound-rows, star-answer, star-of-sheet}
+use Rattle.rows_star.proofs.Answers.{sound-rows, star-answer, star-of-sheet}
 use Rattle.lent.specs.Arrays.{Arrays, lent, heldBy, rowsBy}
 use Rattle.lent.proofs.Sums.{ready-drawing, ready-sizes, ready-indexes}
 use Rattle.call_star.proofs.star.Statement.{statement}

@@ -6,7 +6,7 @@ use native.Mathlib.Omega.{arith}
 use lib.ListN.{length}
 use Rattle.complex.specs.File.{fileOf}
 use Rattle.store.specs.View.{sheetOf}
-use Rattle.writer.proofs.Filing.{next-spells}
+use Rattle.file_write.proofs.Filing.{next-spells}
 use Rattle.lent.specs.Arrays.{Arrays, lent, heldBy}
 use Rattle.lent.proofs.Sums.{ready-sizes}
 use Rattle.call_write.proofs.Files.{ready-writable, ready-heads, cycle-numbers, step-numbers, length-is, length-small}

@@ -10,11 +10,11 @@ use lib.Seq.{length-take-le, getD-take}
 use Rattle.complex.specs.Lists.{total}
 use Rattle.store.specs.declared.Cell.{Cell}
 use Rattle.store.proofs.Lists.{sum-more}
-use Rattle.writer.specs.Places.{headSpells, headWidth}
-use Rattle.writer.proofs.Laying.{all-get}
-use Rattle.writer.proofs.Lengths.{total-most, head-most}
+use Rattle.file_length.specs.Widths.{headSpells, headWidth}
+use Rattle.file_parts.proofs.Laying.{all-get}
+use Rattle.file_length.proofs.Lengths.{total-most, head-most}
 use Rattle.lent.proofs.Held.{cells-length}
-use Rattle.call_write.specs.Rows.{cellsIn, noCell}
+use Rattle.call_write.specs.Rows.{cellsIn, pastCell}
 use Rattle.call_write.proofs.heads.Statement.{statement}
 use Rattle.call_write.proofs.heads.Tie as tie
 
@@ -45,7 +45,7 @@ head-length-requires c κs =
     let cs = cells s in
     let n = s .args .n in
     let k : length (take n cs) ≡ n = length-take-le n cs (let f = s .pre .few in let z = s .pre .cells in omega arith) in
-    subst (λ (x : Cell). T (headSpells x)) (getD-take n cs (l .i) noCell (w .loop-test .taken) ∙ sym (c .cell-at .ensures)) (all-get headSpells (take n cs) (l .i) noCell (s .pre .spelled) (omega arith))
+    subst (λ (x : Cell). T (headSpells x)) (getD-take n cs (l .i) pastCell (w .loop-test .taken) ∙ sym (c .cell-at .ensures)) (all-get headSpells (take n cs) (l .i) pastCell (s .pre .spelled) (omega arith))
 
 add-sum : tie.Need-add-sum Inv-loop μ-loop
 add-sum c =
@@ -76,7 +76,7 @@ loop-again c =
     let f = s .pre .few in
     let z = s .pre .cells in
     let e = c .head-length .ensures ∙ ap headWidth (c .before .cell-at .ensures) in
-    (omega arith, (λ i. l .inv .1 i + e i) ∙ sym (sum-more headWidth cs (l .i) noCell (omega arith)))
+    (omega arith, (λ i. l .inv .1 i + e i) ∙ sym (sum-more headWidth cs (l .i) pastCell (omega arith)))
 
 returns : tie.Need-returns Inv-loop μ-loop
 returns c =

@@ -10,13 +10,14 @@ use Rattle.number.specs.Readers.{spread}
 use Rattle.complex.specs.Cells.{LiveCell, closedEdge}
 use Rattle.complex.specs.File.{cellBytes}
 use Rattle.store.specs.declared.Cell.{Cell}
-use Rattle.store.specs.View.{cyclesOf, cellsOf}
-use Rattle.writer.specs.declared.Place.{Place}
-use Rattle.writer.specs.Places.{Put, points, cellIn, placeAfter, PlaceFits, Ready}
-use Rattle.writer.proofs.Laying.{put-none, put-size, put-as, put-turn, put-room, put-all, put-part}
-use Rattle.writer.proofs.Cells.{placeOf, cells-length, cell-is, place-next, ready, place-fits}
+use Rattle.store.specs.View.{cyclesFrom, cellsOf}
+use Rattle.file_write.specs.declared.Place.{Place}
+use Rattle.file_parts.specs.Parts.{BytesPut, positionsFrom}
+use Rattle.file_write.specs.Places.{cellIn, placeAfter, PlaceFits, CellReady}
+use Rattle.file_parts.proofs.Laying.{put-none, put-size, put-as, put-turn, put-room, put-all, put-part}
+use Rattle.file_write.proofs.Cells.{placeOf, cells-length, cell-is, place-next, ready, place-fits}
 use Rattle.lent.proofs.Held.{cells-length as rows-length}
-use Rattle.call_write.specs.Rows.{cellsIn, noCell}
+use Rattle.call_write.specs.Rows.{cellsIn, pastCell}
 use Rattle.call_write.proofs.put_cells.Statement.{statement}
 use Rattle.call_write.proofs.put_cells.Tie as tie
 
@@ -26,7 +27,7 @@ none = record { id = 0; figure = closedEdge [] }
 abbrev Inv-loop : tie.InvT-loop
 Inv-loop ids kinds starts ends bends counts px py cycles steps bx by n buffer₀ start at₀ place₀ i₀ buffer at place i =
     (i ≤ n) × (place ≡ placeOf (cellsIn ids kinds starts ends bends counts px py) cycles i)
-    × Put buffer₀ start (spread cellBytes (take i (cellsOf (take n (cellsIn ids kinds starts ends bends counts px py)) (cyclesOf cycles steps) (points bx by)))) buffer at
+    × BytesPut buffer₀ start (spread cellBytes (take i (cellsOf (take n (cellsIn ids kinds starts ends bends counts px py)) (cyclesFrom cycles steps) (positionsFrom bx by)))) buffer at
 
 abbrev μ-loop : tie.MeasureT-loop
 μ-loop ids kinds starts ends bends counts px py cycles steps bx by n buffer₀ start at₀ place₀ i₀ buffer at place i = n - i
@@ -37,7 +38,7 @@ module _ (s : tie.Start Inv-loop μ-loop) where
   cells = let a = s .args in cellsIn (a .ids .now) (a .kinds .now) (a .starts .now) (a .ends .now) (a .bends .now) (a .counts .now) (a .px .now) (a .py .now)
 
   abbrev figures : List LiveCell
-  figures = cellsOf (take (s .args .n) cells) (cyclesOf (s .args .cycles .now) (s .args .steps .now)) (points (s .args .bx .now) (s .args .by .now))
+  figures = cellsOf (take (s .args .n) cells) (cyclesFrom (s .args .cycles .now) (s .args .steps .now)) (positionsFrom (s .args .bx .now) (s .args .by .now))
 
 loop-holds : tie.Need-loop-holds Inv-loop μ-loop
 loop-holds c = (omega arith, refl, put-none _ _)
@@ -50,11 +51,11 @@ cell-at-requires c κs =
 
 module _ (w : tie.In-loop Inv-loop μ-loop) where
   abbrev cell : Cell
-  cell = getD (cells (w .before .before .before)) (w .before .loop .i) noCell
+  cell = getD (cells (w .before .before .before)) (w .before .loop .i) pastCell
 
   -- the next cell's bytes, where its parts begin at the loop's place
   abbrev nextBytes : List ℕ
-  nextBytes = let s = w .before .before .before in cellBytes (cellIn cell (w .before .loop .place) (s .args .cycles .now) (s .args .steps .now) (points (s .args .bx .now) (s .args .by .now)))
+  nextBytes = let s = w .before .before .before in cellBytes (cellIn cell (w .before .loop .place) (s .args .cycles .now) (s .args .steps .now) (positionsFrom (s .args .bx .now) (s .args .by .now)))
 
   next-is : cellBytes (getD (figures (w .before .before .before)) (w .before .loop .i) none) ≡ nextBytes
   next-is =
@@ -64,7 +65,7 @@ module _ (w : tie.In-loop Inv-loop μ-loop) where
       let ys = s .args .by .now in
       let ns = s .args .cycles .now in
       let st = s .args .steps .now in
-      ap cellBytes (cell-is (cells s) (s .args .n) xs ys ns st (s .pre .0) (l .i) (w .loop-test .taken) none noCell ∙ ap (λ (p : Place). cellIn cell p ns st (points xs ys)) (sym (l .inv .1)))
+      ap cellBytes (cell-is (cells s) (s .args .n) xs ys ns st (s .pre .0) (l .i) (w .loop-test .taken) none pastCell ∙ ap (λ (p : Place). cellIn cell p ns st (positionsFrom xs ys)) (sym (l .inv .1)))
 
   inside : w .before .loop .i < length (figures (w .before .before .before))
   inside =
@@ -79,7 +80,7 @@ module _ (w : tie.In-loop Inv-loop μ-loop) where
       let s = w .before .before .before in
       put-room cellBytes (figures s) (s .args .buffer .now) (l .buffer) (s .args .start) (l .at) (l .i) inside (l .inv .2) none nextBytes next-is (s .pre .1)
 
-  is-ready : Ready cell (w .before .loop .place) (w .before .before .before .args .bx .now) (w .before .before .before .args .by .now) (w .before .before .before .args .cycles .now) (w .before .before .before .args .steps .now)
+  is-ready : CellReady cell (w .before .loop .place) (w .before .before .before .args .bx .now) (w .before .before .before .args .by .now) (w .before .before .before .args .cycles .now) (w .before .before .before .args .steps .now)
   is-ready =
       let l = w .before .loop in
       let s = w .before .before .before in
@@ -87,7 +88,7 @@ module _ (w : tie.In-loop Inv-loop μ-loop) where
       let ys = s .args .by .now in
       let ns = s .args .cycles .now in
       let st = s .args .steps .now in
-      subst (λ (p : Place). Ready cell p xs ys ns st) (sym (l .inv .1)) (ready (cells s) (s .args .n) xs ys ns st (s .pre .0) (l .i) (w .loop-test .taken) none noCell)
+      subst (λ (p : Place). CellReady cell p xs ys ns st) (sym (l .inv .1)) (ready (cells s) (s .args .n) xs ys ns st (s .pre .0) (l .i) (w .loop-test .taken) none pastCell)
 
 sub-put-cell : tie.Need-sub-put-cell Inv-loop μ-loop
 sub-put-cell c = let r = room (c .before) in omega arith
@@ -110,16 +111,16 @@ put-cell-requires c κs =
     let r = room w in
     let d = length-drop (l .at) (l .buffer) in
     let t = length-take-le (length (l .buffer) - l .at) (drop (l .at) (l .buffer)) (omega arith) in
-    subst (λ (x : Cell). Ready x (l .place) xs ys ns st × (length (cellBytes (cellIn x (l .place) ns st (points xs ys))) ≤ length (take (length (l .buffer) - l .at) (drop (l .at) (l .buffer))))) (sym (c .before .cell-at .ensures))
+    subst (λ (x : Cell). CellReady x (l .place) xs ys ns st × (length (cellBytes (cellIn x (l .place) ns st (positionsFrom xs ys))) ≤ length (take (length (l .buffer) - l .at) (drop (l .at) (l .buffer))))) (sym (c .before .cell-at .ensures))
     (is-ready w, omega arith)
 
 -- what is put is the next cell's bytes
-put-next : (c : tie.After-put-cell Inv-loop μ-loop) → Put (take (length (c .before .before .before .before .loop .buffer) - c .before .before .before .before .loop .at) (drop (c .before .before .before .before .loop .at) (c .before .before .before .before .loop .buffer))) 0 (nextBytes (c .before .before .before)) (c .put-cell .last .1 .1 .1 .1 .1 .1 .0) (c .put-cell .result)
+put-next : (c : tie.After-put-cell Inv-loop μ-loop) → BytesPut (take (length (c .before .before .before .before .loop .buffer) - c .before .before .before .before .loop .at) (drop (c .before .before .before .before .loop .at) (c .before .before .before .before .loop .buffer))) 0 (nextBytes (c .before .before .before)) (c .put-cell .last .1 .1 .1 .1 .1 .1 .0) (c .put-cell .result)
 put-next c =
     let w = c .before .before .before in
     let l = w .before .loop in
     let s = w .before .before .before in
-    put-as (ap (λ (x : Cell). cellBytes (cellIn x (l .place) (s .args .cycles .now) (s .args .steps .now) (points (s .args .bx .now) (s .args .by .now)))) (c .before .before .cell-at .ensures)) (c .put-cell .ensures)
+    put-as (ap (λ (x : Cell). cellBytes (cellIn x (l .place) (s .args .cycles .now) (s .args .steps .now) (positionsFrom (s .args .bx .now) (s .args .by .now)))) (c .before .before .cell-at .ensures)) (c .put-cell .ensures)
 
 add-at : tie.Need-add-at Inv-loop μ-loop
 add-at c =
@@ -157,7 +158,7 @@ loop-again c =
     let st = s .args .steps .now in
     let e = c .before .before .before .before .before .cell-at .ensures in (
       omega arith,
-      c .place-after .ensures ∙ ap (λ (x : Cell). placeAfter (x .shape) ns (l .place)) e ∙ ap (placeAfter (cell w .shape) ns) (l .inv .1) ∙ place-next (cells s) (s .args .n) xs ys ns st (s .pre .0) (l .i) (w .loop-test .taken) none noCell,
+      c .place-after .ensures ∙ ap (λ (x : Cell). placeAfter (x .shape) ns (l .place)) e ∙ ap (placeAfter (cell w .shape) ns) (l .inv .1) ∙ place-next (cells s) (s .args .n) xs ys ns st (s .pre .0) (l .i) (w .loop-test .taken) none pastCell,
       put-turn cellBytes (figures s) (s .args .buffer .now) (l .buffer) (s .args .start) (l .at) (l .i) (inside w) (l .inv .2) none (nextBytes w) (next-is w)
           (put-part (l .buffer) (nextBytes w) (f .last .1 .1 .1 .1 .1 .1 .0) (l .at) (f .result) (room w) (put-next (c .before .before .before))),
     )

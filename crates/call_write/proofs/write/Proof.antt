@@ -8,10 +8,10 @@ use lib.ListN.{length, take}
 use Rattle.number.specs.Readers.{spread}
 use Rattle.number.specs.Numbers.{spell}
 use Rattle.complex.specs.File.{cellBytes, fileOf}
-use Rattle.store.specs.View.{cyclesOf, cellsOf, sheetOf}
-use Rattle.writer.specs.Places.{points}
-use Rattle.writer.proofs.Laying.{put-as, put-then, room-first, room-then}
-use Rattle.writer.proofs.Filing.{next-spells, filled-put, filled-short}
+use Rattle.store.specs.View.{cyclesFrom, cellsOf, sheetOf}
+use Rattle.file_parts.specs.Parts.{positionsFrom}
+use Rattle.file_parts.proofs.Laying.{put-as, put-then, room-first, room-then}
+use Rattle.file_write.proofs.Filing.{next-spells, filled-put, filled-short}
 use Rattle.lent.specs.Arrays.{Arrays, lent, heldBy}
 use Rattle.lent.proofs.Sums.{ready-sizes}
 use Rattle.call_write.proofs.Files.{ready-writable, ready-all, file-parts, call-is}
@@ -29,7 +29,7 @@ module _ (s : tie.Start) where
   first = spell (s .args .next) ++ spell (s .args .count)
 
   abbrev second : List ℕ
-  second = let a = arrays s in spread cellBytes (cellsOf (take (a .count) (heldBy a .cells)) (cyclesOf (a .cycles) (a .steps)) (points (a .bx) (a .by)))
+  second = let a = arrays s in spread cellBytes (cellsOf (take (a .count) (heldBy a .cells)) (cyclesFrom (a .cycles) (a .steps)) (positionsFrom (a .bx) (a .by)))
 
 -- there is room for the file
 room : (c : tie.Else1) → 0 + length (first (c .before .before .before) ++ second (c .before .before .before)) ≤ length (c .before .before .before .args .buffer .now)

@@ -5,17 +5,11 @@ use borrow.Author.Needs.{needs}
 use Rattle.console.proofs.give.Statement.{statement}
 use Rattle.console.proofs.give.Tie as tie
 
-slice-aggregate-write-all : tie.Need-slice-aggregate-write-all
-slice-aggregate-write-all c = sym (length-take-le _ _ (c .before .if1 .left))
-
-write-all-requires : tie.Need-write-all-requires
-write-all-requires c κs = search needs
-
-returns : tie.Need-returns
-returns c = search needs
-
-returns-2 : tie.Need-returns-2
-returns-2 c = search needs
-
 pub give-spec : {M : Type 1} → statement M
-give-spec = tie.close (tie.spec returns slice-aggregate-write-all write-all-requires returns-2)
+give-spec =
+    tie.close
+    (tie.spec
+    (λ c. search needs)
+    (λ c. sym (length-take-le _ _ (c .before .if1 .left)))
+    (λ c κs. search needs)
+    (λ c. search needs))

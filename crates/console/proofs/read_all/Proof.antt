@@ -7,7 +7,7 @@ use borrow.Author.Needs.{needs}
 use borrow.Rule.Slice.PartMut.{putMid}
 use lib.ListN.{length, take, drop, length-append, length-drop}
 use lib.Seq.{length-take-le}
-use Rattle.io.specs.Counts.{Counts}
+use Rattle.io.proofs.Counting.{counts}
 use Rattle.console.proofs.read_all.Statement.{statement}
 use Rattle.console.proofs.read_all.Tie as tie
 
@@ -17,9 +17,6 @@ Inv-loop space₀ done₀ space done = (length space ≡ length space₀) × (do
 
 abbrev μ-loop : tie.MeasureT-loop
 μ-loop space₀ done₀ space done = length space₀ - done
-
-counts : (n : ℕ) (l : List ℕ) → n ≤ length l → Counts n l
-counts n l h = (h, sym (length-take-le n l h))
 
 -- a part that was lent and came back as long
 mid-length : (at n : ℕ) (l part : List ℕ) → at + n ≤ length l → length part ≡ n → length (putMid at n l part) ≡ length l
@@ -60,12 +57,6 @@ sub-read-part c = omega arith
 
 part-read-part-start : tie.Need-part-read-part-start Inv-loop μ-loop
 part-read-part-start c = omega arith
-
-part-read-part-end : tie.Need-part-read-part-end Inv-loop μ-loop
-part-read-part-end c = search needs
-
-read-part-requires : tie.Need-read-part-requires Inv-loop μ-loop
-read-part-requires c κs = search needs
 
 same-length : tie.Need-same-length Inv-loop μ-loop
 same-length c = let p = c .before .before .before .before in whole p ∙ p .before .before .before .loop .inv .0
@@ -111,8 +102,8 @@ read-all-spec =
     loop-holds
     sub-read-part
     part-read-part-start
-    part-read-part-end
-    read-part-requires
+    (λ c. search needs)
+    (λ c κs. search needs)
     same-length
     returns
     add-done

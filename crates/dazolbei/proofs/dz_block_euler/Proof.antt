@@ -3,7 +3,7 @@ use borrow.Author.Needs.{needs}
 use mir.Syntax.{w32}
 use mir.ValLaws.{toZ-ofZ}
 use mathlib.Core.Path.{_≡_, _∙_}
-use Rattle.call_files.specs.Calls.{eulerAs}
+use Rattle.entry_files.specs.Calls.{eulerAs}
 use Rattle.dazolbei.proofs.dz_block_euler.Statement.{statement}
 use Rattle.dazolbei.proofs.dz_block_euler.Tie as tie
 

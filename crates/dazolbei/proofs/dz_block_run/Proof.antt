@@ -9,9 +9,9 @@ use mathlib.Core.Bool.{true}
 use lib.Dec.{T}
 use lib.ListN.{length}
 use Rattle.lent.specs.Arrays.{Arrays, soundArrays, lent}
-use Rattle.entry_calls.proofs.Questions.{asked-sums, asked-no}
-use Rattle.call_files.specs.Runs.{linesFor}
-use Rattle.call_files.proofs.Running.{lines-parts}
+use Rattle.call_asked.proofs.Questions.{asked-sums, asked-no}
+use Rattle.entry_room.specs.Rooms.{linesFor}
+use Rattle.entry_room.proofs.Rooms.{lines-parts}
 use Rattle.dazolbei.proofs.Running.{run-unsound, run-short, run-done}
 use Rattle.dazolbei.proofs.dz_block_run.Statement.{statement}
 use Rattle.dazolbei.proofs.dz_block_run.Tie as tie

@@ -6,7 +6,7 @@ use denote.Ref.{now}
 use mathlib.Core.Path.{_≡_, ap}
 use Rattle.complex.specs.Calls.{Filled}
 use Rattle.lent.specs.Arrays.{Arrays, lent}
-use Rattle.call_files.proofs.Counts.{write-on-few}
+use Rattle.entry_files.proofs.Counts.{write-on-few}
 use Rattle.dazolbei.proofs.dz_block_write.Statement.{statement}
 use Rattle.dazolbei.proofs.dz_block_write.Tie as tie
 

@@ -5,7 +5,7 @@ use mathlib.Core.Path.{_≡_, refl, sym, _∙_}
 use native.Mathlib.Omega.{arith}
 use lib.ListN.{length, take, length-set}
 use Rattle.lent.proofs.Held.{cells-length}
-use Rattle.call_write.specs.Rows.{cellsIn, noCell}
+use Rattle.call_write.specs.Rows.{cellsIn, pastCell}
 use Rattle.door.proofs.Fronts.{front-turn, front-all}
 use Rattle.door.proofs.cells_of.Statement.{statement}
 use Rattle.door.proofs.cells_of.Tie as tie
@@ -46,7 +46,7 @@ loop-again c =
     let k = t .loop-test .taken in (
       omega (arith, k),
       length-set (lp .out) _ _ ∙ lp .inv .1,
-      front-turn l (lp .out) (lp .i) _ noCell
+      front-turn l (lp .out) (lp .i) _ pastCell
           (omega (arith, h, k, s .pre)) (omega (arith, lp .inv .1, k)) (c .cell-at .ensures) (lp .inv .2),
     )
 

@@ -4,14 +4,9 @@ use mathlib.Core.Path.{refl}
 use Rattle.edit.proofs.print_all.Statement.{statement}
 use Rattle.edit.proofs.print_all.Tie as tie
 
-begin-requires : tie.Need-begin-requires
-begin-requires c κs = search needs
-
 print-on-requires : tie.Need-print-on-requires
-print-on-requires c κs = c .before .before .before .before .before .before .before .before .before .before .before .before .before .before .begin .ensures _ refl refl
-
-returns : tie.Need-returns
-returns c = search needs
+print-on-requires c κs =
+    c .before .before .before .before .before .before .before .before .before .before .before .before .before .before .begin .ensures _ refl refl
 
 pub print-all-spec : {M : Type 1} → statement M
-print-all-spec = tie.close (tie.spec begin-requires print-on-requires returns)
+print-all-spec = tie.close (tie.spec (λ c κs. search needs) print-on-requires (λ c. search needs))

@@ -39,9 +39,6 @@ Inv-loop n₀ c₀ is₀ ks₀ ss₀ es₀ bs₀ cs₀ px₀ py₀ cy₀ st₀ b
 abbrev μ-loop : tie.MeasureT-loop
 μ-loop n₀ c₀ is₀ ks₀ ss₀ es₀ bs₀ cs₀ px₀ py₀ cy₀ st₀ bx₀ by₀ script out₀ at₀ n c is ks ss es bs cs px py cy st bx by out at = length script - at
 
-large-buffer-requires : tie.Need-large-buffer-requires Inv-loop μ-loop
-large-buffer-requires c κs = search needs
-
 loop-holds : tie.Need-loop-holds Inv-loop μ-loop
 loop-holds c = (c .before .before .pre .sound, c .large-buffer .ensures)
 
@@ -58,15 +55,6 @@ slice-aggregate-give c =
     let p = c .before .before in
     p .before .before .before .before .before .before .before .before .before .before .before .before .before .before .before .before .loop .inv .1
     ∙ sym (p .piece .ensures .front .same)
-
-give-requires : tie.Need-give-requires Inv-loop μ-loop
-give-requires c κs = search needs
-
-returns : tie.Need-returns Inv-loop μ-loop
-returns c = search needs
-
-returns-2 : tie.Need-returns-2 Inv-loop μ-loop
-returns-2 c = search needs
 
 loop-less : tie.Need-loop-less Inv-loop μ-loop
 loop-less c =
@@ -89,13 +77,13 @@ print-on-spec =
     (tie.spec
     Inv-loop
     μ-loop
-    large-buffer-requires
+    (λ c κs. search needs)
     loop-holds
     slice-aggregate-piece
     piece-requires
     slice-aggregate-give
-    give-requires
-    returns
-    returns-2
+    (λ c κs. search needs)
+    (λ c. search needs)
+    (λ c. search needs)
     loop-less
     loop-again)

@@ -1,9 +1,9 @@
 -- `entry_command::command` meets its contract: 1, 2, or what the kind answers. Assumes nothing.
 use borrow.Author.Needs.{needs}
 use lib.Dec.{T}
-use Rattle.command.proofs.Laws.{begins, unread}
+use Rattle.decode.proofs.Laws.{begins, unread}
 use Rattle.lent.specs.Arrays.{Arrays, soundArrays, lent}
-use Rattle.entry_calls.proofs.Questions.{asked-sums, asked-no}
+use Rattle.call_asked.proofs.Questions.{asked-sums, asked-no}
 use Rattle.entry_command.proofs.Commanding.{commanded-unsound, commanded-unread, commanded-obeyed}
 use Rattle.entry_command.proofs.command.Statement.{statement}
 use Rattle.entry_command.proofs.command.Tie as tie

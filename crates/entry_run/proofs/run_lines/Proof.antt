@@ -1,36 +1,14 @@
 -- `entry_run::run_lines` meets its contract: each turn is a command of the script. Assumes nothing.
-use Prim.Native.Nat.{ℕ, _-_}
+use Prim.Native.Nat.{_-_}
 use native.Mathlib.Omega.{arith}
 use denote.Ref.{now}
-use mathlib.Core.List.{List}
-use lib.Ieee.{Float}
 use lib.ListN.{length}
 use Rattle.lent.specs.Arrays.{Arrays, lent}
-use Rattle.entry_run.proofs.Going.{same-size, line-room}
+use Rattle.entry_turn.proofs.Turning.{arraysOf}
+use Rattle.entry_told.proofs.Going.{same-size, line-room}
 use Rattle.entry_run.proofs.Running.{Come, come-start, come-turn, come-end, few-so-far}
 use Rattle.entry_run.proofs.run_lines.Statement.{statement}
 use Rattle.entry_run.proofs.run_lines.Tie as tie
-
--- the arrays that these lists are
-abbrev arraysOf : ℕ → ℕ → List ℕ → List ℕ → List ℕ → List ℕ → List ℕ → List ℕ → List Float → List Float → List ℕ → List ℕ → List Float → List Float
-    → Arrays
-arraysOf n c is ks ss es bs cs px py cy st bx by =
-    record {
-      next = n;
-      count = c;
-      ids = is;
-      kinds = ks;
-      starts = ss;
-      ends = es;
-      bends = bs;
-      counts = cs;
-      px = px;
-      py = py;
-      cycles = cy;
-      steps = st;
-      bx = bx;
-      by = by;
-    }
 
 abbrev Inv-loop : tie.InvT-loop
 Inv-loop n₀ c₀ is₀ ks₀ ss₀ es₀ bs₀ cs₀ px₀ py₀ cy₀ st₀ bx₀ by₀ script lines₀ at₀ k₀ n c is ks ss es bs cs px py cy st bx by lines at k =

@@ -1,34 +1,42 @@
 -- `bridge_list` meets its contract. Assumes nothing.
 use borrow.Author.Needs.{needs}
+use mathlib.Core.Path.{_∙_}
 use native.Mathlib.Omega.{arith}
-use Rattle.outline.proofs.Lists.{built-as}
-use Rattle.split.proofs.Bridges.{flagged, both, both-steps, second-below, flags-size, first-stays, bridge-kept, bridge-room, joining}
-use Rattle.kernel_arcs.proofs.Lists.{before-room, new-room, new-built, after-room, about-built}
+use Rattle.rows_corners.proofs.Lists.{built-as}
+use Rattle.rows_split.proofs.Bridges.{flagged, both, both-steps, second-below, flags-size, first-stays, bridge-kept, bridge-room, joining}
+use Rattle.kernel_arcs.proofs.Lists.{enough, before-room, new-room, new-built, after-room, about-built}
 use Rattle.kernel_arcs.proofs.bridge_list.Statement.{statement}
 use Rattle.kernel_arcs.proofs.bridge_list.Tie as tie
 
 array-write-flags : tie.Need-array-write-flags
-array-write-flags c = let h = second-below (c .pre) in omega arith
+array-write-flags c = let h = second-below (c .before .before .pre .0) in omega arith
+
+slice-aggregate-ahead : tie.Need-slice-aggregate-ahead
+slice-aggregate-ahead c = search needs
 
 ahead-requires : tie.Need-ahead-requires
 ahead-requires c κs =
-    let st = c .before .before .before in
+    let st = c .before .before .before .before .before in
     let a = st .args in
-    let r = st .pre in
+    let r = st .pre .0 in
+    let f = bridge-room r (st .pre .1) in
+    let l = enough (r .start .within) (flagged (a .c2)) (flags-size r) in
     let k = r .start in
     let h = k .cycle in
-    let m = before-room (k .within) (flagged (a .c2)) (flags-size r) (a .c1) (k .cycle) (first-stays r) (both r) (bridge-room r) in
-    (k .within, (omega arith, (flags-size r, m)))
+    let m = before-room (k .within) (flagged (a .c2)) l (a .c1) (k .cycle) (first-stays r) (both r) f in
+    (k .within, (omega arith, (l, m)))
 
 and-joined-requires : tie.Need-and-joined-requires
 and-joined-requires c κs =
-    let n = c .before .before in
-    let st = n .before .before .before .before in
+    let n = c .before .before .before .before .before .before in
+    let st = n .before .before .before .before .before .before in
     let a = st .args in
-    let r = st .pre in
+    let r = st .pre .0 in
+    let f = bridge-room r (st .pre .1) in
+    let l = enough (r .start .within) (flagged (a .c2)) (flags-size r) in
     let k = r .start in
     let b = n .ahead .ensures in
-    let m = new-room (k .within) (flagged (a .c2)) (flags-size r) (a .c1) (k .cycle) (first-stays r) (both r) (bridge-room r) b in
+    let m = new-room (k .within) (flagged (a .c2)) l (a .c1) (k .cycle) (first-stays r) (both r) f (n .ahead .kept .1 .1 .1 .1 .1 .0) (n .ahead .kept .1 .1 .1 .1 .1 .1 .0) b in
     let m1 = m .1 in
     let s = both-steps r in
     (joining r, (b .building, (m .0, omega arith)))
@@ -38,35 +46,49 @@ slice-aggregate-behind c = search needs
 
 behind-requires : tie.Need-behind-requires
 behind-requires c κs =
-    let q = c .before .before .before in
-    let n = q .before .before .before in
-    let st = n .before .before .before .before in
+    let q = c .before .before .before .before .before .before .before in
+    let n = q .before .before .before .before .before .before .before in
+    let st = n .before .before .before .before .before .before in
     let a = st .args in
-    let r = st .pre in
+    let r = st .pre .0 in
+    let f = bridge-room r (st .pre .1) in
+    let l = enough (r .start .within) (flagged (a .c2)) (flags-size r) in
     let k = r .start in
-    let b = new-built (k .within) (flagged (a .c2)) (flags-size r) (a .c1) (k .cycle) (first-stays r) (both r) (n .ahead .ensures) (q .and-joined .ensures) in
-    let m = after-room (k .within) (flagged (a .c2)) (flags-size r) (a .c1) (k .cycle) (first-stays r) (both r) (bridge-room r) b in
-    (k .within, (k .cycle, (k .place, (flags-size r, (b .building, m)))))
+    let b = new-built (k .within) (flagged (a .c2)) l (a .c1) (k .cycle) (first-stays r) (both r) (n .ahead .ensures) (q .and-joined .ensures) in
+    let m = after-room (k .within) (flagged (a .c2)) l (a .c1) (k .cycle) (first-stays r) (both r) f
+    (q .and-joined .kept .1 .1 .1 .1 .1 .1 .0 ∙ n .ahead .kept .1 .1 .1 .1 .1 .0) (q .and-joined .kept .1 .1 .1 .1 .1 .1 .1 .0 ∙ n .ahead .kept .1 .1 .1 .1 .1 .1 .0) b in
+    (k .within, (k .cycle, (k .place, (l, (b .building, m)))))
+
+same-length : tie.Need-same-length
+same-length c = search needs
+
+same-length-2 : tie.Need-same-length-2
+same-length-2 c = search needs
 
 returns : tie.Need-returns
 returns c =
-    let q = c .before .before .before .before in
-    let n = q .before .before .before in
-    let st = n .before .before .before .before in
+    let q = c .before .before .before .before .before .before .before .before .before .before .before .before in
+    let n = q .before .before .before .before .before .before .before in
+    let st = n .before .before .before .before .before .before in
     let a = st .args in
-    let r = st .pre in
+    let r = st .pre .0 in
+    let f = bridge-room r (st .pre .1) in
+    let l = enough (r .start .within) (flagged (a .c2)) (flags-size r) in
     let k = r .start in
-    let b = new-built (k .within) (flagged (a .c2)) (flags-size r) (a .c1) (k .cycle) (first-stays r) (both r) (n .ahead .ensures) (q .and-joined .ensures) in
+    let b = new-built (k .within) (flagged (a .c2)) l (a .c1) (k .cycle) (first-stays r) (both r) (n .ahead .ensures) (q .and-joined .ensures) in
     built-as (bridge-kept r)
-    (about-built (k .within) (flagged (a .c2)) (flags-size r) (a .c1) (k .cycle) (first-stays r) (both r) b (c .behind .ensures))
+    (about-built (k .within) (flagged (a .c2)) l (a .c1) (k .cycle) (first-stays r) (both r) b (c .before .before .before .before .behind .ensures))
 
 pub bridge-list-spec : {M : Type 1} → statement M
 bridge-list-spec =
     tie.close
     (tie.spec
     array-write-flags
+    slice-aggregate-ahead
     ahead-requires
     and-joined-requires
     slice-aggregate-behind
     behind-requires
+    same-length
+    same-length-2
     returns)

@@ -4,11 +4,11 @@ use borrow.Author.Needs.{needs}
 use native.Mathlib.Omega.{arith}
 use lib.ListN.{take}
 use Rattle.store.specs.Edits.{kept}
-use Rattle.outline.specs.Faces.{cyclesAt}
-use Rattle.outline.proofs.Lists.{built-then}
-use Rattle.split.proofs.Arcs.{distance-most}
-use Rattle.split.proofs.Places.{between-asks, arc-asks, far-steps, far-built, kept-asks}
-use Rattle.kernel_arcs.proofs.Sides.{none-used, copy-asks}
+use Rattle.rows_corners.specs.Faces.{cyclesAt}
+use Rattle.rows_corners.proofs.Lists.{built-then}
+use Rattle.rows_split.proofs.Arcs.{distance-most}
+use Rattle.rows_split.proofs.Places.{between-asks, arc-asks, far-steps, far-built}
+use Rattle.kernel_arcs.proofs.Sides.{none-used, far-asks}
 use Rattle.kernel_arcs.proofs.far_side.Statement.{statement}
 use Rattle.kernel_arcs.proofs.far_side.Tie as tie
 
@@ -17,7 +17,7 @@ cast-m c = search needs
 
 between-requires : tie.Need-between-requires
 between-requires c κs =
-    let st = c .before in
+    let st = c .before .before .before .before in
     let a = st .args in
     let g = st .pre in
     between-asks (a .steps .now) (g .0 .stepsSize) (a .p) (g .1 .0) (a .s1) (a .s2) (g .1 .1 .0) (g .1 .1 .1 .0)
@@ -28,7 +28,7 @@ start-requires c κs = search needs
 sub-and-arc : tie.Need-sub-and-arc
 sub-and-arc c =
     let y = c .before .before .before in
-    let st = y .before .before in
+    let st = y .before .before .before .before .before in
     let a = st .args in
     let g = st .pre in
     let m = distance-most (a .p .m) (a .s1) (a .s2) (g .1 .1 .0) (g .1 .1 .1 .0) .0 in
@@ -42,39 +42,46 @@ and-arc-requires : tie.Need-and-arc-requires
 and-arc-requires c κs =
     let n = c .before .before in
     let y = n .before .before .before in
-    let st = y .before .before in
+    let st = y .before .before .before .before .before in
     let a = st .args in
     let g = st .pre in
     let f = far-steps (a .steps .now) (g .0 .stepsSize) (a .p) (g .1 .0) (a .s1) (a .s2) (g .1 .1 .0) (g .1 .1 .1 .0) (a .e) in
-    let h = g .1 .1 .1 .1 .1 .1 .1 in
+    let r = g .1 .1 .1 .1 .1 .1 in
+    let i = r .cycles in
+    let h = r .steps in
     let e = y .between .ensures in
     arc-asks (a .steps .now) (g .0 .stepsSize) (a .p) (g .1 .0) (a .s2) (a .s1) (g .1 .1 .1 .0) (g .1 .1 .0) (a .p .m - y .between .result) (omega arith)
-    (omega arith) _ (n .start .result) _ (n .start .ensures .building) (none-used (n .start .ensures))
+    _ (n .start .result) _ (omega arith) (omega arith) (n .start .ensures .building) (none-used (n .start .ensures))
 
 copy-cycles-requires : tie.Need-copy-cycles-requires
 copy-cycles-requires c κs =
-    let q = c .before .before .before .before .before .before .before in
+    let q = c .before .before .before .before .before .before .before .before .before .before in
     let n = q .before .before .before in
     let y = n .before .before .before in
-    let st = y .before .before in
+    let st = y .before .before .before .before .before in
     let a = st .args in
     let g = st .pre in
     let b = far-built (a .steps .now) (g .0 .stepsSize) (a .p) (g .1 .0) (a .s1) (a .s2) (g .1 .1 .0) (g .1 .1 .1 .0) (a .e) (n .start .ensures)
     (y .between .result) (y .between .ensures) (q .and-arc .ensures) in
-    copy-asks (kept-asks (a .cycles .now) (a .steps .now) (a .t) (g .0) (a .flags .now) (g .1 .1 .1 .1 .0) _ (g .1 .1 .1 .1 .1 .1 .0)
-    (g .1 .1 .1 .1 .1 .1 .1) b)
+    far-asks (g .0) (a .flags .now) (g .1 .1 .1 .1 .0) _ (g .1 .1 .1 .1 .1 .1) (q .and-arc .kept .1 .1 .1 .1 .1 .1 .0) (q .and-arc .kept .1 .1 .1 .1 .1 .1 .1 .0) b
+
+same-length : tie.Need-same-length
+same-length c = search needs
+
+same-length-2 : tie.Need-same-length-2
+same-length-2 c = search needs
 
 returns : tie.Need-returns
 returns c =
-    let q = c .before .before .before .before .before .before .before .before in
+    let q = c .before .before .before .before .before .before .before .before .before .before .before .before .before .before .before in
     let n = q .before .before .before in
     let y = n .before .before .before in
-    let st = y .before .before in
+    let st = y .before .before .before .before .before in
     let a = st .args in
     let g = st .pre in
     built-then (kept (take (a .t .cycles .count) (a .flags .now)) (cyclesAt (a .cycles .now) (a .steps .now) (a .t)))
     (far-built (a .steps .now) (g .0 .stepsSize) (a .p) (g .1 .0) (a .s1) (a .s2) (g .1 .1 .0) (g .1 .1 .1 .0) (a .e) (n .start .ensures)
-    (y .between .result) (y .between .ensures) (q .and-arc .ensures)) (c .copy-cycles .ensures .0)
+    (y .between .result) (y .between .ensures) (q .and-arc .ensures)) (c .before .before .before .before .copy-cycles .ensures .0)
 
 pub far-side-spec : {M : Type 1} → statement M
 far-side-spec =
@@ -87,4 +94,6 @@ far-side-spec =
     mul-and-arc
     and-arc-requires
     copy-cycles-requires
+    same-length
+    same-length-2
     returns)

@@ -1,7 +1,8 @@
 -- `near_side` meets its contract. Assumes nothing.
 use borrow.Author.Needs.{needs}
+use mathlib.Core.Path.{_∙_}
 use native.Mathlib.Omega.{arith}
-use Rattle.split.proofs.Places.{cornered-room, between-asks}
+use Rattle.rows_split.proofs.Places.{cornered-room, between-asks}
 use Rattle.kernel_arcs.proofs.Lists.{before-room, after-room, about-built}
 use Rattle.kernel_arcs.proofs.Sides.{near-asks, near-put}
 use Rattle.kernel_arcs.proofs.near_side.Statement.{statement}
@@ -12,7 +13,7 @@ cast-m c = search needs
 
 between-requires : tie.Need-between-requires
 between-requires c κs =
-    let st = c .before in
+    let st = c .before .before .before .before in
     let a = st .args in
     let k = st .pre .0 in
     let r = cornered-room (a .cycles .now) (a .steps .now) (a .t) (a .c) (a .p) (a .s1) k in
@@ -20,7 +21,7 @@ between-requires c κs =
 
 ahead-requires : tie.Need-ahead-requires
 ahead-requires c κs =
-    let st = c .before .before .before .before in
+    let st = c .before .before .before .before .before .before .before in
     let a = st .args in
     let g = st .pre in
     let k = g .0 in
@@ -35,41 +36,48 @@ add-and-arc c = search needs
 
 and-arc-requires : tie.Need-and-arc-requires
 and-arc-requires c κs =
-    let n = c .before .before in
+    let n = c .before .before .before .before .before .before in
     let y = n .before .before .before in
-    let st = y .before .before in
+    let st = y .before .before .before .before .before in
     let a = st .args in
     let g = st .pre in
     let k = g .0 in
-    near-asks k (g .1 .0) (a .e) (a .flags .now) (g .1 .1 .0) (g .1 .1 .1 .0) (g .1 .1 .1 .1 .1) (y .between .ensures) (n .ahead .ensures)
+    near-asks k (g .1 .0) (a .e) (a .flags .now) (g .1 .1 .0) (g .1 .1 .1 .0) (g .1 .1 .1 .1 .1) (y .between .ensures) (n .ahead .ensures) (n .ahead .kept .1 .1 .1 .1 .1 .0) (n .ahead .kept .1 .1 .1 .1 .1 .1 .0)
 
 behind-requires : tie.Need-behind-requires
 behind-requires c κs =
-    let q = c .before .before .before in
-    let n = q .before .before .before in
+    let q = c .before .before .before .before .before .before in
+    let n = q .before .before .before .before .before .before .before in
     let y = n .before .before .before in
-    let st = y .before .before in
+    let st = y .before .before .before .before .before in
     let a = st .args in
     let g = st .pre in
     let k = g .0 in
     let b = near-put k (g .1 .0) (a .e) (a .flags .now) (g .1 .1 .0) (g .1 .1 .1 .0) (g .1 .1 .1 .1 .1) (y .between .ensures)
     (n .ahead .ensures) (q .and-arc .ensures) in
-    let r = after-room (k .within) (a .flags .now) (g .1 .1 .0) (a .c) (k .cycle) (g .1 .1 .1 .0) _ (g .1 .1 .1 .1 .1) b in
+    let r = after-room (k .within) (a .flags .now) (g .1 .1 .0) (a .c) (k .cycle) (g .1 .1 .1 .0) _ (g .1 .1 .1 .1 .1)
+    (q .and-arc .kept .1 .1 .1 .1 .1 .1 .0 ∙ n .ahead .kept .1 .1 .1 .1 .1 .0) (q .and-arc .kept .1 .1 .1 .1 .1 .1 .1 .0 ∙ n .ahead .kept .1 .1 .1 .1 .1 .1 .0) b in
     (k .within, (k .cycle, (k .place, (g .1 .1 .0, (b .building, r)))))
+
+same-length : tie.Need-same-length
+same-length c = search needs
+
+same-length-2 : tie.Need-same-length-2
+same-length-2 c = search needs
 
 returns : tie.Need-returns
 returns c =
-    let q = c .before .before .before .before in
-    let n = q .before .before .before in
+    let q = c .before .before .before .before .before .before .before .before .before .before .before in
+    let n = q .before .before .before .before .before .before .before in
     let y = n .before .before .before in
-    let st = y .before .before in
+    let st = y .before .before .before .before .before in
     let a = st .args in
     let g = st .pre in
     let k = g .0 in
     about-built (k .within) (a .flags .now) (g .1 .1 .0) (a .c) (k .cycle) (g .1 .1 .1 .0) _
     (near-put k (g .1 .0) (a .e) (a .flags .now) (g .1 .1 .0) (g .1 .1 .1 .0) (g .1 .1 .1 .1 .1) (y .between .ensures)
     (n .ahead .ensures) (q .and-arc .ensures))
-    (c .behind .ensures)
+    (c .before .before .before .before .behind .ensures)
 
 pub near-side-spec : {M : Type 1} → statement M
 near-side-spec =
@@ -82,4 +90,6 @@ near-side-spec =
     add-and-arc
     and-arc-requires
     behind-requires
+    same-length
+    same-length-2
     returns)

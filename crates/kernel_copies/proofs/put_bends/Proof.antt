@@ -6,9 +6,9 @@ use native.Mathlib.Omega.{arith}
 use native.Mathlib.Nat.{mod-lt, zero-mod}
 use lib.ListN.{length, length-set}
 use lib.Seq.{paste, paste-zero}
-use Rattle.append.specs.Runs.{run}
-use Rattle.append.specs.Copies.{repeated}
-use Rattle.append.proofs.CopyLists.{some-place}
+use Rattle.rows_new.specs.Runs.{runAt}
+use Rattle.rows_new.specs.Copies.{repeated}
+use Rattle.rows_new.proofs.CopyLists.{some-place}
 use Rattle.lent.specs.Arrays.{positionsIn}
 use Rattle.kernel_copies.proofs.Coming.{round-next, bend-put}
 use Rattle.kernel_copies.proofs.put_bends.Statement.{statement}
@@ -16,7 +16,7 @@ use Rattle.kernel_copies.proofs.put_bends.Tie as tie
 
 abbrev Inv-loop : tie.InvT-loop
 Inv-loop bx₀ by₀ base first k n t i₀ j₀ bx by i j =
-    (j ≤ t) × (i ≡ j % k) × (length bx ≡ 2048) × (length by ≡ 2048) × (positionsIn bx by ≡ paste (positionsIn bx₀ by₀) base (repeated n (run first k (positionsIn bx₀ by₀))) j)
+    (j ≤ t) × (i ≡ j % k) × (length bx ≡ 2048) × (length by ≡ 2048) × (positionsIn bx by ≡ paste (positionsIn bx₀ by₀) base (repeated n (runAt first k (positionsIn bx₀ by₀))) j)
 
 abbrev μ-loop : tie.MeasureT-loop
 μ-loop bx₀ by₀ base first k n t i₀ j₀ bx by i j = t - j
@@ -27,7 +27,7 @@ mul-t c = record { fits = omega (arith, c .pre .1 .0) }
 loop-holds : tie.Need-loop-holds Inv-loop μ-loop
 loop-holds c =
     let a = c .args in
-    (omega arith, sym (zero-mod (a .k)), c .pre .1 .1 .0, c .pre .1 .1 .1, paste-zero (positionsIn (a .bx .now) (a .by .now)) (a .base) (repeated (a .n) (run (a .first) (a .k) (positionsIn (a .bx .now) (a .by .now)))))
+    (omega arith, sym (zero-mod (a .k)), c .pre .1 .1 .0, c .pre .1 .1 .1, paste-zero (positionsIn (a .bx .now) (a .by .now)) (a .base) (repeated (a .n) (runAt (a .first) (a .k) (positionsIn (a .bx .now) (a .by .now)))))
 
 -- the place is within the run
 place : (c : tie.In-loop Inv-loop μ-loop) → c .before .loop .i < c .before .before .args .k

@@ -4,13 +4,13 @@ use mathlib.Core.Path.{_∙_}
 use native.Mathlib.Omega.{arith}
 use lib.ListN.{drop, length-drop}
 use Rattle.store.proofs.Lists.{places-one}
-use Rattle.cycles.proofs.Building.{skipped, kept-room, copied}
+use Rattle.rows_spans.proofs.Building.{skipped, kept-room, copied}
 use Rattle.kernel_cycles.proofs.copy_cycle.Statement.{statement}
 use Rattle.kernel_cycles.proofs.copy_cycle.Tie as tie
 
 returns : tie.Need-returns
 returns c =
-    let st = c .before .before in
+    let st = c .before .before .before .before in
     let a = st .args in
     skipped (a .counts .now) (a .u) (a .steps .now) (st .pre .0) (a .c) (drop (a .from) (a .src .now)) (a .skip) (c .if1 .taken)
 
@@ -20,15 +20,16 @@ places-requires c κs = search needs
 mul-counts : tie.Need-mul-counts
 mul-counts c = search needs
 
-element-write-counts : tie.Need-element-write-counts
-element-write-counts c =
-    let st = c .before .before .before in
+slice-write-counts : tie.Need-slice-write-counts
+slice-write-counts c =
+    let i = c .before in
+    let st = i .before .before .before .before in
     let a = st .args in
-    kept-room (a .counts .now) (a .u) (a .steps .now) (st .pre .0) (a .c) (a .src .now) (a .skip) (c .before .if1 .left) (st .pre .1 .1 .0) (st .pre .1 .1 .1) .0
+    kept-room (a .counts .now) (a .u) (a .steps .now) (st .pre .0) (a .c) (a .src .now) (a .skip) (i .if1 .left) (st .pre .1 .1 .0) (st .pre .1 .1 .1) .0
 
 copy-run-requires : tie.Need-copy-run-requires
 copy-run-requires c κs =
-    let st = c .before .before .before .before in
+    let st = c .before .before .before .before .before .before in
     let a = st .args in
     let w = c .before .places .ensures ∙ places-one (a .c) in
     let r = kept-room (a .counts .now) (a .u) (a .steps .now) (st .pre .0) (a .c) (a .src .now) (a .skip) (c .before .before .if1 .left) (st .pre .1 .1 .0) (st .pre .1 .1 .1) in
@@ -37,14 +38,20 @@ copy-run-requires c κs =
 add-t13 : tie.Need-add-t13
 add-t13 c = search needs
 
+same-length : tie.Need-same-length
+same-length c = search needs
+
+same-length-2 : tie.Need-same-length-2
+same-length-2 c = search needs
+
 returns-2 : tie.Need-returns-2
 returns-2 c =
-    let st = c .before .before .before .before .before in
+    let st = c .before .before .before .before .before .before .before .before .before in
     let a = st .args in
-    let w = c .before .before .places .ensures ∙ places-one (a .c) in
-    let r = kept-room (a .counts .now) (a .u) (a .steps .now) (st .pre .0) (a .c) (a .src .now) (a .skip) (c .before .before .before .if1 .left) (st .pre .1 .1 .0) (st .pre .1 .1 .1) in
-    copied (a .counts .now) (a .u) (a .steps .now) (st .pre .0) (a .c) (drop (a .from) (a .src .now)) (a .skip) (c .before .before .before .if1 .left) (r .0) (r .1)
-    (omega (arith, length-drop (a .from) (a .src .now), st .pre .1 .0)) _ _ _ w (c .copy-run .ensures .0) (c .copy-run .ensures .1)
+    let w = c .before .before .before .before .places .ensures ∙ places-one (a .c) in
+    let r = kept-room (a .counts .now) (a .u) (a .steps .now) (st .pre .0) (a .c) (a .src .now) (a .skip) (c .before .before .before .before .before .if1 .left) (st .pre .1 .1 .0) (st .pre .1 .1 .1) in
+    copied (a .counts .now) (a .u) (a .steps .now) (st .pre .0) (a .c) (drop (a .from) (a .src .now)) (a .skip) (c .before .before .before .before .before .if1 .left) (r .0) (r .1)
+    (omega (arith, length-drop (a .from) (a .src .now), st .pre .1 .0)) _ _ _ w (c .before .before .copy-run .ensures .0) (c .before .before .copy-run .ensures .1)
 
 pub copy-cycle-spec : {M : Type 1} → statement M
 copy-cycle-spec =
@@ -53,7 +60,9 @@ copy-cycle-spec =
     returns
     places-requires
     mul-counts
-    element-write-counts
+    slice-write-counts
     copy-run-requires
     add-t13
+    same-length
+    same-length-2
     returns-2)

@@ -7,7 +7,7 @@ use native.Mathlib.Omega.{arith}
 use lib.ListN.{length, drop, getD, length-drop}
 use lib.Seq.{getD-drop}
 use Rattle.store.proofs.Lists.{places-one}
-use Rattle.cycles.proofs.Building.{Copying, copying-start, copying-place, copying-cycles, copying-steps, copying-turn}
+use Rattle.rows_spans.proofs.Building.{Copying, copying-start, copying-place, copying-cycles, copying-steps, copying-turn}
 use Rattle.kernel_cycles.proofs.copy_cycles.Statement.{statement}
 use Rattle.kernel_cycles.proofs.copy_cycles.Tie as tie
 
@@ -20,7 +20,7 @@ abbrev μ-loop : tie.MeasureT-loop
 
 loop-holds : tie.Need-loop-holds Inv-loop μ-loop
 loop-holds c =
-    let st = c .before .before .before in
+    let st = c .before .before .before .before .before in
     let a = st .args in
     (omega arith, copying-start (drop (a .from) (a .cycles .now)) (a .src .now) (a .step) (a .skip .now) (a .counts .now) (a .u) (a .steps .now) (st .pre .0))
 
@@ -39,7 +39,7 @@ shared-slice-read-copy-cycle c = search needs
 copy-cycle-requires : tie.Need-copy-cycle-requires Inv-loop μ-loop
 copy-cycle-requires c κs =
     let at = c .before .before .before .before .before in
-    let st = at .before .before .before .before in
+    let st = at .before .before .before .before .before .before in
     let a = st .args in
     let h : at .loop .i < a .k = omega arith in
     let p = at .loop .inv .1 in
@@ -57,10 +57,10 @@ places-requires c κs = search needs
 
 add-at : tie.Need-add-at Inv-loop μ-loop
 add-at c =
-    let at = c .before .before .before .before .before .before .before in
-    let st = at .before .before .before .before in
+    let at = c .before .before .before .before .before .before .before .before .before .before .before in
+    let st = at .before .before .before .before .before .before in
     let a = st .args in
-    let h : at .loop .i < a .k = omega (arith, c .before .before .before .before .before .before .loop-test) in
+    let h : at .loop .i < a .k = omega (arith, c .before .before .before .before .before .before .before .before .before .before .loop-test) in
     let p = at .loop .inv .1 in
     let l : a .k ≤ length (drop (a .from) (a .cycles .now)) = omega (arith, length-drop (a .from) (a .cycles .now), st .pre .1 .0) in
     let e = sym (getD-drop (a .from) (a .cycles .now) (at .loop .i) 0) in
@@ -75,23 +75,29 @@ loop-less c = search needs
 
 loop-again : tie.Need-loop-again Inv-loop μ-loop
 loop-again c =
-    let at = c .before .before .before .before .before .before .before in
-    let st = at .before .before .before .before in
+    let at = c .before .before .before .before .before .before .before .before .before .before .before in
+    let st = at .before .before .before .before .before .before in
     let a = st .args in
-    let h : at .loop .i < a .k = omega (arith, c .before .before .before .before .before .before .loop-test) in
+    let h : at .loop .i < a .k = omega (arith, c .before .before .before .before .before .before .before .before .before .before .loop-test) in
     let p = at .loop .inv .1 in
     let l : a .k ≤ length (drop (a .from) (a .cycles .now)) = omega (arith, length-drop (a .from) (a .cycles .now), st .pre .1 .0) in
     let e = sym (getD-drop (a .from) (a .cycles .now) (at .loop .i) 0) in
-    let r = c .before .copy-cycle in (
+    let r = c .before .before .before .before .before .copy-cycle in (
       omega arith,
-      copying-turn (drop (a .from) (a .cycles .now)) (a .src .now) (a .step) (a .skip .now) (a .counts .now) (a .u) (a .steps .now) (at .loop .i) (a .k) (at .loop .at) (at .loop .counts) (at .loop .out) (at .loop .steps) false p h (st .pre .1 .1 .1 .0) l (getD (a .cycles .now) (a .from + at .loop .i) 0) e (r .last .1 .1 .1 .1 .0) (r .result) (r .last .1 .1 .1 .1 .1 .0) (c .places .result)
+      copying-turn (drop (a .from) (a .cycles .now)) (a .src .now) (a .step) (a .skip .now) (a .counts .now) (a .u) (a .steps .now) (at .loop .i) (a .k) (at .loop .at) (at .loop .counts) (at .loop .out) (at .loop .steps) false p h (st .pre .1 .1 .1 .0) l (getD (a .cycles .now) (a .from + at .loop .i) 0) e (r .last .1 .1 .1 .1 .0) (r .result) (r .last .1 .1 .1 .1 .1 .0) (r .kept .1 .1 .1 .1 .0) (r .kept .1 .1 .1 .1 .1 .0) (c .places .result)
           (c .places .ensures ∙ places-one (getD (a .cycles .now) (a .from + at .loop .i) 0)) (r .ensures .0) (r .ensures .1),
     )
+
+same-length : tie.Need-same-length Inv-loop μ-loop
+same-length c = c .before .loop .inv .1 .counts-long
+
+same-length-2 : tie.Need-same-length-2 Inv-loop μ-loop
+same-length-2 c = c .before .loop .inv .1 .steps-long
 
 returns : tie.Need-returns Inv-loop μ-loop
 returns c =
     let at = c .before in
-    let st = at .before .before .before .before in
+    let st = at .before .before .before .before .before .before in
     let e : at .loop .i ≡ st .args .k = omega arith in
     let p = at .loop .inv .1 in
     let u = rw e at (p .cycles-is) in
@@ -115,4 +121,6 @@ copy-cycles-spec =
     add-i
     loop-less
     loop-again
+    same-length
+    same-length-2
     returns)

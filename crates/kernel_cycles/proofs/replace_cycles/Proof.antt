@@ -8,15 +8,15 @@ use Rattle.kernel_cycles.proofs.replace_cycles.Tie as tie
 
 splice-requires : tie.Need-splice-requires
 splice-requires c κs =
-    let p = c .before .before .pre in
+    let p = c .before .before .before .pre in
     let k = in-cycles _ _ _ _ _ _ _ p in
-    (omega (arith, k .0, p .long .cycles), (omega (arith, k .1, p .replaces .countsSize), omega (arith, k .1, p .long .cycles)))
+    (omega (arith, k .0, p .long .cycles), (p .replaces .inCounts, omega (arith, k .1, p .long .cycles)))
 
 splice-requires-2 : tie.Need-splice-requires-2
 splice-requires-2 c κs =
     let p = c .before .before .before .before .before .pre in
     let k = in-steps _ _ _ _ _ _ _ p in
-    (omega (arith, k .0, p .long .steps), (omega (arith, k .1, p .replaces .stepsSize), omega (arith, k .1, p .long .steps)))
+    (omega (arith, k .0, p .long .steps), (p .replaces .inSteps, omega (arith, k .1, p .long .steps)))
 
 cast-counts : tie.Need-cast-counts
 cast-counts c =
@@ -35,8 +35,8 @@ element-write-counts c =
 
 returns : tie.Need-returns
 returns c =
-    let x = c .before .before .before in
-    let p = x .before .before .before .pre in
+    let x = c .before .before in
+    let p = x .before .before .before .before .pre in
     let one = x .splice in
     let two = c .splice2 in
     replaced-in _ _ _ _ _ _ _ p _ _ (one .kept .0 ∙ p .long .cycles) (two .kept .0 ∙ p .long .steps) (one .ensures) (two .ensures)

@@ -7,7 +7,7 @@ use Rattle.answer.specs.Late.{Summed}
 use Rattle.answer.proofs.Laws.{summed}
 use Rattle.lent.specs.Arrays.{Arrays, lent, heldBy, rowsBy}
 use Rattle.lent.proofs.Held.{held-sizes, held-indexes}
-use Rattle.kernel_keep.proofs.Rows.{keeps}
+use Rattle.kernel_keep.proofs.Rows.{rows-kept, keeps}
 use Rattle.kernel_keep.proofs.keep_rows.Statement.{statement}
 use Rattle.kernel_keep.proofs.keep_rows.Tie as tie
 
@@ -25,12 +25,14 @@ sums c =
 drop-cycles-requires : tie.Need-drop-cycles-requires
 drop-cycles-requires c κs =
     let s = c .before .before .before in
-    (s .pre .0 .cells, (sums s .cycleSum, sums s .stepSum))
+    let l = s .pre .1 .0 in
+    (s .pre .0 .cells, (sums s .cycleSum, (sums s .stepSum, (s .pre .1 .1 .1, l .counts, l .cycles, l .steps))))
 
 drop-bends-requires : tie.Need-drop-bends-requires
 drop-bends-requires c κs =
     let s = c .before .before .before .before .before .before .before in
-    (s .pre .0 .cells, sums s .bendSum)
+    let l = s .pre .1 .0 in
+    (s .pre .0 .cells, (sums s .bendSum, (s .pre .1 .1 .1, l .bends, l .bx, l .by)))
 
 pack-rows-requires : tie.Need-pack-rows-requires
 pack-rows-requires c κs =
@@ -50,8 +52,8 @@ returns c =
     let s = k .before .before .before .before in
     let q = r .pack-rows .ensures in
     keeps (s .args .dead .now) (arrays s) _ (s .pre .1 .0) (c .known .ensures) (s .pre .1 .1 .1) (s .pre .0) (s .pre .1 .1 .0) refl
-    (record { count = q .0; ids = q .1 .0; kinds = q .1 .1 .0; starts = q .1 .1 .1 .0; ends = q .1 .1 .1 .1 .0; bends = q .1 .1 .1 .1 .1 .0; counts = q .1 .1 .1 .1 .1 .1 .0; px = q .1 .1 .1 .1 .1 .1 .1 .0; py = q .1 .1 .1 .1 .1 .1 .1 .1 })
-    (d .drop-bends .ensures) (k .drop-cycles .ensures .0)
+    (rows-kept _ _ _ _ _ q)
+    (d .drop-bends .ensures) (k .drop-cycles .ensures)
 
 pub keep-rows-spec : {M : Type 1} → statement M
 keep-rows-spec =

@@ -1,7 +1,7 @@
 -- `copy_behind` meets its contract. Assumes nothing.
 use borrow.Author.Needs.{needs}
 use native.Mathlib.Omega.{arith}
-use Rattle.uncut_cycles.proofs.Places.{cycle-in}
+use Rattle.rows_stretches.proofs.Places.{cycle-in}
 use Rattle.kernel_paths.proofs.Around.{behind-run, behind-fits}
 use Rattle.kernel_paths.proofs.copy_behind.Statement.{statement}
 use Rattle.kernel_paths.proofs.copy_behind.Tie as tie
@@ -11,7 +11,7 @@ add-next c = search needs
 
 add-end : tie.Need-add-end
 add-end c =
-    let st = c .before .before .before .before .before in
+    let st = c .before .before .before .before .before .before .before in
     let a = st .args in
     omega (arith, cycle-in (a .cycles .now) (a .steps .now) (a .p) (st .pre .lies))
 
@@ -26,15 +26,21 @@ add-copy-cycles-2 c = search needs
 
 sub-copy-cycles-2 : tie.Need-sub-copy-cycles-2
 sub-copy-cycles-2 c =
-    let st = c .before .before .before .before .before .before .before .before in
+    let st = c .before .before .before .before .before .before .before .before .before .before in
     let a = st .args in
     behind-fits (a .cycles .now) (a .steps .now) (a .p) (st .pre .lies)
 
 copy-cycles-requires : tie.Need-copy-cycles-requires
 copy-cycles-requires c κs =
-    let st = c .before .before .before .before .before .before .before .before .before .before in
+    let st = c .before .before .before .before .before .before .before .before .before .before .before .before in
     let a = st .args in
     behind-run (a .cycles .now) (a .steps .now) (a .p) (st .pre .lies) (st .pre)
+
+same-length : tie.Need-same-length
+same-length c = search needs
+
+same-length-2 : tie.Need-same-length-2
+same-length-2 c = search needs
 
 returns : tie.Need-returns
 returns c = search needs
@@ -50,4 +56,6 @@ copy-behind-spec =
     add-copy-cycles-2
     sub-copy-cycles-2
     copy-cycles-requires
+    same-length
+    same-length-2
     returns)

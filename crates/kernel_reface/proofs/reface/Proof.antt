@@ -21,14 +21,15 @@ flagged q = q .before .before .before .before .before .before .before .before .b
 
 dead-rows-requires : tie.Need-dead-rows-requires
 dead-rows-requires c κs =
-    let p = c .pre .0 .pair in
-    let f = sound-fits (heldBy (arrays c)) (p .sound) .cells in
+    let s = c .before .before in
+    let p = s .pre .0 .pair in
+    let f = sound-fits (heldBy (arrays s)) (p .sound) .cells in
     (omega (arith, f, p .firstIn), omega (arith, f, p .secondIn))
 
 keep-rows-requires : tie.Need-keep-rows-requires
 keep-rows-requires c κs =
     let d = c .before .before .before .before .before .before .before .before .before .before .before .before .before in
-    let s = d .before in
+    let s = d .before .before .before in
     (sound-fits (heldBy (arrays s)) (s .pre .0 .pair .sound), (s .pre .1 .0, (s .pre .1 .1, dead-length (s .args .a) (s .args .b) _ (d .dead-rows .ensures))))
 
 known-requires : tie.Need-known-requires
@@ -39,7 +40,7 @@ find-requires c κs =
     let k = c .before in
     let q = packed k in
     let d = flagged q in
-    let s = d .before in
+    let s = d .before .before .before in
     let a = s .args in
     find-asks (arrays s) (s .pre .1 .0) (a .i) (a .a) (a .j) (a .b) (a .f) (a .numbers .now) (a .u) (a .places .now)
     (s .pre .0) _ (d .dead-rows .ensures) _ (k .known .ensures) (q .keep-rows .ensures)
@@ -50,7 +51,7 @@ spans-of-requires c κs =
     let k = x .before .before in
     let q = packed k in
     let d = flagged q in
-    let s = d .before in
+    let s = d .before .before .before in
     let a = s .args in
     spans-ask (arrays s) (s .pre .1 .0) (a .i) (a .a) (a .j) (a .b) (a .f) (a .numbers .now) (a .u) (a .places .now)
     (s .pre .0) _ (d .dead-rows .ensures) _ (k .known .ensures) (q .keep-rows .ensures)
@@ -63,7 +64,7 @@ replace-cycles-requires c κs =
     let k = x .before .before in
     let q = packed k in
     let d = flagged q in
-    let s = d .before in
+    let s = d .before .before .before in
     let a = s .args in
     replaces (arrays s) (s .pre .1 .0) (a .i) (a .a) (a .j) (a .b) (a .f) (a .numbers .now) (a .u) (a .places .now)
     (s .pre .0) _ (d .dead-rows .ensures) _ (k .known .ensures) (q .keep-rows .ensures)
@@ -76,7 +77,7 @@ returns c =
     let k = x .before .before in
     let q = packed k in
     let d = flagged q in
-    let s = d .before in
+    let s = d .before .before .before in
     let a = s .args in
     holds (arrays s) (s .pre .1 .0) (a .i) (a .a) (a .j) (a .b) (a .f) (a .numbers .now) (a .u) (a .places .now)
     (s .pre .0) _ (d .dead-rows .ensures) _ (k .known .ensures) (q .keep-rows .ensures)

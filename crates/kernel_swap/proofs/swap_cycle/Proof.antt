@@ -6,8 +6,8 @@ use native.Mathlib.Omega.{arith}
 use lib.ListN.{length, take, drop, set, getD}
 use Rattle.store.specs.View.{width}
 use Rattle.number.specs.Readers.{spread}
-use Rattle.rewire.specs.Swap.{swapWord, Wrote}
-use Rattle.rewire.proofs.Writing.{wrote-one, steps-lone, steps-some, width-some}
+use Rattle.rows_steps.specs.Swap.{swapWord, Wrote}
+use Rattle.rows_steps.proofs.Writing.{wrote-one, steps-lone, steps-some, width-some}
 use Rattle.kernel_swap.proofs.Along.{ahead-at, ahead-run}
 use borrow.Author.Needs.{needs}
 use Rattle.kernel_swap.proofs.swap_cycle.Statement.{statement}

@@ -5,9 +5,9 @@ use mathlib.Core.Path.{_≡_, refl, ap, sym, _∙_}
 use native.Mathlib.Omega.{arith}
 use lib.ListN.{length, take, drop, getD}
 use lib.Seq.{length-take-le}
-use Rattle.rewire.specs.Swap.{allSteps}
+use Rattle.rows_steps.specs.Swap.{allSteps}
 use Rattle.store.proofs.Lists.{places-one}
-use Rattle.rewire.proofs.Writing.{Swapping, swapping-start}
+use Rattle.rows_steps.proofs.Writing.{Swapping, swapping-start}
 use Rattle.kernel_swap.proofs.Along.{cycle-ahead, cycle-end, cycle-room, cycle-turn}
 use Rattle.kernel_swap.proofs.swap_cycles.Statement.{statement}
 use Rattle.kernel_swap.proofs.swap_cycles.Tie as tie

@@ -6,8 +6,8 @@ use mathlib.Core.List.{List}
 use native.Mathlib.Omega.{arith}
 use lib.ListN.{length, take, drop, getD}
 use Rattle.number.specs.Readers.{spread}
-use Rattle.rewire.specs.Swap.{swapWord, Wrote}
-use Rattle.rewire.proofs.Writing.{wrote-none}
+use Rattle.rows_steps.specs.Swap.{swapWord, Wrote}
+use Rattle.rows_steps.proofs.Writing.{wrote-none}
 use Rattle.kernel_swap.proofs.Along.{place-length, place-room, place-turn}
 use Rattle.kernel_swap.proofs.swap_run.Statement.{statement}
 use Rattle.kernel_swap.proofs.swap_run.Tie as tie

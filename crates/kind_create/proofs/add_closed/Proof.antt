@@ -14,24 +14,25 @@ use Rattle.complex.specs.Cells.{Figure, closedEdge}
 use Rattle.complex.specs.Decode.{create}
 use Rattle.complex.proofs.Asked.{early-bends, out-bends, no-3, no-5, Passed}
 use Rattle.store.specs.View.{sheetOf}
-use Rattle.append.specs.Appends.{Room}
+use Rattle.rows_new.specs.Appends.{CellRoom}
 use Rattle.answer.specs.Sizes.{sized, nothing, moreLess, changedBy}
 use Rattle.answer.specs.Late.{sizesBy, lateNo}
 use Rattle.answer.proofs.Asked.{next-in}
-use Rattle.cells.proofs.Create.{no-by-bends, closed-four, closed-five, closed-passed}
+use Rattle.ask_create.proofs.Create.{no-by-bends, closed-four, closed-five, closed-passed}
 use Rattle.lent.specs.Arrays.{Arrays, lent, heldBy}
 use Rattle.lent.specs.Growing.{withClosed}
 use Rattle.lent.proofs.Grown.{closed-long, closed-normal}
 use Rattle.lent.proofs.Sums.{ready-rows, ready-drawing, ready-small, ready-bends, ready-no}
-use Rattle.kind_create.proofs.Comes.{obeyed-full, came-room, obeyed-came}
-use Rattle.kind_create.proofs.Put.{withPlaced, placed-long, closed-grew}
+use Rattle.kernel_add.proofs.Comes.{obeyed-full, came-room, obeyed-came}
+use Rattle.kernel_add.proofs.Put.{withPlaced, placed-long, closed-grew}
 use Rattle.kind_create.proofs.add_closed.Statement.{statement}
 use Rattle.kind_create.proofs.add_closed.Tie as tie
 
 abbrev arrays : (c : tie.Start) → Arrays
 arrays c =
     let a = c .args in
-    lent (now (a .next)) (now (a .count)) (a .ids) (a .kinds) (a .starts) (a .ends) (a .bends) (a .counts) (a .px) (a .py) (a .cycles) (a .steps) (a .bx) (a .by)
+    lent (now (a .next)) (now (a .count)) (a .ids) (a .kinds) (a .starts) (a .ends) (a .bends) (a .counts) (a .px) (a .py) (a .cycles) (a .steps) (a .bx)
+    (a .by)
 
 -- the bends in the script
 abbrev listed : (c : tie.Start) → List Position
@@ -54,7 +55,8 @@ returns c =
     let w = c .before .before in
     let s = w .before .before in
     let q = create (edge s) in
-    ready-no (arrays s) (s .args .t) (s .pre .0) q 3 _ (c .line-of .ensures) (no-3 _ q (out-bends q (sym (w .bends-within .ensures) ∙ not-true _ (c .before .if1 .taken))))
+    ready-no (arrays s) (s .args .t) (s .pre .0) q 3 _ (c .line-of .ensures)
+    (no-3 _ q (out-bends q (sym (w .bends-within .ensures) ∙ not-true _ (c .before .if1 .taken))))
 
 line-of-requires-2 : tie.Need-line-of-requires-2
 line-of-requires-2 c κs = search needs
@@ -67,15 +69,18 @@ returns-2 c =
     let q = create (edge s) in
     let d = heldBy (arrays s) in
     ready-no (arrays s) (s .args .t) (s .pre .0) q 5 _ (c .line-of2 .ensures)
-    (no-5 _ q (early-bends q (sym (w .bends-within .ensures) ∙ not-false _ (e .if1 .left))) (closed-four d (listed s)) (closed-five d (listed s) (many s ∙ c .before .if2 .taken)))
+    (no-5 _ q (early-bends q (sym (w .bends-within .ensures) ∙ not-false _ (e .if1 .left))) (closed-four d (listed s))
+    (closed-five d (listed s) (many s ∙ c .before .if2 .taken)))
 
 wide-requires : tie.Need-wide-requires
 wide-requires c κs = search needs
 
 cell-no-requires : tie.Need-cell-no-requires
 cell-no-requires c κs =
-    let s = c .before .before .before .before .before .before in
-    (next-in (heldBy (arrays s)) (ready-drawing (arrays s) (s .args .t) (s .pre .0)), (ready-small (arrays s) (s .args .t) (s .pre .0), (lit≤ tt, (lit≤ tt, omega (arith, c .wide .ensures, s .fits .k)))))
+    let s = c .before .before .before .before .before .before in (
+      next-in (heldBy (arrays s)) (ready-drawing (arrays s) (s .args .t) (s .pre .0)),
+      (ready-small (arrays s) (s .args .t) (s .pre .0), (lit≤ tt, (lit≤ tt, omega (arith, c .wide .ensures, s .fits .k)))),
+    )
 
 line-of-requires-3 : tie.Need-line-of-requires-3
 line-of-requires-3 c κs = search needs
@@ -91,8 +96,11 @@ passed l =
     let s = start l in
     closed-passed (heldBy (arrays s)) (listed s) (sym (e .before .bends-within .ensures) ∙ not-false _ (e .if1 .left)) (λ n. f .if2 .left (sym (many s) ∙ n))
 
-late : (l : tie.After-cell-no) → l .cell-no .result ≡ lateNo (arrays (start l) .next) 1 (changedBy (sizesBy (start l .args .t)) (moreLess (sized 1 0 0 (length (listed (start l)))) nothing))
-late l = let s = start l in no-by-bends (arrays s .next) (s .args .t) (l .cell-no .result) _ (listed s) (many s ∙ sym (l .before .wide .ensures)) (l .cell-no .ensures)
+late : (l : tie.After-cell-no) → l .cell-no .result ≡ lateNo (arrays (start l) .next) 1
+    (changedBy (sizesBy (start l .args .t)) (moreLess (sized 1 0 0 (length (listed (start l)))) nothing))
+late l =
+    let s = start l in
+    no-by-bends (arrays s .next) (s .args .t) (l .cell-no .result) _ (listed s) (many s ∙ sym (l .before .wide .ensures)) (l .cell-no .ensures)
 
 returns-3 : tie.Need-returns-3
 returns-3 c =
@@ -101,7 +109,7 @@ returns-3 c =
     obeyed-full (arrays s) (s .args .t) (s .pre .0) (edge s) (passed l) (l .cell-no .result) (late l) (c .before .if3 .taken) _ (c .line-of3 .ensures)
 
 -- where the edge has room
-room : (e : tie.Else3) → Room (heldBy (arrays (start (e .before)))) (edge (start (e .before)))
+room : (e : tie.Else3) → CellRoom (heldBy (arrays (start (e .before)))) (edge (start (e .before)))
 room e =
     let l = e .before in
     let s = start l in
@@ -136,7 +144,22 @@ returns-4 c =
     (withClosed b k) (closed-long b lb k) refl refl (closed-normal b lb k (m .cells) (ready-rows a (s .args .t) (s .pre .0)))
     (closed-grew a (s .pre .0 .long) (listed s) k (s .args .t .bends) (many s) at us vs (p .put-bends .ensures) m)
     _
-    (λ i. record { next = w .1 .0 i; count = w .1 .1 .0 i; ids = y .0 i; kinds = y .1 .0 i; starts = y .1 .1 .0 i; ends = y .1 .1 .1 .0 i; bends = y .1 .1 .1 .1 .0 i; counts = y .1 .1 .1 .1 .1 i; px = a .px; py = a .py; cycles = a .cycles; steps = a .steps; bx = us; by = vs })
+    (λ i. record {
+      next = w .1 .0 i;
+      count = w .1 .1 .0 i;
+      ids = y .0 i;
+      kinds = y .1 .0 i;
+      starts = y .1 .1 .0 i;
+      ends = y .1 .1 .1 .0 i;
+      bends = y .1 .1 .1 .1 .0 i;
+      counts = y .1 .1 .1 .1 .1 i;
+      px = a .px;
+      py = a .py;
+      cycles = a .cycles;
+      steps = a .steps;
+      bx = us;
+      by = vs;
+    })
     _ (w .0)
 
 pub add-closed-spec : {M : Type 1} → statement M

@@ -18,25 +18,26 @@ use Rattle.complex.specs.Cells.{Figure, openEdge, cellAt, isVertex}
 use Rattle.complex.specs.Decode.{create}
 use Rattle.complex.proofs.Asked.{early-bends, out-bends, no-3, no-4, Passed}
 use Rattle.store.specs.View.{sheetOf}
-use Rattle.sound.specs.Looks.{told}
-use Rattle.append.specs.Appends.{Room}
+use Rattle.sound.specs.Looks.{indexValue}
+use Rattle.rows_new.specs.Appends.{CellRoom}
 use Rattle.answer.specs.Sizes.{sized, nothing, moreLess, changedBy}
 use Rattle.answer.specs.Late.{sizesBy, lateNo}
 use Rattle.answer.proofs.Asked.{next-in, kind-vertex}
-use Rattle.cells.proofs.Create.{no-by-bends, open-four-start, open-four-end, open-passed}
+use Rattle.ask_create.proofs.Create.{no-by-bends, open-four-start, open-four-end, open-passed}
 use Rattle.lent.specs.Arrays.{Arrays, lent, heldBy, rowsBy}
 use Rattle.lent.specs.Growing.{withOpen}
 use Rattle.lent.proofs.Grown.{open-long, open-normal}
 use Rattle.lent.proofs.Sums.{ready-rows, ready-drawing, ready-sizes, ready-fits, ready-indexes, ready-looks, ready-small, ready-bends, ready-no}
-use Rattle.kind_create.proofs.Comes.{obeyed-full, came-room, obeyed-came}
-use Rattle.kind_create.proofs.Put.{withPlaced, placed-long, open-grew}
+use Rattle.kernel_add.proofs.Comes.{obeyed-full, came-room, obeyed-came}
+use Rattle.kernel_add.proofs.Put.{withPlaced, placed-long, open-grew}
 use Rattle.kind_create.proofs.add_open.Statement.{statement}
 use Rattle.kind_create.proofs.add_open.Tie as tie
 
 abbrev arrays : (c : tie.Start) → Arrays
 arrays c =
     let a = c .args in
-    lent (now (a .next)) (now (a .count)) (a .ids) (a .kinds) (a .starts) (a .ends) (a .bends) (a .counts) (a .px) (a .py) (a .cycles) (a .steps) (a .bx) (a .by)
+    lent (now (a .next)) (now (a .count)) (a .ids) (a .kinds) (a .starts) (a .ends) (a .bends) (a .counts) (a .px) (a .py) (a .cycles) (a .steps) (a .bx)
+    (a .by)
 
 -- the bends in the script
 abbrev listed : (c : tie.Start) → List Position
@@ -49,7 +50,8 @@ abbrev edge : (c : tie.Start) → Figure
 edge c = openEdge (c .args .start) (c .args .end) (listed c)
 
 -- the kind in the row of an id
-kind : (c : tie.Start) (v k : ℕ) → k ≡ told 4 (heldBy (arrays c)) (rowsBy (arrays c)) (arrays c .kinds) v → eqb k 0 ≡ isVertex (cellAt (sheetOf (heldBy (arrays c))) v)
+kind : (c : tie.Start) (v k : ℕ) → k ≡ indexValue 4 (heldBy (arrays c)) (rowsBy (arrays c)) (arrays c .kinds) v
+    → eqb k 0 ≡ isVertex (cellAt (sheetOf (heldBy (arrays c))) v)
 kind c v k e =
     let a = arrays c in
     let t = c .args .t in
@@ -67,7 +69,8 @@ returns c =
     let w = c .before .before in
     let s = w .before .before in
     let q = create (edge s) in
-    ready-no (arrays s) (s .args .t) (s .pre .0) q 3 _ (c .line-of .ensures) (no-3 _ q (out-bends q (sym (w .bends-within .ensures) ∙ not-true _ (c .before .if1 .taken))))
+    ready-no (arrays s) (s .args .t) (s .pre .0) q 3 _ (c .line-of .ensures)
+    (no-3 _ q (out-bends q (sym (w .bends-within .ensures) ∙ not-true _ (c .before .if1 .taken))))
 
 value-at-requires : tie.Need-value-at-requires
 value-at-requires c κs =
@@ -93,7 +96,8 @@ returns-2 c =
     let q = create (edge s) in
     ready-no (arrays s) (s .args .t) (s .pre .0) q 4 _ (c .line-of2 .ensures)
     (no-4 _ q (early-bends q (bounds a))
-    (open-four-start (heldBy (arrays s)) (s .args .start) (s .args .end) (listed s) (sym (kind s (s .args .start) (a .value-at .result) (a .value-at .ensures)) ∙ ne-eqb _ 0 (c .before .if2 .taken))))
+    (open-four-start (heldBy (arrays s)) (s .args .start) (s .args .end) (listed s)
+    (sym (kind s (s .args .start) (a .value-at .result) (a .value-at .ensures)) ∙ ne-eqb _ 0 (c .before .if2 .taken))))
 
 value-at-requires-2 : tie.Need-value-at-requires-2
 value-at-requires-2 c κs =
@@ -116,7 +120,8 @@ returns-3 c =
     let q = create (edge s) in
     ready-no (arrays s) (s .args .t) (s .pre .0) q 4 _ (c .line-of3 .ensures)
     (no-4 _ q (early-bends q (bounds (e .before)))
-    (open-four-end (heldBy (arrays s)) (s .args .start) (s .args .end) (listed s) (starts-at e) (sym (kind s (s .args .end) (b .value-at2 .result) (b .value-at2 .ensures)) ∙ ne-eqb _ 0 (c .before .if3 .taken))))
+    (open-four-end (heldBy (arrays s)) (s .args .start) (s .args .end) (listed s) (starts-at e)
+    (sym (kind s (s .args .end) (b .value-at2 .result) (b .value-at2 .ensures)) ∙ ne-eqb _ 0 (c .before .if3 .taken))))
 
 -- where both are known
 abbrev starting : tie.Else3 → tie.Start
@@ -127,15 +132,18 @@ passed f =
     let b = f .before in
     let e = b .before .before .before in
     let s = starting f in
-    open-passed (heldBy (arrays s)) (s .args .start) (s .args .end) (listed s) (bounds (e .before)) (starts-at e) (sym (kind s (s .args .end) (b .value-at2 .result) (b .value-at2 .ensures)) ∙ eq-eqb _ 0 (f .if3 .left))
+    open-passed (heldBy (arrays s)) (s .args .start) (s .args .end) (listed s) (bounds (e .before)) (starts-at e)
+    (sym (kind s (s .args .end) (b .value-at2 .result) (b .value-at2 .ensures)) ∙ eq-eqb _ 0 (f .if3 .left))
 
 wide-requires : tie.Need-wide-requires
 wide-requires c κs = search needs
 
 cell-no-requires : tie.Need-cell-no-requires
 cell-no-requires c κs =
-    let s = starting (c .before .before) in
-    (next-in (heldBy (arrays s)) (ready-drawing (arrays s) (s .args .t) (s .pre .0)), (ready-small (arrays s) (s .args .t) (s .pre .0), (lit≤ tt, (lit≤ tt, omega (arith, c .wide .ensures, s .fits .k)))))
+    let s = starting (c .before .before) in (
+      next-in (heldBy (arrays s)) (ready-drawing (arrays s) (s .args .t) (s .pre .0)),
+      (ready-small (arrays s) (s .args .t) (s .pre .0), (lit≤ tt, (lit≤ tt, omega (arith, c .wide .ensures, s .fits .k)))),
+    )
 
 line-of-requires-4 : tie.Need-line-of-requires-4
 line-of-requires-4 c κs = search needs
@@ -144,17 +152,21 @@ line-of-requires-4 c κs = search needs
 abbrev start : tie.After-cell-no → tie.Start
 start l = starting (l .before .before .before)
 
-late : (l : tie.After-cell-no) → l .cell-no .result ≡ lateNo (arrays (start l) .next) 1 (changedBy (sizesBy (start l .args .t)) (moreLess (sized 1 0 0 (length (listed (start l)))) nothing))
-late l = let s = start l in no-by-bends (arrays s .next) (s .args .t) (l .cell-no .result) _ (listed s) (many s ∙ sym (l .before .wide .ensures)) (l .cell-no .ensures)
+late : (l : tie.After-cell-no) → l .cell-no .result ≡ lateNo (arrays (start l) .next) 1
+    (changedBy (sizesBy (start l .args .t)) (moreLess (sized 1 0 0 (length (listed (start l)))) nothing))
+late l =
+    let s = start l in
+    no-by-bends (arrays s .next) (s .args .t) (l .cell-no .result) _ (listed s) (many s ∙ sym (l .before .wide .ensures)) (l .cell-no .ensures)
 
 returns-4 : tie.Need-returns-4
 returns-4 c =
     let l = c .before .before in
     let s = start l in
-    obeyed-full (arrays s) (s .args .t) (s .pre .0) (edge s) (passed (l .before .before .before)) (l .cell-no .result) (late l) (c .before .if4 .taken) _ (c .line-of4 .ensures)
+    obeyed-full (arrays s) (s .args .t) (s .pre .0) (edge s) (passed (l .before .before .before)) (l .cell-no .result) (late l) (c .before .if4 .taken) _
+    (c .line-of4 .ensures)
 
 -- where the edge has room
-room : (e : tie.Else4) → Room (heldBy (arrays (start (e .before)))) (edge (start (e .before)))
+room : (e : tie.Else4) → CellRoom (heldBy (arrays (start (e .before)))) (edge (start (e .before)))
 room e =
     let l = e .before in
     let s = start l in
@@ -186,10 +198,26 @@ returns-5 c =
     let y = w .1 .1 .1 in
     let m = room e in
     obeyed-came a (s .args .t) (s .pre .0) (edge s) (passed (l .before .before .before)) (l .cell-no .result) (late l) (e .if4 .left)
-    (withOpen b (s .args .start) (s .args .end) k) (open-long b lb (s .args .start) (s .args .end) k) refl refl (open-normal b lb (s .args .start) (s .args .end) k (m .cells) (ready-rows a (s .args .t) (s .pre .0)))
+    (withOpen b (s .args .start) (s .args .end) k) (open-long b lb (s .args .start) (s .args .end) k) refl refl
+    (open-normal b lb (s .args .start) (s .args .end) k (m .cells) (ready-rows a (s .args .t) (s .pre .0)))
     (open-grew a (s .pre .0 .long) (listed s) k (s .args .t .bends) (many s) at us vs (p .put-bends .ensures) (s .args .start) (s .args .end) m)
     _
-    (λ i. record { next = w .1 .0 i; count = w .1 .1 .0 i; ids = y .0 i; kinds = y .1 .0 i; starts = y .1 .1 .0 i; ends = y .1 .1 .1 .0 i; bends = y .1 .1 .1 .1 .0 i; counts = y .1 .1 .1 .1 .1 i; px = a .px; py = a .py; cycles = a .cycles; steps = a .steps; bx = us; by = vs })
+    (λ i. record {
+      next = w .1 .0 i;
+      count = w .1 .1 .0 i;
+      ids = y .0 i;
+      kinds = y .1 .0 i;
+      starts = y .1 .1 .0 i;
+      ends = y .1 .1 .1 .0 i;
+      bends = y .1 .1 .1 .1 .0 i;
+      counts = y .1 .1 .1 .1 .1 i;
+      px = a .px;
+      py = a .py;
+      cycles = a .cycles;
+      steps = a .steps;
+      bx = us;
+      by = vs;
+    })
     _ (w .0)
 
 pub add-open-spec : {M : Type 1} → statement M

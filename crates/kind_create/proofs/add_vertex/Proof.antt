@@ -8,21 +8,22 @@ use Rattle.complex.specs.Cells.{vertex}
 use Rattle.complex.specs.Decode.{create}
 use Rattle.complex.proofs.Asked.{out-one, no-3, Passed}
 use Rattle.store.specs.View.{sheetOf}
-use Rattle.append.specs.Appends.{Room}
+use Rattle.rows_new.specs.Appends.{CellRoom}
 use Rattle.answer.proofs.Asked.{next-in}
-use Rattle.cells.proofs.Create.{vertex-passed}
+use Rattle.ask_create.proofs.Create.{vertex-passed}
 use Rattle.lent.specs.Arrays.{Arrays, lent, heldBy}
 use Rattle.lent.specs.Growing.{withVertex}
 use Rattle.lent.proofs.Grown.{vertex-long, vertex-normal, vertex-comes}
 use Rattle.lent.proofs.Sums.{ready-rows, ready-drawing, ready-small, ready-no}
-use Rattle.kind_create.proofs.Comes.{obeyed-full, came-room, obeyed-came}
+use Rattle.kernel_add.proofs.Comes.{obeyed-full, came-room, obeyed-came}
 use Rattle.kind_create.proofs.add_vertex.Statement.{statement}
 use Rattle.kind_create.proofs.add_vertex.Tie as tie
 
 abbrev arrays : (c : tie.Start) → Arrays
 arrays c =
     let a = c .args in
-    lent (now (a .next)) (now (a .count)) (a .ids) (a .kinds) (a .starts) (a .ends) (a .bends) (a .counts) (a .px) (a .py) (a .cycles) (a .steps) (a .bx) (a .by)
+    lent (now (a .next)) (now (a .count)) (a .ids) (a .kinds) (a .starts) (a .ends) (a .bends) (a .counts) (a .px) (a .py) (a .cycles) (a .steps) (a .bx)
+    (a .by)
 
 in-bounds-requires : tie.Need-in-bounds-requires
 in-bounds-requires c κs = search needs
@@ -35,12 +36,15 @@ returns c =
     let b = c .before .before in
     let s = b .before in
     let q = create (vertex (s .args .p)) in
-    ready-no (arrays s) (s .args .t) (s .pre) q 3 _ (c .line-of .ensures) (no-3 _ q (out-one q (s .args .p) refl (sym (b .in-bounds .ensures) ∙ not-true _ (c .before .if1 .taken))))
+    ready-no (arrays s) (s .args .t) (s .pre) q 3 _ (c .line-of .ensures)
+    (no-3 _ q (out-one q (s .args .p) refl (sym (b .in-bounds .ensures) ∙ not-true _ (c .before .if1 .taken))))
 
 cell-no-requires : tie.Need-cell-no-requires
 cell-no-requires c κs =
-    let s = c .before .before .before in
-    (next-in (heldBy (arrays s)) (ready-drawing (arrays s) (s .args .t) (s .pre)), (ready-small (arrays s) (s .args .t) (s .pre), (lit≤ tt, (lit≤ tt, lit≤ tt))))
+    let s = c .before .before .before in (
+      next-in (heldBy (arrays s)) (ready-drawing (arrays s) (s .args .t) (s .pre)),
+      (ready-small (arrays s) (s .args .t) (s .pre), (lit≤ tt, (lit≤ tt, lit≤ tt))),
+    )
 
 line-of-requires-2 : tie.Need-line-of-requires-2
 line-of-requires-2 c κs = search needs
@@ -58,10 +62,11 @@ returns-2 : tie.Need-returns-2
 returns-2 c =
     let l = c .before .before in
     let s = start l in
-    obeyed-full (arrays s) (s .args .t) (s .pre) (vertex (s .args .p)) (passed l) (l .cell-no .result) (l .cell-no .ensures) (c .before .if2 .taken) _ (c .line-of2 .ensures)
+    obeyed-full (arrays s) (s .args .t) (s .pre) (vertex (s .args .p)) (passed l) (l .cell-no .result) (l .cell-no .ensures) (c .before .if2 .taken) _
+    (c .line-of2 .ensures)
 
 -- where the vertex has room
-room : (e : tie.Else2) → Room (heldBy (arrays (start (e .before)))) (vertex (start (e .before) .args .p))
+room : (e : tie.Else2) → CellRoom (heldBy (arrays (start (e .before)))) (vertex (start (e .before) .args .p))
 room e =
     let l = e .before in
     let s = start l in
@@ -85,9 +90,25 @@ returns-3 c =
     let x = q .put-position .ensures in
     let m = room e in
     obeyed-came a (s .args .t) (s .pre) (vertex (s .args .p)) (passed l) (l .cell-no .result) (l .cell-no .ensures) (e .if2 .left)
-    (withVertex a (s .args .p)) (vertex-long a (s .pre .long) (s .args .p)) refl refl (vertex-normal a (s .pre .long) (s .args .p) (m .cells) (ready-rows a (s .args .t) (s .pre))) (vertex-comes a (s .pre .long) (s .args .p) m)
+    (withVertex a (s .args .p)) (vertex-long a (s .pre .long) (s .args .p)) refl refl
+    (vertex-normal a (s .pre .long) (s .args .p) (m .cells) (ready-rows a (s .args .t) (s .pre))) (vertex-comes a (s .pre .long) (s .args .p) m)
     _
-    (λ i. record { next = w .1 .0 i; count = w .1 .1 .0 i; ids = y .0 i; kinds = y .1 .0 i; starts = y .1 .1 .0 i; ends = y .1 .1 .1 .0 i; bends = y .1 .1 .1 .1 .0 i; counts = y .1 .1 .1 .1 .1 i; px = x .0 i; py = x .1 i; cycles = a .cycles; steps = a .steps; bx = a .bx; by = a .by })
+    (λ i. record {
+      next = w .1 .0 i;
+      count = w .1 .1 .0 i;
+      ids = y .0 i;
+      kinds = y .1 .0 i;
+      starts = y .1 .1 .0 i;
+      ends = y .1 .1 .1 .0 i;
+      bends = y .1 .1 .1 .1 .0 i;
+      counts = y .1 .1 .1 .1 .1 i;
+      px = x .0 i;
+      py = x .1 i;
+      cycles = a .cycles;
+      steps = a .steps;
+      bx = a .bx;
+      by = a .by;
+    })
     _ (w .0)
 
 pub add-vertex-spec : {M : Type 1} → statement M

@@ -9,7 +9,7 @@ use Rattle.coordinate.specs.Bounds.{within}
 use Rattle.bends.specs.Bends.{positionsAt}
 use Rattle.lent.specs.Arrays.{Arrays, lent}
 use Rattle.lent.proofs.Sums.{ready-fits, ready-looks}
-use Rattle.kind_cut_along.specs.Cuts.{Asks}
+use Rattle.kind_cut_split.specs.Cuts.{Asks}
 use Rattle.kind_cut_along.proofs.Opening.{bends-no, face-no, find-asks, counted, corners-ask, corners-no, asks, asks-one, obeyed-one}
 use Rattle.kind_cut_along.proofs.cut_face_open.Statement.{statement}
 use Rattle.kind_cut_along.proofs.cut_face_open.Tie as tie

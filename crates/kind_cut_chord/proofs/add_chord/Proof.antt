@@ -13,12 +13,14 @@ arrays c =
     (a .by)
 
 replace-cycles-requires : tie.Need-replace-cycles-requires
-replace-cycles-requires c κs = c .before .before .before .before .before .before .before .before .before .before .before .before .before .pre .replaces
+replace-cycles-requires c κs =
+    c .before .before .before .before .before .before .before .before .before .before .before .before .before .before .before .pre .replaces
 
 put-bends-requires : tie.Need-put-bends-requires
 put-bends-requires c κs =
     let r = c .before .before in
-    let s = c .before .before .before .before .before .before .before .before .before .before .before .before .before .before .before .before in
+    let s = c .before .before .before .before .before .before .before .before .before .before .before .before .before .before .before .before .before
+    .before in
     let a = s .args in
     let q = r .replace-cycles .ensures in (
       s .pre .bytes,
@@ -32,8 +34,8 @@ put-bends-requires c κs =
 add-row-requires : tie.Need-add-row-requires
 add-row-requires c κs =
     let r = c .before .before .before .before .before .before .before .before .before .before .before in
-    let s = c .before .before .before .before .before .before .before .before .before .before .before .before .before .before .before .before .before .before
-    .before .before .before .before .before .before .before in
+    let s = c .before .before .before .before .before .before .before .before .before .before .before .before .before .before .before .before .before
+    .before .before .before .before .before .before .before .before .before .before in
     let a = s .args in
     let m = chord-comes (arrays s) (a .row) (a .spans) (now (a .numbers)) (a .u) (now (a .places)) (a .at) (now (a .script)) (a .v) (a .w) (a .k) (a .first)
     (s .pre) _ (r .replace-cycles .ensures) in
@@ -43,8 +45,8 @@ returns : tie.Need-returns
 returns c =
     let y = c .before .before .before .before .before .before .before .before .before in
     let r = c .before .before .before .before .before .before .before .before .before .before .before .before in
-    let s = c .before .before .before .before .before .before .before .before .before .before .before .before .before .before .before .before .before .before
-    .before .before .before .before .before .before .before .before in
+    let s = c .before .before .before .before .before .before .before .before .before .before .before .before .before .before .before .before .before
+    .before .before .before .before .before .before .before .before .before .before .before in
     let a = s .args in
     let g = c .add-row .ensures in
     let h = g .1 .1 .1 in (

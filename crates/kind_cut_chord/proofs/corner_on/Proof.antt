@@ -10,10 +10,10 @@ use lib.ListN.{take, drop, getD}
 use denote.Ref.{now}
 use Rattle.store.specs.declared.Index.{Index}
 use Rattle.store.specs.View.{widthSum}
-use Rattle.cycles.proofs.Building.{width-some}
-use Rattle.outline.proofs.Arcs.{corner-lone, corner-none, corner-found}
-use Rattle.split.proofs.Places.{place-room}
-use Rattle.cutline.proofs.Corners.{no-cycle, place-asks, corner-at}
+use Rattle.rows_spans.proofs.Building.{width-some}
+use Rattle.rows_corners.proofs.Arcs.{corner-lone, corner-none, corner-found}
+use Rattle.rows_split.proofs.Places.{place-room}
+use Rattle.ask_cut_along.proofs.Corners.{no-cycle, place-asks, corner-at}
 use Rattle.kind_cut_chord.proofs.corner_on.Statement.{statement}
 use Rattle.kind_cut_chord.proofs.corner_on.Tie as tie
 

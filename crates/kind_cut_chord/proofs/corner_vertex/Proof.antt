@@ -3,7 +3,7 @@ use borrow.Author.Needs.{needs}
 use mathlib.Core.List.{[]}
 use denote.Ref.{now}
 use Rattle.store.specs.declared.Index.{Index}
-use Rattle.outline.proofs.Arcs.{vertex-lone, vertex-back, vertex-on}
+use Rattle.rows_corners.proofs.Arcs.{vertex-lone, vertex-back, vertex-on}
 use Rattle.kind_cut_chord.proofs.corner_vertex.Statement.{statement}
 use Rattle.kind_cut_chord.proofs.corner_vertex.Tie as tie
 

@@ -3,8 +3,8 @@ use borrow.Author.Needs.{needs}
 use native.Mathlib.Omega.{arith}
 use mathlib.Core.Bool.{Bool}
 use denote.Ref.{now}
-use Rattle.command.specs.Lists.{numbersRead}
-use Rattle.cutline.specs.Corners.{movedFit}
+use Rattle.decode_parts.specs.Lists.{numbersRead}
+use Rattle.ask_cut_along.specs.Corners.{movedFit}
 use Rattle.kind_cut_chord.specs.Chords.{cornerBy}
 use Rattle.kind_cut_chord.proofs.Ends.{first-no, second-no, rest-says}
 use Rattle.kind_cut_chord.proofs.corners_exist.Statement.{statement}

@@ -31,10 +31,13 @@ obeyed-at a b l e h o = subst (λ (n : ℕ). Obeyed a (cutEdge e n) b l) h o
 abbrev arrays : (c : tie.Start) → Arrays
 arrays c =
     let a = c .args in
-    lent (now (a .next)) (now (a .count)) (a .ids) (a .kinds) (a .starts) (a .ends) (a .bends) (a .counts) (a .px) (a .py) (a .cycles) (a .steps) (a .bx) (a .by)
+    lent (now (a .next)) (now (a .count)) (a .ids) (a .kinds) (a .starts) (a .ends) (a .bends) (a .counts) (a .px) (a .py) (a .cycles) (a .steps) (a .bx)
+    (a .by)
 
 looked : (c : tie.Start) → Looks (heldBy (arrays c)) (rowsBy (arrays c))
-looked c = looks (heldBy (arrays c)) (held-sizes (arrays c) (c .pre .long)) (rowsBy (arrays c)) (held-indexes (arrays c) (c .pre .long) (rows-of (arrays c) (c .pre .sound))) (drawing-of (arrays c) (c .pre .sound))
+looked c =
+    looks (heldBy (arrays c)) (held-sizes (arrays c) (c .pre .long)) (rowsBy (arrays c))
+    (held-indexes (arrays c) (c .pre .long) (rows-of (arrays c) (c .pre .sound))) (drawing-of (arrays c) (c .pre .sound))
 
 value-at-requires : tie.Need-value-at-requires
 value-at-requires c κs =
@@ -84,7 +87,8 @@ returns-3 c =
     let a = arrays s in
     let u = v .value-at .ensures in
     obeyed-no a (s .pre .sound) (cutEdge (s .args .e) (s .args .q)) 4 _ (c .line-of .ensures)
-    (no-edge (sheetOf (heldBy a)) (s .args .e) (s .args .q) (sym (open-at (looked s) (s .args .e)) ∙ ne-eqb _ 1 (λ g. l1 .if1 .left (u ∙ g))) (sym (closed-at (looked s) (s .args .e)) ∙ ne-eqb _ 2 (λ g. l2 .if2 .left (u ∙ g))))
+    (no-edge (sheetOf (heldBy a)) (s .args .e) (s .args .q) (sym (open-at (looked s) (s .args .e)) ∙ ne-eqb _ 1 (λ g. l1 .if1 .left (u ∙ g)))
+    (sym (closed-at (looked s) (s .args .e)) ∙ ne-eqb _ 2 (λ g. l2 .if2 .left (u ∙ g))))
 
 pub cut-edge-spec : {M : Type 1} → statement M
 cut-edge-spec =

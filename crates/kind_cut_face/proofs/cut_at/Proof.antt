@@ -6,16 +6,16 @@ use denote.Ref.{now}
 use Rattle.complex.specs.Lists.{one}
 use Rattle.complex.specs.Cells.{Cycle, Figure, lone, vertex}
 use Rattle.complex.specs.Sound.{cyclesMost, stepsMost}
-use Rattle.cycles.specs.Building.{Built, built}
-use Rattle.cycles.specs.declared.Spans.{Spans}
-use Rattle.cycles.specs.declared.Used.{Used}
+use Rattle.rows_spans.specs.Building.{Built, built}
+use Rattle.rows_spans.specs.declared.Spans.{Spans}
+use Rattle.rows_spans.specs.declared.Used.{Used}
 use Rattle.store.specs.View.{sheetOf}
-use Rattle.append.specs.Appends.{Room}
-use Rattle.outline.specs.Faces.{Spanned, cyclesAt, recycled}
-use Rattle.cutface.proofs.Edits.{lone-asks, lone-list}
+use Rattle.rows_new.specs.Appends.{CellRoom}
+use Rattle.rows_corners.specs.Faces.{Spanned, cyclesAt, recycled}
+use Rattle.law_cut_face.proofs.Edits.{lone-asks, lone-list}
 use Rattle.lent.specs.Arrays.{Arrays, lent, heldBy, rowsBy}
 use Rattle.kernel_cycles.specs.Replacing.{andOne, ReplacesIn, ReplacedIn}
-use Rattle.kind_cut_face.specs.Cuts.{Cuts}
+use Rattle.kind_cut_face.specs.Cuts.{FaceCuts}
 use Rattle.kind_cut_face.proofs.Cuts.{sizes-in, find-asks, counted, span, replaces, replaced-sheet}
 use Rattle.kind_cut_face.proofs.Lone.{withLone, lone-built, vertex-room, vertex-holds}
 use Rattle.kind_cut_face.proofs.cut_at.Statement.{statement}

@@ -12,8 +12,8 @@ use Rattle.complex.specs.Decode.{cutFaceVertex}
 use Rattle.complex.proofs.Asked.{no-3, no-4, early-one, out-one}
 use Rattle.store.specs.View.{sheetOf}
 use Rattle.answer.proofs.Asked.{next-in}
-use Rattle.outline.proofs.Edits.{face-told}
-use Rattle.cutface.proofs.Edits.{vertex-four}
+use Rattle.rows_corners.proofs.Edits.{face-told}
+use Rattle.law_cut_face.proofs.Edits.{vertex-four}
 use Rattle.lent.specs.Arrays.{Arrays, lent, heldBy, rowsBy}
 use Rattle.lent.proofs.Sums.{ready-sizes, ready-fits, ready-drawing, ready-indexes, ready-looks, ready-small, ready-no}
 use Rattle.kind_cut_face.proofs.Lone.{vertex-refused, vertex-cuts, vertex-obeyed}

@@ -8,7 +8,7 @@ use Rattle.sound.proofs.Meaning.{sound-fits}
 use Rattle.answer.proofs.Asked.{next-in}
 use Rattle.lent.specs.Arrays.{Arrays, lent, heldBy}
 use Rattle.lent.proofs.Replies.{rows-of, drawing-of, obeyed-no}
-use Rattle.kind_cut_ring.specs.Cutting.{Goes}
+use Rattle.kind_cut_plan.specs.RingPlans.{RingGoes}
 use Rattle.kind_cut_ring.proofs.Cutting.{place-in, edge-in, swap-asks, mid-row, loop-fits, obeyed-cut, swapped-as}
 use Rattle.kind_cut_ring.proofs.cut_closed.Statement.{statement}
 use Rattle.kind_cut_ring.proofs.cut_closed.Tie as tie
@@ -16,12 +16,13 @@ use Rattle.kind_cut_ring.proofs.cut_closed.Tie as tie
 abbrev arrays : (c : tie.Start) → Arrays
 arrays c =
     let a = c .args in
-    lent (now (a .next)) (now (a .count)) (a .ids) (a .kinds) (a .starts) (a .ends) (a .bends) (a .counts) (a .px) (a .py) (a .cycles) (a .steps) (a .bx) (a .by)
+    lent (now (a .next)) (now (a .count)) (a .ids) (a .kinds) (a .starts) (a .ends) (a .bends) (a .counts) (a .px) (a .py) (a .cycles) (a .steps) (a .bx)
+    (a .by)
 
 abbrev start : tie.After-ring-plan → tie.Start
 start p = p .before .before .before .before .before .before .before .before .before .before .before .before .before .before .before
 
-abbrev goes : (e : tie.Else1) → Goes (arrays (start (e .before))) (start (e .before) .args .e) (start (e .before) .args .q) (e .before .ring-plan .result)
+abbrev goes : (e : tie.Else1) → RingGoes (arrays (start (e .before))) (start (e .before) .args .e) (start (e .before) .args .q) (e .before .ring-plan .result)
 goes e = e .before .ring-plan .ensures .goes (e .if1 .left)
 
 -- the records after the steps, after the row, and at the end
@@ -44,7 +45,8 @@ returns : tie.Need-returns
 returns c =
     let p = c .before .before in
     let s = start p in
-    obeyed-no (arrays s) (s .pre .0 .sound) (cutEdge (s .args .e) (s .args .q)) (p .ring-plan .result .no) _ (c .line-of .ensures) (p .ring-plan .ensures .refused (c .before .if1 .taken))
+    obeyed-no (arrays s) (s .pre .0 .sound) (cutEdge (s .args .e) (s .args .q)) (p .ring-plan .result .no) _ (c .line-of .ensures)
+    (p .ring-plan .ensures .refused (c .before .if1 .taken))
 
 add-one-for : tie.Need-add-one-for
 add-one-for c =
@@ -67,7 +69,8 @@ swap-steps-requires c κs =
     let el = o .before in
     let s = start (el .before) in
     let a = arrays s in
-    swap-asks a (s .pre .0 .long) (s .pre .0 .sound) (s .args .e) (s .args .q) (el .before .ring-plan .result) (goes el) (o .one-for .result) (o .one-for .ensures)
+    swap-asks a (s .pre .0 .long) (s .pre .0 .sound) (s .args .e) (s .args .q) (el .before .ring-plan .result) (goes el) (o .one-for .result)
+    (o .one-for .ensures)
 
 add-drop-row : tie.Need-add-drop-row
 add-drop-row c =
@@ -83,8 +86,23 @@ drop-row-requires c κs =
     let el = o .before in
     let s = start (el .before) in
     let a = arrays s in
-    let sw = swapped-as (o .one-for .ensures) (w .swap-steps .ensures) in
-    (sw .fits, (sw .long, (rows-of a (s .pre .0 .sound), (mid-row a (s .pre .0 .long) (s .pre .0 .sound) (s .args .e) (s .args .q) (el .before .ring-plan .result) (goes el) _ _ sw, (omega arith, omega (arith, place-in a (s .pre .0 .long) (s .pre .0 .sound) (s .args .e) (s .args .q) (el .before .ring-plan .result) (goes el)))))))
+    let sw = swapped-as (o .one-for .ensures) (w .swap-steps .ensures) in (
+      sw .fits,
+      (
+        sw .long,
+        (
+          rows-of a (s .pre .0 .sound),
+          (
+            mid-row a (s .pre .0 .long) (s .pre .0 .sound) (s .args .e) (s .args .q)
+                (el .before .ring-plan .result) (goes el) _ _ sw,
+            (
+              omega arith,
+              omega (arith, place-in a (s .pre .0 .long) (s .pre .0 .sound) (s .args .e) (s .args .q) (el .before .ring-plan .result) (goes el)),
+            ),
+          ),
+        ),
+      ),
+    )
 
 sub-put-loop : tie.Need-sub-put-loop
 sub-put-loop c =
@@ -150,7 +168,8 @@ returns-2 c =
     let s = start (el .before) in
     let a = arrays s in
     let sw = swapped-as (o .one-for .ensures) (w .swap-steps .ensures) in
-    obeyed-cut a (s .pre .0 .long) (s .pre .0 .sound) (s .args .e) (s .args .q) (el .before .ring-plan .result) (goes el) _ _ sw _ refl (g .drop-row .ensures) _ (c .put-loop .ensures) _ refl
+    obeyed-cut a (s .pre .0 .long) (s .pre .0 .sound) (s .args .e) (s .args .q) (el .before .ring-plan .result) (goes el) _ _ sw _ refl (g .drop-row .ensures)
+    _ (c .put-loop .ensures) _ refl
 
 pub cut-closed-spec : {M : Type 1} → statement M
 cut-closed-spec =

@@ -37,7 +37,22 @@ returns c =
     let ends = w2 .1 .1 .1 .0 ∙ ap (λ (l : List ℕ). set l (a .count + 1) (a .next)) (w1 .1 .1 .1 .0) in
     let bends = w2 .1 .1 .1 .1 .0 ∙ ap (λ (l : List ℕ). set l (a .count + 1) (a .k)) (w1 .1 .1 .1 .1 .0) in
     let counts = w2 .1 .1 .1 .1 .1 ∙ ap (λ (l : List ℕ). set l (a .count + 1) (0)) (w1 .1 .1 .1 .1 .1) in
-    λ i. record { next = a .next + 1 + 1; count = a .count + 1 + 1; ids = ids i; kinds = kinds i; starts = starts i; ends = ends i; bends = bends i; counts = counts i; px = p1 .0 i; py = p1 .1 i; cycles = now (a .cycles); steps = now (a .steps); bx = now (a .bx); by = now (a .by) }
+    λ i. record {
+      next = a .next + 1 + 1;
+      count = a .count + 1 + 1;
+      ids = ids i;
+      kinds = kinds i;
+      starts = starts i;
+      ends = ends i;
+      bends = bends i;
+      counts = counts i;
+      px = p1 .0 i;
+      py = p1 .1 i;
+      cycles = now (a .cycles);
+      steps = now (a .steps);
+      bx = now (a .bx);
+      by = now (a .by);
+    }
 
 pub put-loop-spec : {M : Type 1} → statement M
 put-loop-spec =

@@ -17,9 +17,9 @@ use Rattle.complex.specs.Decode.{cutFaceClosed}
 use Rattle.complex.proofs.Asked.{no-3, out-bends}
 use Rattle.store.specs.Index.{valueAt}
 use Rattle.answer.proofs.Asked.{next-in}
-use Rattle.command.specs.Lists.{numbersRead}
-use Rattle.cutface.specs.Rounds.{roundNo}
-use Rattle.cutface.proofs.Rounds.{no-face, no-bend, no-rise, no-none}
+use Rattle.decode_parts.specs.Lists.{numbersRead}
+use Rattle.law_cut_face.specs.Rounds.{roundNo}
+use Rattle.law_cut_face.proofs.Rounds.{no-face, no-bend, no-rise, no-none}
 use Rattle.lent.specs.Arrays.{Arrays, lent, heldBy, rowsBy}
 use Rattle.lent.proofs.Sums.{ready-fits, ready-drawing, ready-looks, ready-small, ready-no}
 use Rattle.kind_cut_round.proofs.Asking.{closed-no, closed-refused, closed-cuts, closed-obeyed}

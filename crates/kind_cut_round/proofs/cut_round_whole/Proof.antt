@@ -7,14 +7,14 @@ use denote.Ref.{now}
 use Rattle.complex.specs.Cells.{Cycle, Figure}
 use Rattle.complex.specs.Sound.{idsEnd, cyclesMost, stepsMost}
 use Rattle.store.specs.View.{sheetOf}
-use Rattle.cycles.specs.declared.Spans.{Spans}
-use Rattle.cycles.specs.Building.{Built, built}
-use Rattle.outline.specs.Faces.{Spanned, cyclesAt, recycled}
-use Rattle.cutface.specs.Rounds.{stayed}
+use Rattle.rows_spans.specs.declared.Spans.{Spans}
+use Rattle.rows_spans.specs.Building.{Built, built}
+use Rattle.rows_corners.specs.Faces.{Spanned, cyclesAt, recycled}
+use Rattle.law_cut_face.specs.Rounds.{stayed}
 use Rattle.lent.specs.Arrays.{Arrays, lent, heldBy}
 use Rattle.kernel_cycles.specs.Replacing.{andOne, ReplacesIn, ReplacedIn}
 use Rattle.kernel_cycles.proofs.Held.{in-cycles, in-steps}
-use Rattle.kind_cut_face.specs.Cuts.{Cuts}
+use Rattle.kind_cut_face.specs.Cuts.{FaceCuts}
 use Rattle.kind_cut_face.proofs.Cuts.{find-asks, counted, span, replaces, replaced-sheet}
 use Rattle.kind_cut_round.proofs.Cutting.{keptList, bothCells, cuts, lists-ask, kept-is, ring-room, part-room, round-holds}
 use Rattle.kind_cut_round.proofs.Whole.{used, ring-kept, step-built}
@@ -33,7 +33,7 @@ list s = keptList (arrays s) (s .args .t) (s .pre .0) (s .args .script .now) (s 
 abbrev new : (s : tie.Start) → List Figure
 new s = bothCells (arrays s) (s .args .t) (s .pre .0) (s .args .script .now) (s .args .f) (s .args .k) (s .args .first) 0 0 (s .pre .1)
 
-asks : (s : tie.Start) → Cuts (arrays s) (s .args .t) (s .args .f) (list s) (new s)
+asks : (s : tie.Start) → FaceCuts (arrays s) (s .args .t) (s .args .f) (list s) (new s)
 asks s = cuts (arrays s) (s .args .t) (s .pre .0) (s .args .script .now) (s .args .f) (s .args .k) (s .args .first) 0 0 (s .pre .1)
 
 find-requires : tie.Need-find-requires

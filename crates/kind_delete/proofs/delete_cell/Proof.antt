@@ -12,8 +12,8 @@ use Rattle.store.specs.Sizes.{Sizes}
 use Rattle.store.specs.View.{Fits}
 use Rattle.sound.specs.Looks.{Looks}
 use Rattle.sound.proofs.Meaning.{sound-fits, looks}
-use Rattle.query.proofs.Meaning.{readable}
-use Rattle.edits.proofs.Edit.{delete-four, delete-live}
+use Rattle.rows_star.proofs.Meaning.{readable}
+use Rattle.law_move_delete.proofs.Edit.{delete-four, delete-live}
 use Rattle.lent.specs.Arrays.{Arrays, lent, heldBy, rowsBy}
 use Rattle.lent.proofs.Held.{held-sizes, held-indexes}
 use Rattle.lent.proofs.Replies.{rows-of, drawing-of, obeyed-no}
@@ -56,11 +56,13 @@ returns c =
     (no-4 _ (delete i) (early-none (delete i) refl)
     (delete-four (heldBy a) i (sym (delete-live (heldBy a) (size s) (drawing-of a (s .pre .sound)) (rowsBy a) (index s) i (f .find .result) (f .find .ensures)) ∙ le-ltb _ _ (c .before .if1 .taken))))
 
-star-marks-requires : tie.Need-star-marks-requires
-star-marks-requires c κs =
-    let s = c .before .before .before .before .before .before .before .before .before .before .before .before in
+mark-star-requires : tie.Need-mark-star-requires
+mark-star-requires c κs =
+    let e = c .before .before .before .before .before .before .before .before in
+    let f = e .before in
+    let s = f .before .before .before in
     let a = arrays s in
-    (readable (heldBy a) (size s) (fits s) (rowsBy a) (index s) (looked s .rising), refl)
+    (readable (heldBy a) (size s) (fits s) (rowsBy a) (index s) (looked s .rising), (f .find .ensures, (e .if1 .left, refl)))
 
 array-write-dead : tie.Need-array-write-dead
 array-write-dead c =
@@ -72,7 +74,7 @@ keep-rows-requires : tie.Need-keep-rows-requires
 keep-rows-requires c κs =
     let m = c .before .before .before .before .before .before .before .before .before .before .before .before .before in
     let s = m .before .before .before .before .before .before .before .before .before .before .before .before .before in
-    (fits s, (s .pre .long, (rows-of (arrays s) (s .pre .sound), simp length-set (m .star-marks .ensures .1))))
+    (fits s, (s .pre .long, (rows-of (arrays s) (s .pre .sound), simp length-set (m .mark-star .ensures .1))))
 
 sub-removed : tie.Need-sub-removed
 sub-removed c = omega (arith, c .keep-rows .ensures .few)
@@ -86,7 +88,7 @@ returns-2 c =
     let e = m .before .before .before .before .before .before .before .before .before in
     let f = e .before in
     let s = f .before .before .before in
-    obeyed-deleted (arrays s) (s .pre .long) (s .pre .sound) (s .args .id) (f .find .result) (f .find .ensures) (e .if1 .left) _ (m .star-marks .ensures .0)
+    obeyed-deleted (arrays s) (s .pre .long) (s .pre .sound) (s .args .id) (f .find .result) (f .find .ensures) (e .if1 .left) _ (m .mark-star .ensures .0)
     _ (c .keep-rows .ensures) refl _ refl
 
 pub delete-cell-spec : {M : Type 1} → statement M
@@ -96,7 +98,7 @@ delete-cell-spec =
     find-requires
     line-of-requires
     returns
-    star-marks-requires
+    mark-star-requires
     array-write-dead
     keep-rows-requires
     sub-removed

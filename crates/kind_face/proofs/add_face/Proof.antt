@@ -4,8 +4,8 @@ use native.Mathlib.Omega.{arith}
 use lib.Dec.{lit≤}
 use denote.Ref.{now}
 use Rattle.complex.specs.Cells.{face}
-use Rattle.append.specs.Appends.{Room}
-use Rattle.command.specs.Lists.{cyclesRead}
+use Rattle.rows_new.specs.Appends.{CellRoom}
+use Rattle.decode_parts.specs.Lists.{cyclesRead}
 use Rattle.answer.proofs.Asked.{next-in}
 use Rattle.lent.specs.Arrays.{Arrays, lent, heldBy}
 use Rattle.lent.proofs.Sums.{ready-drawing, ready-small}
@@ -67,7 +67,7 @@ returns-2 c =
     (c .before .if2 .taken) _ (c .line-of2 .ensures)
 
 -- where the face has room
-room : (g : tie.Else2) → Room (heldBy (arrays (start (g .before)))) (face (cyclesRead (now (start (g .before) .args .script)) (start (g .before) .args .first) (start (g .before) .args .k)))
+room : (g : tie.Else2) → CellRoom (heldBy (arrays (start (g .before)))) (face (cyclesRead (now (start (g .before) .args .script)) (start (g .before) .args .first) (start (g .before) .args .k)))
 room g =
     let l = g .before in
     let m = l .before .before .before in

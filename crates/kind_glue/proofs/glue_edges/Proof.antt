@@ -13,9 +13,9 @@ use Rattle.complex.specs.Edits.{rewired, sameVertex, inPlaceOf}
 use Rattle.complex.specs.Decode.{glueEdges}
 use Rattle.store.specs.View.{sheetOf}
 use Rattle.answer.specs.declared.Totals.{Totals}
-use Rattle.glue.specs.Questions.{Rows}
-use Rattle.glue.proofs.Glued.{rows-of, look-asks, Glues}
-use Rattle.glue.proofs.Edges.{glue-no, glues-edges, step-small}
+use Rattle.ask_glue.specs.Questions.{NumberRows}
+use Rattle.ask_glue.proofs.Glued.{rows-of, look-asks, Glues}
+use Rattle.ask_glue.proofs.Edges.{glue-no, glues-edges, step-small}
 use Rattle.lent.specs.Arrays.{Arrays, lent, heldBy, rowsBy}
 use Rattle.lent.proofs.Sums.{ready-rows, ready-drawing, ready-sizes, ready-fits, ready-indexes, ready-no}
 use Rattle.kind_glue.proofs.Glue.{row-below, base-room, edge-row, swap-asks, swapped-is, obeyed-glued}
@@ -30,7 +30,7 @@ arrays c =
 abbrev start : tie.After-edges-no → tie.Start
 start v = v .before .before .before .before .before .before .before .before .before .before .before .before
 
-rows : (s : tie.Start) (vs : List ℕ) → length vs ≡ 256 → Rows (arrays s .ids) vs (arrays s .count)
+rows : (s : tie.Start) (vs : List ℕ) → length vs ≡ 256 → NumberRows (arrays s .ids) vs (arrays s .count)
 rows s vs l =
     let a = arrays s in
     let t = s .args .t in

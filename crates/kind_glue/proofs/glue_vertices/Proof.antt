@@ -10,9 +10,9 @@ use Rattle.complex.specs.Lists.{one}
 use Rattle.complex.specs.Edits.{rewired}
 use Rattle.complex.specs.Glue.{renamed}
 use Rattle.complex.specs.Decode.{glueVertices}
-use Rattle.glue.specs.Questions.{Rows}
-use Rattle.glue.proofs.Glued.{rows-of, Glues}
-use Rattle.glue.proofs.Vertices.{glue-no, glues-vertices}
+use Rattle.ask_glue.specs.Questions.{NumberRows}
+use Rattle.ask_glue.proofs.Glued.{rows-of, Glues}
+use Rattle.ask_glue.proofs.Vertices.{glue-no, glues-vertices}
 use Rattle.lent.specs.Arrays.{Arrays, lent, heldBy, rowsBy}
 use Rattle.lent.proofs.Sums.{ready-rows, ready-drawing, ready-sizes, ready-fits, ready-indexes, ready-cycles, ready-no}
 use Rattle.kind_glue.proofs.Glue.{row-below, vertex-row, obeyed-glued}
@@ -27,7 +27,7 @@ arrays c =
 abbrev start : tie.After-vertices-no → tie.Start
 start v = v .before .before .before .before
 
-rows : (s : tie.Start) → Rows (arrays s .ids) (arrays s .kinds) (arrays s .count)
+rows : (s : tie.Start) → NumberRows (arrays s .ids) (arrays s .kinds) (arrays s .count)
 rows s =
     let a = arrays s in
     let t = s .args .t in

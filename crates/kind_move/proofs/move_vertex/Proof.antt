@@ -8,7 +8,7 @@ use Rattle.store.specs.Index.{Indexes}
 use Rattle.sound.specs.Looks.{Looks}
 use Rattle.sound.proofs.Meaning.{sound-fits, looks}
 use Rattle.answer.proofs.Asked.{kind-vertex}
-use Rattle.edits.proofs.Edit.{move-four}
+use Rattle.law_move_delete.proofs.Edit.{move-four}
 use Rattle.lent.specs.Arrays.{Arrays, lent, heldBy, rowsBy}
 use Rattle.lent.proofs.Held.{held-sizes, held-indexes}
 use Rattle.lent.proofs.Replies.{rows-of, drawing-of, obeyed-no}

@@ -3,8 +3,8 @@ use borrow.Author.Needs.{needs}
 use mathlib.Core.Path.{sym, ap, _∙_}
 use denote.Ref.{now}
 use Rattle.store.specs.View.{sheetOf}
-use Rattle.uncut_case.specs.Cases.{edgeSays}
-use Rattle.uncut.proofs.Cases.{asked-case}
+use Rattle.ask_uncut.specs.Cases.{edgeSays}
+use Rattle.ask_uncut.proofs.Cases.{asked-case}
 use Rattle.lent.specs.Arrays.{Arrays, heldBy, lent}
 use Rattle.kind_uncut.proofs.Refused.{obeyed-6}
 use Rattle.kind_uncut.proofs.at_edge.Statement.{statement}

@@ -4,9 +4,9 @@ use mathlib.Core.Path.{sym, ap}
 use lib.Dec.{eqb}
 use Rattle.store.specs.View.{sheetOf}
 use Rattle.answer.specs.declared.Totals.{Totals}
-use Rattle.uncut_case.proofs.Meaning.{faces-are}
-use Rattle.uncut.proofs.Finding.{vertex-asks, vertex-found, edge-found, closed-is, is-vertex, is-edge, is-neither}
-use Rattle.uncut.proofs.Cases.{dead-told}
+use Rattle.ask_uncut_uses.proofs.Meaning.{faces-are}
+use Rattle.ask_uncut.proofs.Finding.{vertex-asks, vertex-found, edge-found, closed-is, is-vertex, is-edge, is-neither}
+use Rattle.ask_uncut.proofs.Cases.{dead-told}
 use Rattle.lent.specs.Arrays.{Arrays, heldBy, rowsBy, lent}
 use Rattle.lent.proofs.Sums.{ready-sizes, ready-fits, ready-drawing, ready-indexes, ready-looks}
 use Rattle.kind_uncut.proofs.case_in.Statement.{statement}

@@ -2,7 +2,7 @@
 use borrow.Author.Needs.{needs}
 use mathlib.Core.Path.{sym, ap, _∙_}
 use denote.Ref.{now}
-use Rattle.uncut.specs.Decided.{caseSays}
+use Rattle.ask_uncut.specs.Decided.{caseSays}
 use Rattle.lent.specs.Arrays.{Arrays, lent}
 use Rattle.kind_uncut.proofs.Refused.{obeyed-4}
 use Rattle.kind_uncut.proofs.uncut.Statement.{statement}

@@ -1,15 +1,14 @@
--- `one_cycle` meets its contract: questions 7 and 8, then the list of cycles, and the edge goes. Assumes nothing.
+-- `one_cycle` meets its contract: questions 7 and 8, and then the edge goes, by a list in small arrays or in large ones. Assumes nothing.
 use borrow.Author.Needs.{needs}
 use lib.Dec.{lit≤}
 use mathlib.Core.Path.{refl}
 use denote.Ref.{now}
 use Rattle.complex.specs.Uncut.{oneCycle}
 use Rattle.answer.proofs.Asked.{next-in}
-use Rattle.uncut_case.specs.Found.{useAt}
-use Rattle.uncut_edge.proofs.Results.{parted-going, parted-result}
-use Rattle.lent.specs.Arrays.{Arrays, heldBy, rowsBy, lent}
-use Rattle.lent.proofs.Sums.{ready-sizes, ready-fits, ready-rows, ready-drawing, ready-small}
-use Rattle.kind_uncut_edge.proofs.Leads.{Leads, one-no, one-leads, after}
+use Rattle.ask_uncut_uses.specs.Uses.{useAt}
+use Rattle.lent.specs.Arrays.{Arrays, heldBy, lent}
+use Rattle.lent.proofs.Sums.{ready-fits, ready-drawing, ready-small}
+use Rattle.kind_uncut_edge.proofs.Leads.{Leads, small, large, one-no, one-leads}
 use Rattle.kind_uncut_edge.proofs.one_cycle.Statement.{statement}
 use Rattle.kind_uncut_edge.proofs.one_cycle.Tie as tie
 
@@ -19,17 +18,11 @@ arrays c =
     lent (now (a .next)) (now (a .count)) (a .ids) (a .kinds) (a .starts) (a .ends) (a .bends) (a .counts)
     (a .px) (a .py) (a .cycles) (a .steps) (a .bx) (a .by)
 
--- from a yes to the start, from the list to the yes, and from the result to the list
+-- from a yes to the start
 abbrev start : tie.Else1 → tie.Start
 start i = i .before .before .before .before
 
-abbrev yes : tie.After-parted → tie.Else1
-yes j = j .before .before .before .before .before .before .before .before .before .before .before .before .before .before .before
-
-abbrev list : tie.After-without-cells → tie.After-parted
-list k = k .before .before .before .before .before .before .before .before .before .before .before .before .before .before .before
-
-leads : (i : tie.Else1) → let s = start i in Leads (arrays s) (s .args .e) (oneCycle (useAt (s .args .e) (s .args .u)) (useAt (s .args .e) (s .args .w)))
+leads : (i : tie.Else1) → let s = start i in Leads (arrays s) (s .args .t) (s .args .e) (oneCycle (useAt (s .args .e) (s .args .u)) (useAt (s .args .e) (s .args .w)))
 leads i =
     let l = i .before in
     let s = start i in
@@ -61,43 +54,60 @@ returns c =
     one-no (arrays s) (s .args .t) (s .pre .0) (s .args .e) (s .args .u) (s .args .w) (s .pre .1)
     (l .late-no .result) (l .late-no .ensures) (c .before .if1 .taken) _ (c .line-of .ensures)
 
-parted-requires : tie.Need-parted-requires
-parted-requires c κs =
-    let i = c .before .before .before .before .before .before .before .before .before .before .before .before .before .before in
-    (start i .pre .0, leads i .is)
+few-requires : tie.Need-few-requires
+few-requires c κs = search needs
 
-without-cells-requires : tie.Need-without-cells-requires
-without-cells-requires c κs =
-    let j = c .before .before .before .before .before .before .before .before .before .before .before .before .before .before in
-    let i = yes j in
-    let s = start i in
-    let a = arrays s in (
-      parted-going (heldBy a) (ready-sizes a (s .args .t) (s .pre .0)) (rowsBy a) (s .args .e) (s .args .u) (s .args .w) (leads i .is) (j .parted .ensures),
-      (s .pre .0 .long, ready-rows a (s .args .t) (s .pre .0)),
-    )
+-- ---- few cycles and steps
+slice-aggregate-part-cycle : tie.Need-slice-aggregate-part-cycle
+slice-aggregate-part-cycle c = search needs
+
+slice-aggregate-part-cycle-2 : tie.Need-slice-aggregate-part-cycle-2
+slice-aggregate-part-cycle-2 c = search needs
+
+part-cycle-requires : tie.Need-part-cycle-requires
+part-cycle-requires c κs =
+    let h = c .before .before .before .before .before .before .before .before .before .before .before .before .before .before in
+    let f = h .before in
+    let i = f .before in
+    (start i .pre .0, (leads i .is, small (leads i) (f .few .ensures (h .if2 .taken))))
 
 gone-requires : tie.Need-gone-requires
 gone-requires c κs =
-    let j = list c in
-    let i = yes j in
+    let j = c .before .before in
+    let i = j .before .before .before .before .before .before .before .before .before .before .before .before .before .before .before .before .before in
     let s = start i in
-    let a = arrays s in
-    let e =
-    parted-result (heldBy a) (ready-sizes a (s .args .t) (s .pre .0)) (rowsBy a) (s .args .e) (s .args .u) (s .args .w)
-    (leads i .is) (j .parted .ensures) _ refl in
-    (leads i .fewer _ refl (after e (c .without-cells .ensures)), ready-fits (arrays s) (s .args .t) (s .pre .0) .cells)
+    (leads i .fewer _ refl (j .part-cycle .ensures), ready-fits (arrays s) (s .args .t) (s .pre .0) .cells)
 
 returns-2 : tie.Need-returns-2
 returns-2 c =
-    let k = c .before in
-    let j = list k in
-    let i = yes j in
+    let j = c .before .before .before in
+    let i = j .before .before .before .before .before .before .before .before .before .before .before .before .before .before .before .before .before in
+    leads i .obeyed _ refl (j .part-cycle .ensures) _ (c .gone .ensures)
+
+-- ---- and more of them
+slice-aggregate-part-cycle-3 : tie.Need-slice-aggregate-part-cycle-3
+slice-aggregate-part-cycle-3 c = search needs
+
+slice-aggregate-part-cycle-4 : tie.Need-slice-aggregate-part-cycle-4
+slice-aggregate-part-cycle-4 c = search needs
+
+part-cycle-requires-2 : tie.Need-part-cycle-requires-2
+part-cycle-requires-2 c κs =
+    let i = c .before .before .before .before .before .before .before .before .before .before .before .before .before .before .before .before in
+    (start i .pre .0, (leads i .is, large (leads i)))
+
+gone-requires-2 : tie.Need-gone-requires-2
+gone-requires-2 c κs =
+    let j = c .before .before in
+    let i = j .before .before .before .before .before .before .before .before .before .before .before .before .before .before .before .before .before in
     let s = start i in
-    let a = arrays s in
-    let e =
-    parted-result (heldBy a) (ready-sizes a (s .args .t) (s .pre .0)) (rowsBy a) (s .args .e) (s .args .u) (s .args .w)
-    (leads i .is) (j .parted .ensures) _ refl in
-    leads i .obeyed _ refl (after e (k .without-cells .ensures)) _ (c .gone .ensures)
+    (leads i .fewer _ refl (j .part-cycle2 .ensures), ready-fits (arrays s) (s .args .t) (s .pre .0) .cells)
+
+returns-3 : tie.Need-returns-3
+returns-3 c =
+    let j = c .before .before .before in
+    let i = j .before .before .before .before .before .before .before .before .before .before .before .before .before .before .before .before .before in
+    leads i .obeyed _ refl (j .part-cycle2 .ensures) _ (c .gone2 .ensures)
 
 pub one-cycle-spec : {M : Type 1} → statement M
 one-cycle-spec =
@@ -106,7 +116,14 @@ one-cycle-spec =
     late-no-requires
     line-of-requires
     returns
-    parted-requires
-    without-cells-requires
+    few-requires
+    slice-aggregate-part-cycle
+    slice-aggregate-part-cycle-2
+    part-cycle-requires
     gone-requires
-    returns-2)
+    returns-2
+    slice-aggregate-part-cycle-3
+    slice-aggregate-part-cycle-4
+    part-cycle-requires-2
+    gone-requires-2
+    returns-3)

@@ -4,7 +4,7 @@ use mathlib.Core.Path.{_≡_}
 use lib.ListN.{length, take}
 use Rattle.store.specs.Index.{Rising}
 use Rattle.sound.proofs.Meaning.{sound-fits, looks}
-use Rattle.uncut_edge.proofs.Finding.{going}
+use Rattle.law_uncut_edge.proofs.Finding.{going}
 use Rattle.lent.specs.Arrays.{Arrays, heldBy, rowsBy, lent}
 use Rattle.lent.proofs.Held.{held-sizes}
 use Rattle.kind_uncut_edge.proofs.without_cells.Statement.{statement}
@@ -23,16 +23,16 @@ find-asks s =
     (sound-fits (heldBy a) (g .sound) .cells, (l .ids, looks (heldBy a) (held-sizes a l) (rowsBy a) (g .index) (g .sound) .rising))
 
 find-requires : tie.Need-find-requires
-find-requires c κs = find-asks (c .before)
+find-requires c κs = find-asks (c .before .before .before)
 
 find-requires-2 : tie.Need-find-requires-2
-find-requires-2 c κs = find-asks (c .before .before .before)
+find-requires-2 c κs = find-asks (c .before .before .before .before .before)
 
 reface-requires : tie.Need-reface-requires
 reface-requires c κs =
     let y = c .before .before .before .before .before .before .before .before .before .before .before .before in
     let x = y .before .before in
-    let s = x .before .before in
+    let s = x .before .before .before .before in
     let a = s .args in (
       going (heldBy (arrays s)) (held-sizes (arrays s) (s .pre .1 .0)) (rowsBy (arrays s)) (a .i) (a .j) (a .f)
           (a .numbers .now) (a .u) (a .places .now) (s .pre .0)

@@ -40,7 +40,9 @@ returns : tie.Need-returns
 returns c =
     let a = (c .before .before .before .before .before .before) .args in
     let u = a .t - a .m2 in
-    c .turn-run2 .ensures ∙ ap (turnedIf (a .b2) (u + 1) (a .t + 1)) ((c .before .before) .turn-run .ensures ∙ ap (turnedIf (a .b1) (u - a .m1) u) ((c .before .before .before .before) .rotate .ensures))
+    c .turn-run2 .ensures
+    ∙ ap (turnedIf (a .b2) (u + 1) (a .t + 1))
+    ((c .before .before) .turn-run .ensures ∙ ap (turnedIf (a .b1) (u - a .m1) u) ((c .before .before .before .before) .rotate .ensures))
 
 pub join-runs-spec : {M : Type 1} → statement M
 join-runs-spec =

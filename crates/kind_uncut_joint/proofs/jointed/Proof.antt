@@ -9,11 +9,12 @@ use Rattle.kind_uncut_joint.proofs.jointed.Tie as tie
 abbrev arrays : (c : tie.Start) → Arrays
 arrays c =
     let a = c .args in
-    lent (now (a .next)) (now (a .count)) (a .ids) (a .kinds) (a .starts) (a .ends) (a .bends) (a .counts) (a .px) (a .py) (a .cycles) (a .steps) (a .bx) (a .by)
+    lent (now (a .next)) (now (a .count)) (a .ids) (a .kinds) (a .starts) (a .ends) (a .bends) (a .counts) (a .px) (a .py) (a .cycles) (a .steps) (a .bx)
+    (a .by)
 
 -- where each call stands before a later one
-abbrev start : tie.After-joint-no → tie.Start
-start j = j .before .before .before .before .before
+abbrev start : tie.After-bend-no → tie.Start
+start j = j .before .before .before
 
 abbrev yes : tie.After-find → tie.Else1
 yes f = f .before .before
@@ -30,8 +31,10 @@ first y = y .before .before .before .before .before
 abbrev ordered : tie.After-merge-steps → tie.After-order-of
 ordered m = m .before .before .before .before .before .before .before .before .before .before .before .before .before
 
-joint-no-requires : tie.Need-joint-no-requires
-joint-no-requires c κs = let s = (c .before .before .before .before) in counts (arrays s) (s .args .t) (s .pre .0) (s .args .v) (s .args .x) (s .args .back1) (s .args .y) (s .args .back2) (s .pre .1)
+bend-no-requires : tie.Need-bend-no-requires
+bend-no-requires c κs =
+    let s = c .before .before in
+    counts (arrays s) (s .args .t) (s .pre .0) (s .args .v) (s .args .x) (s .args .back1) (s .args .y) (s .args .back2) (s .pre .1)
 
 line-of-requires : tie.Need-line-of-requires
 line-of-requires c κs = search needs
@@ -39,49 +42,82 @@ line-of-requires c κs = search needs
 returns : tie.Need-returns
 returns c =
     let j = (c .before .before) in let s = start j in
-    refuses (arrays s) (s .args .t) (s .pre .0) (s .args .v) (s .args .x) (s .args .back1) (s .args .y) (s .args .back2) (s .pre .1) (j .joint-no .result) (j .joint-no .ensures) ((c .before) .if1 .taken) _ (c .line-of .ensures)
+    refuses (arrays s) (s .args .t) (s .pre .0) (s .args .v) (s .args .x) (s .args .back1) (s .args .y) (s .args .back2) (s .pre .1) (j .bend-no .result)
+    (j .bend-no .ensures) ((c .before) .if1 .taken) _ (c .line-of .ensures)
 
 find-requires : tie.Need-find-requires
-find-requires c κs = let s = (c .before .before .before .before .before .before .before) in finds (arrays s) (s .args .t) (s .pre .0) (s .args .v) (s .args .x) (s .args .back1) (s .args .y) (s .args .back2) (s .pre .1)
+find-requires c κs =
+    let s = c .before .before .before .before .before in
+    finds (arrays s) (s .args .t) (s .pre .0) (s .args .v) (s .args .x) (s .args .back1) (s .args .y) (s .args .back2) (s .pre .1)
 
 vertex-at-requires : tie.Need-vertex-at-requires
 vertex-at-requires c κs =
     let f = (c .before .before) in let e = yes f in let j = e .before in let s = start j in
-    vertex-row (arrays s) (s .args .t) (s .pre .0) (s .args .v) (s .args .x) (s .args .back1) (s .args .y) (s .args .back2) (s .pre .1) (j .joint-no .result) (j .joint-no .ensures) (e .if1 .left)
+    vertex-row (arrays s) (s .args .t) (s .pre .0) (s .args .v) (s .args .x) (s .args .back1) (s .args .y) (s .args .back2) (s .pre .1) (j .bend-no .result)
+    (j .bend-no .ensures) (e .if1 .left)
     (f .find .result) (f .find .ensures)
 
 side-at-requires : tie.Need-side-at-requires
 side-at-requires c κs =
     let e = (c .before .before .before .before .before .before .before .before .before) in let j = e .before in let s = start j in
-    first-asks (arrays s) (s .args .t) (s .pre .0) (s .args .v) (s .args .x) (s .args .back1) (s .args .y) (s .args .back2) (s .pre .1) (j .joint-no .result) (j .joint-no .ensures) (e .if1 .left)
+    first-asks (arrays s) (s .args .t) (s .pre .0) (s .args .v) (s .args .x) (s .args .back1) (s .args .y) (s .args .back2) (s .pre .1) (j .bend-no .result)
+    (j .bend-no .ensures) (e .if1 .left)
 
 side-at-requires-2 : tie.Need-side-at-requires-2
 side-at-requires-2 c κs =
-    let e = (c .before .before .before .before .before .before .before .before .before .before .before .before .before .before) in let j = e .before in let s = start j in
-    second-asks (arrays s) (s .args .t) (s .pre .0) (s .args .v) (s .args .x) (s .args .back1) (s .args .y) (s .args .back2) (s .pre .1) (j .joint-no .result) (j .joint-no .ensures) (e .if1 .left)
+    let e = (c .before .before .before .before .before .before .before .before .before .before .before .before .before .before) in
+    let j = e .before in
+    let s = start j in
+    second-asks (arrays s) (s .args .t) (s .pre .0) (s .args .v) (s .args .x) (s .args .back1) (s .args .y) (s .args .back2) (s .pre .1)
+    (j .bend-no .result) (j .bend-no .ensures) (e .if1 .left)
 
 order-of-requires : tie.Need-order-of-requires
 order-of-requires c κs = search needs
 
 merge-steps-requires : tie.Need-merge-steps-requires
 merge-steps-requires c κs =
-    let y = (c .before .before .before .before .before .before .before .before .before .before .before .before .before) in let x = first y in let p = placed x in let f = found p in let e = yes f in let j = e .before in let s = start j in
-    merges (arrays s) (s .args .t) (s .pre .0) (s .args .v) (s .args .x) (s .args .back1) (s .args .y) (s .args .back2) (s .pre .1) (j .joint-no .result) (j .joint-no .ensures) (e .if1 .left)
+    let y = (c .before .before .before .before .before .before .before .before .before .before .before .before .before) in
+    let x = first y in
+    let p = placed x in
+    let f = found p in
+    let e = yes f in
+    let j = e .before in
+    let s = start j in
+    merges (arrays s) (s .args .t) (s .pre .0) (s .args .v) (s .args .x) (s .args .back1) (s .args .y) (s .args .back2) (s .pre .1) (j .bend-no .result)
+    (j .bend-no .ensures) (e .if1 .left)
     (f .find .result) (f .find .ensures) (p .vertex-at .result) (p .vertex-at .ensures)
     (x .side-at .result) (y .side-at2 .result) (x .side-at .ensures) (y .side-at2 .ensures)
 
 join-requires : tie.Need-join-requires
 join-requires c κs =
-    let m = (c .before .before .before .before .before .before .before .before .before .before .before .before .before .before) in let o = ordered m in let y = o .before in let x = first y in let p = placed x in let f = found p in let e = yes f in let j = e .before in let s = start j in
-    joins (arrays s) (s .args .t) (s .pre .0) (s .args .v) (s .args .x) (s .args .back1) (s .args .y) (s .args .back2) (s .pre .1) (j .joint-no .result) (j .joint-no .ensures) (e .if1 .left)
+    let m = (c .before .before .before .before .before .before .before .before .before .before .before .before .before .before) in
+    let o = ordered m in
+    let y = o .before in
+    let x = first y in
+    let p = placed x in
+    let f = found p in
+    let e = yes f in
+    let j = e .before in
+    let s = start j in
+    joins (arrays s) (s .args .t) (s .pre .0) (s .args .v) (s .args .x) (s .args .back1) (s .args .y) (s .args .back2) (s .pre .1) (j .bend-no .result)
+    (j .bend-no .ensures) (e .if1 .left)
     (f .find .result) (f .find .ensures) (p .vertex-at .result) (p .vertex-at .ensures)
     (x .side-at .result) (y .side-at2 .result) (x .side-at .ensures) (y .side-at2 .ensures)
     _ _ (m .merge-steps .ensures) (o .order-of .result) (o .order-of .ensures)
 
 returns-2 : tie.Need-returns-2
 returns-2 c =
-    let m = (c .before .before .before .before .before .before .before .before .before .before .before .before .before .before .before) in let o = ordered m in let y = o .before in let x = first y in let p = placed x in let f = found p in let e = yes f in let j = e .before in let s = start j in
-    obeyed (arrays s) (s .args .t) (s .pre .0) (s .args .v) (s .args .x) (s .args .back1) (s .args .y) (s .args .back2) (s .pre .1) (j .joint-no .result) (j .joint-no .ensures) (e .if1 .left)
+    let m = (c .before .before .before .before .before .before .before .before .before .before .before .before .before .before .before) in
+    let o = ordered m in
+    let y = o .before in
+    let x = first y in
+    let p = placed x in
+    let f = found p in
+    let e = yes f in
+    let j = e .before in
+    let s = start j in
+    obeyed (arrays s) (s .args .t) (s .pre .0) (s .args .v) (s .args .x) (s .args .back1) (s .args .y) (s .args .back2) (s .pre .1) (j .bend-no .result)
+    (j .bend-no .ensures) (e .if1 .left)
     (f .find .result) (f .find .ensures) (p .vertex-at .result) (p .vertex-at .ensures)
     (x .side-at .result) (y .side-at2 .result) (x .side-at .ensures) (y .side-at2 .ensures)
     _ _ (m .merge-steps .ensures) (o .order-of .result) (o .order-of .ensures) _ _ (c .join .ensures)
@@ -90,7 +126,7 @@ pub jointed-spec : {M : Type 1} → statement M
 jointed-spec =
     tie.close
     (tie.spec
-    joint-no-requires
+    bend-no-requires
     line-of-requires
     returns
     find-requires

@@ -15,7 +15,10 @@ one-for-requires : tie.Need-one-for-requires
 one-for-requires c κs = search needs
 
 swap-steps-requires : tie.Need-swap-steps-requires
-swap-steps-requires c κs = let s = (c .before .before .before) in let w = (c .before .before) .one-for in first-asks (arrays s) (s .args .k) (s .args .m) (s .args .x) (s .args .y) (s .pre) (w .result) (w .ensures)
+swap-steps-requires c κs =
+    let s = (c .before .before .before) in
+    let w = (c .before .before) .one-for in
+    first-asks (arrays s) (s .args .k) (s .args .m) (s .args .x) (s .args .y) (s .pre) (w .result) (w .ensures)
 
 none-for-requires : tie.Need-none-for-requires
 none-for-requires c κs = search needs
@@ -25,14 +28,16 @@ swap-steps-requires-2 c κs =
     let s = (c .before .before .before .before .before .before .before) in
     let w = (c .before .before .before .before .before .before) .one-for in
     let u = (c .before .before) .none-for in
-    second-asks (arrays s) (s .args .k) (s .args .m) (s .args .x) (s .args .y) (s .pre) (w .result) (w .ensures) _ ((c .before .before .before) .swap-steps .ensures) refl (u .result) (u .ensures)
+    second-asks (arrays s) (s .args .k) (s .args .m) (s .args .x) (s .args .y) (s .pre) (w .result) (w .ensures) _
+    ((c .before .before .before) .swap-steps .ensures) refl (u .result) (u .ensures)
 
 returns : tie.Need-returns
 returns c =
     let s = (c .before .before .before .before .before .before .before .before) in
     let w = (c .before .before .before .before .before .before .before) .one-for in
     let u = (c .before .before .before) .none-for in
-    merged-in (arrays s) (s .args .k) (s .args .m) (s .args .x) (s .args .y) (s .pre) (w .result) (w .ensures) _ ((c .before .before .before .before) .swap-steps .ensures) refl (u .result) (u .ensures) _ (c .swap-steps2 .ensures)
+    merged-in (arrays s) (s .args .k) (s .args .m) (s .args .x) (s .args .y) (s .pre) (w .result) (w .ensures) _
+    ((c .before .before .before .before) .swap-steps .ensures) refl (u .result) (u .ensures) _ (c .swap-steps2 .ensures)
 
 pub merge-steps-spec : {M : Type 1} → statement M
 merge-steps-spec =

@@ -11,7 +11,9 @@ reverse-requires : tie.Need-reverse-requires
 reverse-requires c κs = search needs
 
 returns : tie.Need-returns
-returns c = let a = (c .before .before .before) .args in c .reverse .ensures ∙ sym (ap (λ (b : Bool). turnedIf b (a .from) (a .to) (now (a .l))) ((c .before .before) .if1 .taken))
+returns c =
+    let a = (c .before .before .before) .args in
+    c .reverse .ensures ∙ sym (ap (λ (b : Bool). turnedIf b (a .from) (a .to) (now (a .l))) ((c .before .before) .if1 .taken))
 
 returns-2 : tie.Need-returns-2
 returns-2 c = search needs

@@ -1,4 +1,5 @@
 -- `lonely` meets its contract: the lone cycle is found, and its face gets the others as the vertex goes. Assumes nothing.
+use borrow.Author.Needs.{needs}
 use native.Mathlib.Omega.{arith}
 use Prim.Native.Nat.{ℕ, _≤_}
 use mathlib.Core.Path.{refl}
@@ -21,7 +22,7 @@ abbrev found : tie.After-reface → tie.After-find
 found c = c .before .before .before .before .before .before .before .before .before .before .before .before .before .before .before
 
 abbrev start : tie.After-find → tie.Start
-start r = r .before .before .before .before .before .before .before .before .before .before .before .before .before .before .before .before .before .before
+start r = r .before .before .before .before .before .before .before .before .before .before .before .before .before .before .before .before .before .before .before .before
 
 lone-place-requires : tie.Need-lone-place-requires
 lone-place-requires c κs = let s = c .before .before .before .before in place-asks (arrays s) (s .args .t) (s .pre .0) (s .args .v) (s .pre .1)
@@ -54,6 +55,12 @@ spans-at-requires c κs =
     counted (arrays s) (s .args .t) (s .pre .0) (s .args .v) (s .pre .1) (j .lone-place .result) (j .lone-place .ensures)
     (h .row-holding .result) (h .row-holding .ensures)
 
+slice-aggregate-all-but : tie.Need-slice-aggregate-all-but
+slice-aggregate-all-but c = search needs
+
+slice-aggregate-all-but-2 : tie.Need-slice-aggregate-all-but-2
+slice-aggregate-all-but-2 c = search needs
+
 all-but-requires : tie.Need-all-but-requires
 all-but-requires c κs =
     let p = c .before .before .before .before in
@@ -68,13 +75,19 @@ all-but-requires c κs =
 
 find-requires : tie.Need-find-requires
 find-requires c κs =
-    let s = c .before .before .before .before .before .before .before .before .before .before .before .before .before .before .before .before .before in
+    let s = c .before .before .before .before .before .before .before .before .before .before .before .before .before .before .before .before .before .before .before in
     find-asks (arrays s) (s .args .t) (s .pre .0) (s .args .v) (s .pre .1)
+
+slice-aggregate-reface : tie.Need-slice-aggregate-reface
+slice-aggregate-reface c = search needs
+
+slice-aggregate-reface-2 : tie.Need-slice-aggregate-reface-2
+slice-aggregate-reface-2 c = search needs
 
 reface-requires : tie.Need-reface-requires
 reface-requires c κs =
     let r = c .before .before .before .before .before .before .before .before .before .before .before .before .before .before in
-    let u = r .before .before in
+    let u = r .before .before .before .before in
     let p = u .before .before .before .before .before in
     let h = p .before .before .before .before in
     let j = h .before .before in
@@ -88,7 +101,7 @@ reface-requires c κs =
 less : (c : tie.After-reface) → c .reface .result ≤ now (start (found c) .args .count)
 less c =
     let r = found c in
-    let u = r .before .before in
+    let u = r .before .before .before .before in
     let p = u .before .before .before .before .before in
     let h = p .before .before .before .before in
     let j = h .before .before in
@@ -107,7 +120,7 @@ cast-removed c = let s = start (found c) in omega (arith, ready-fits (arrays s) 
 returns : tie.Need-returns
 returns c =
     let r = found c in
-    let u = r .before .before in
+    let u = r .before .before .before .before in
     let p = u .before .before .before .before .before in
     let h = p .before .before .before .before in
     let j = h .before .before in
@@ -126,8 +139,12 @@ lonely-spec =
     mul-f
     element-copy-out-f
     spans-at-requires
+    slice-aggregate-all-but
+    slice-aggregate-all-but-2
     all-but-requires
     find-requires
+    slice-aggregate-reface
+    slice-aggregate-reface-2
     reface-requires
     sub-removed
     cast-removed

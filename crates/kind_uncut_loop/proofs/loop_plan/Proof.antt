@@ -2,11 +2,9 @@
 use borrow.Author.Needs.{needs}
 use native.Mathlib.Omega.{arith}
 use Prim.Native.Nat.{_<_}
-use mathlib.Core.Path.{refl, _≡_}
+use mathlib.Core.Path.{refl}
 use lib.Dec.{lit≤}
-use lib.ListN.{take}
-use Rattle.store.specs.Index.{rowOf}
-use Rattle.cut.proofs.Found.{find-asks, row-below, base-asks}
+use Rattle.ask_cut_edge.proofs.Found.{find-asks, row-below, base-asks}
 use Rattle.answer.proofs.Asked.{next-in}
 use Rattle.lent.specs.Arrays.{Arrays, lent, heldBy, rowsBy}
 use Rattle.lent.proofs.Sums.{ready-drawing, ready-sizes, ready-indexes, ready-small}
@@ -31,7 +29,7 @@ edge-below f =
 bend-no-requires : tie.Need-bend-no-requires
 bend-no-requires c κs =
     let t = c .args .t in
-    (next-in (heldBy (arrays c)) (ready-drawing (arrays c) t (c .pre .0)), (ready-small (arrays c) t (c .pre .0), (lit≤ tt, lit≤ tt)))
+    (next-in (heldBy (arrays c)) (ready-drawing (arrays c) t (c .pre .0)), (ready-small (arrays c) t (c .pre .0), lit≤ tt))
 
 returns : tie.Need-returns
 returns c =

@@ -9,7 +9,7 @@ use Rattle.answer.proofs.Asked.{next-in}
 use Rattle.lent.specs.Arrays.{Arrays, lent, heldBy}
 use Rattle.lent.proofs.Sums.{ready-rows, ready-drawing, ready-fits, ready-cycles, ready-steps, ready-no}
 use Rattle.kernel_swap.proofs.Asking.{one-asks}
-use Rattle.kind_uncut_loop.specs.Uncutting.{Goes}
+use Rattle.kind_uncut_loop.specs.Uncutting.{LoopGoes}
 use Rattle.kind_uncut_loop.proofs.Uncutting.{bends-in, mid-edge, mid-bare, row-in, obeyed-loop}
 use Rattle.kind_uncut_loop.proofs.looped.Statement.{statement}
 use Rattle.kind_uncut_loop.proofs.looped.Tie as tie
@@ -26,7 +26,7 @@ start p = p .before .before .before .before .before .before .before .before .bef
 abbrev begin : tie.Else1 → tie.Start
 begin e = start (e .before)
 
-abbrev goes : (e : tie.Else1) → Goes (arrays (begin e)) (begin e .args .t) (begin e .args .v) (begin e .args .e) (e .before .loop-plan .result)
+abbrev goes : (e : tie.Else1) → LoopGoes (arrays (begin e)) (begin e .args .t) (begin e .args .v) (begin e .args .e) (e .before .loop-plan .result)
 goes e = e .before .loop-plan .ensures .goes (e .if1 .left)
 
 -- the records after the steps, after the rows, and at the end

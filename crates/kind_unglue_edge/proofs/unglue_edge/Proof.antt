@@ -8,7 +8,7 @@ use Rattle.store.specs.Index.{Indexes}
 use Rattle.store.specs.Sizes.{Sizes}
 use Rattle.sound.specs.Soundness.{soundDrawing}
 use Rattle.answer.proofs.Asked.{sound-in, next-in}
-use Rattle.unglue.proofs.Copies.{ids-rising, count-asks, sizes-small}
+use Rattle.ask_unglue.proofs.Copies.{ids-rising, count-asks, sizes-small}
 use Rattle.lent.specs.Arrays.{Arrays, lent, heldBy, rowsBy}
 use Rattle.lent.proofs.Held.{held-sizes, held-indexes}
 use Rattle.lent.proofs.Replies.{rows-of, drawing-of}

@@ -2,7 +2,7 @@
 use borrow.Author.Needs.{needs}
 use native.Mathlib.Omega.{arith}
 use mathlib.Core.Path.{_∙_}
-use Rattle.unglue.proofs.Found.{fresh-marks, links-ready, groups-found}
+use Rattle.ask_unglue.proofs.Found.{fresh-marks, links-ready, groups-found}
 use Rattle.lent.specs.Arrays.{Arrays, lent, heldBy, rowsBy}
 use Rattle.lent.proofs.Sums.{ready-fits, ready-cycles, ready-drawing, ready-sizes, ready-indexes}
 use Rattle.kind_unglue_vertex.proofs.Linked.{linked-rows, linked-cycles, linked-steps, few-steps, few-places}

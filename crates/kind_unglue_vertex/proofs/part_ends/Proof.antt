@@ -5,7 +5,7 @@ use mathlib.Core.Path.{refl}
 use lib.Dec.{lit≤}
 use Rattle.sound.proofs.Meaning.{sound-fits}
 use Rattle.answer.proofs.Asked.{next-in}
-use Rattle.unglue.proofs.Ends.{end-rows}
+use Rattle.rows_ends.proofs.Ends.{end-rows}
 use Rattle.lent.specs.Arrays.{Arrays, lent, heldBy}
 use Rattle.lent.proofs.Replies.{drawing-of}
 use Rattle.kind_unglue_vertex.proofs.Ended.{mid-long, mid-held, mid-rising, mid-cycles, ends-parted}

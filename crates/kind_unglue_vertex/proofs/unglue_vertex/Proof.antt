@@ -8,8 +8,8 @@ use lib.Dec.{lit≤}
 use lib.ListN.{length-replicate}
 use denote.Ref.{now}
 use Rattle.answer.proofs.Asked.{next-in}
-use Rattle.unglue.proofs.Copies.{ids-rising, count-asks, sizes-small}
-use Rattle.unglue.proofs.Found.{fresh}
+use Rattle.ask_unglue.proofs.Copies.{ids-rising, count-asks, sizes-small}
+use Rattle.ask_unglue.proofs.Found.{fresh}
 use Rattle.lent.specs.Arrays.{Arrays, lent, heldBy, rowsBy}
 use Rattle.lent.proofs.Held.{held-sizes, held-indexes}
 use Rattle.lent.proofs.Replies.{rows-of, drawing-of}

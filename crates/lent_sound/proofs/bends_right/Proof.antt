@@ -1,6 +1,6 @@
 -- `lent_sound::bends_right` meets its contract. The loop keeps: whether those so far are right, and that the rest decides. Assumes nothing.
 use borrow.Author.Needs.{needs}
-use Prim.Native.Nat.{_≤_, _-_}
+use Prim.Native.Nat.{_-_}
 use native.Mathlib.Omega.{arith}
 use Rattle.lent_sound.specs.Walk.{bendRight}
 use Rattle.lent_sound.proofs.Testing.{Ranging, ranging-start, ranging-turn, ranging-end}
@@ -8,31 +8,25 @@ use Rattle.lent_sound.proofs.bends_right.Statement.{statement}
 use Rattle.lent_sound.proofs.bends_right.Tie as tie
 
 abbrev Inv-loop : tie.InvT-loop
-Inv-loop bx by from m good₀ i₀ good i = (i ≤ m) × Ranging (bendRight bx by) from m good i
+Inv-loop bx by from to good₀ i₀ good i = Ranging (bendRight bx by) from to good i
 
 abbrev μ-loop : tie.MeasureT-loop
-μ-loop bx by from m good₀ i₀ good i = m - i
+μ-loop bx by from to good₀ i₀ good i = to - i
 
 loop-holds : tie.Need-loop-holds Inv-loop μ-loop
-loop-holds c = (omega arith, ranging-start _ _ _)
+loop-holds c = ranging-start _ _ _
 
-add-t9 : tie.Need-add-t9 Inv-loop μ-loop
-add-t9 c = search needs
+mul-t9 : tie.Need-mul-t9 Inv-loop μ-loop
+mul-t9 c = search needs
 
-mul-t10 : tie.Need-mul-t10 Inv-loop μ-loop
-mul-t10 c = search needs
+element-copy-out-t12 : tie.Need-element-copy-out-t12 Inv-loop μ-loop
+element-copy-out-t12 c = search needs
 
-element-copy-out-t13 : tie.Need-element-copy-out-t13 Inv-loop μ-loop
-element-copy-out-t13 c = search needs
+mul-t13 : tie.Need-mul-t13 Inv-loop μ-loop
+mul-t13 c = search needs
 
-add-t14 : tie.Need-add-t14 Inv-loop μ-loop
-add-t14 c = search needs
-
-mul-t15 : tie.Need-mul-t15 Inv-loop μ-loop
-mul-t15 c = search needs
-
-element-copy-out-t18 : tie.Need-element-copy-out-t18 Inv-loop μ-loop
-element-copy-out-t18 c = search needs
+element-copy-out-t16 : tie.Need-element-copy-out-t16 Inv-loop μ-loop
+element-copy-out-t16 c = search needs
 
 in-bounds-requires : tie.Need-in-bounds-requires Inv-loop μ-loop
 in-bounds-requires c κs = search needs
@@ -50,12 +44,12 @@ loop-again : tie.Need-loop-again Inv-loop μ-loop
 loop-again c =
     let turn = c .before .before .before .before in
     let at = turn .before in
-    (omega (arith, turn), ranging-turn _ _ _ (at .loop .good) (at .loop .i) (omega (arith, turn)) (at .loop .inv .1) _ _ (c .before .in-bounds .ensures) (c .both .ensures))
+    ranging-turn _ _ _ (at .loop .good) (at .loop .i) (omega (arith, turn)) (at .loop .inv) _ _ (c .before .in-bounds .ensures) (c .both .ensures)
 
 returns : tie.Need-returns Inv-loop μ-loop
 returns c =
     let at = c .before in
-    ranging-end _ _ _ (at .loop .good) (at .loop .i) (omega arith) (at .loop .inv .1)
+    ranging-end _ _ _ (at .loop .good) (at .loop .i) (omega arith) (at .loop .inv)
 
 pub bends-right-spec : {M : Type 1} → statement M
 bends-right-spec =
@@ -64,12 +58,10 @@ bends-right-spec =
     Inv-loop
     μ-loop
     loop-holds
-    add-t9
-    mul-t10
-    element-copy-out-t13
-    add-t14
-    mul-t15
-    element-copy-out-t18
+    mul-t9
+    element-copy-out-t12
+    mul-t13
+    element-copy-out-t16
     in-bounds-requires
     both-requires
     add-i

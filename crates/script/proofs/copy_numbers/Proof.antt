@@ -3,7 +3,7 @@ use borrow.Author.Needs.{needs}
 use native.Mathlib.Omega.{arith}
 use denote.Ref.{now}
 use Rattle.number.specs.Numbers.{readNumber}
-use Rattle.command.proofs.Fields.{number-at, number-none}
+use Rattle.decode_parts.proofs.Fields.{number-at, number-none}
 use Rattle.script.proofs.Steps.{stuck}
 use Rattle.script.proofs.Loads.{Copying, copying-start, copying-turn, copying-end}
 use Rattle.script.proofs.copy_numbers.Statement.{statement}
@@ -32,7 +32,8 @@ returns c =
     let i = c .before .before .before in
     let l = i .before .loop in
     let s = now (i .before .before .before .args .script) in
-    absurd (stuck readNumber s (l .place) (l .left) (i .loop-test .taken) (l .inv .walk .stand) (number-none s (l .place) (c .before .before .read-number .ensures) (c .enum-told .given .1)))
+    absurd (stuck readNumber s (l .place) (l .left) (i .loop-test .taken) (l .inv .walk .stand)
+    (number-none s (l .place) (c .before .before .read-number .ensures) (c .enum-told .given .1)))
 
 mul-out : tie.Need-mul-out Inv-loop μ-loop
 mul-out c = search needs

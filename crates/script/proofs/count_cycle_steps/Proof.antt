@@ -8,10 +8,10 @@ use lib.ListN.{length, drop}
 use Rattle.complex.specs.Lists.{total}
 use Rattle.complex.specs.Sound.{stepCount}
 use Rattle.complex.specs.Decode.{readCycle}
-use Rattle.command.specs.Lists.{skipSays, cyclesRead, Stand}
-use Rattle.command.proofs.Rest.{leaves-cycle, cycle-none}
-use Rattle.command.proofs.Skips.{skipped-one, skipped-none}
-use Rattle.command.proofs.Fields.{number-at, number-none}
+use Rattle.decode_parts.specs.Lists.{skipSays, cyclesRead, Stand}
+use Rattle.decode_parts.proofs.Rest.{leaves-cycle, cycle-none}
+use Rattle.decode_parts.proofs.Skips.{skipped-one, skipped-none}
+use Rattle.decode_parts.proofs.Fields.{number-at, number-none}
 use Rattle.script.proofs.Steps.{stuck, first-thing, turn, none-left, none-after}
 use Rattle.script.proofs.Cycles.{cycle-size}
 use Rattle.script.proofs.count_cycle_steps.Statement.{statement}
@@ -19,7 +19,8 @@ use Rattle.script.proofs.count_cycle_steps.Tie as tie
 
 abbrev Inv-loop : tie.InvT-loop
 Inv-loop script first count max most at₀ left₀ sum₀ at left sum =
-    Stand readCycle script at left × (most ≡ max) × (sum ≤ most) × (sum + total stepCount (cyclesRead script at left) ≡ total stepCount (cyclesRead script first count))
+    Stand readCycle script at left × (most ≡ max) × (sum ≤ most)
+    × (sum + total stepCount (cyclesRead script at left) ≡ total stepCount (cyclesRead script first count))
 
 abbrev μ-loop : tie.MeasureT-loop
 μ-loop script first count max most at₀ left₀ sum₀ at left sum = left
@@ -44,7 +45,8 @@ returns c =
     let i = c .before .before .before in
     let l = i .before .loop in
     let s = now (i .before .before .before .before .args .script) in
-    absurd (stuck readCycle s (l .at) (l .left) (i .loop-test .taken) (l .inv .0) (cycle-none (drop (l .at) s) (number-none s (l .at) (c .before .before .read-number .ensures) (c .enum-told .given .1))))
+    absurd (stuck readCycle s (l .at) (l .left) (i .loop-test .taken) (l .inv .0)
+    (cycle-none (drop (l .at) s) (number-none s (l .at) (c .before .before .read-number .ensures) (c .enum-told .given .1))))
 
 places-requires : tie.Need-places-requires Inv-loop μ-loop
 places-requires c κs = search needs
@@ -103,7 +105,8 @@ returns-4 c =
     let i = c .before .before .before .before .before .before .before .before .before .before in
     let l = i .before .loop in
     let s = now (i .before .before .before .before .args .script) in
-    absurd (stuck readCycle s (l .at) (l .left) (i .loop-test .taken) (l .inv .0) (skipped-none (length s) (readCycle (drop (l .at) s)) (sym (c .before .before .skip-cycle .ensures) ∙ ap skipSays (c .enum-told2 .given .1))))
+    absurd (stuck readCycle s (l .at) (l .left) (i .loop-test .taken) (l .inv .0)
+    (skipped-none (length s) (readCycle (drop (l .at) s)) (sym (c .before .before .skip-cycle .ensures) ∙ ap skipSays (c .enum-told2 .given .1))))
 
 add-sum : tie.Need-add-sum Inv-loop μ-loop
 add-sum c = search needs
@@ -124,10 +127,13 @@ loop-again c =
     let a = v .0 .reach .after in
     let b = v .0 .reach .fits in
     let n = number-at s (l .at) (d .before .before .before .read-number .ensures) (d .before .m .given .1) in
-    let k = skipped-one readCycle leaves-cycle s (l .at) (c .before .next .given .0 .0) (omega arith) (sym (c .before .before .before .skip-cycle .ensures) ∙ ap skipSays (c .before .next .given .1)) in
+    let k = skipped-one readCycle leaves-cycle s (l .at) (c .before .next .given .0 .0) (omega arith)
+    (sym (c .before .before .before .skip-cycle .ensures) ∙ ap skipSays (c .before .next .given .1)) in
     let t = turn readCycle s (l .at) (l .left) (i .loop-test .taken) (v .0) leaves-cycle (k .0) (c .before .next .given .0 .0) (k .1 .0) (k .1 .2) in
-    let z = cycle-size (d .before .m .given .0 .0) (drop (l .at) s) (drop (d .before .m .given .0 .1 .0) s) (drop (c .before .next .given .0 .0) s) (k .0) (n .read) (k .1 .0) in
-    let w : total stepCount (cyclesRead s (l .at) (l .left)) ≡ stepCount (k .0) + total stepCount (cyclesRead s (c .before .next .given .0 .0) (l .left - 1)) = ap (total stepCount) (t .0) in
+    let z = cycle-size (d .before .m .given .0 .0) (drop (l .at) s) (drop (d .before .m .given .0 .1 .0) s) (drop (c .before .next .given .0 .0) s) (k .0)
+    (n .read) (k .1 .0) in
+    let w : total stepCount (cyclesRead s (l .at) (l .left)) ≡ stepCount (k .0) + total stepCount (cyclesRead s (c .before .next .given .0 .0) (l .left - 1)) =
+    ap (total stepCount) (t .0) in
     let p = c .before .before .before .before .before .before .places .ensures in
     let h = c .before .before .before .before .before .if1 .left in
     (t .1, v .1, omega arith, omega arith)

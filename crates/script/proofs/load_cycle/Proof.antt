@@ -5,15 +5,16 @@ use denote.Ref.{now}
 use lib.Dec.{lit<}
 use lib.ListN.{drop}
 use Rattle.complex.specs.Decode.{readCycle}
-use Rattle.command.proofs.Rest.{cycle-none}
-use Rattle.command.proofs.Fields.{NumberAt, number-at, number-none}
+use Rattle.decode_parts.proofs.Rest.{cycle-none}
+use Rattle.decode_parts.proofs.Fields.{NumberAt, number-at, number-none}
 use Rattle.script.proofs.Steps.{stuck}
 use Rattle.script.proofs.Loads.{cycle-stands, cycle-total, loaded}
 use Rattle.script.proofs.load_cycle.Statement.{statement}
 use Rattle.script.proofs.load_cycle.Tie as tie
 
 -- the length that was read
-size : (c : tie.After-known-told) → NumberAt (now (c .before .before .before .before .before .args .script)) (c .before .before .before .before .before .args .at) (c .before .m .given .0 .0) (c .before .m .given .0 .1 .0)
+size : (c : tie.After-known-told) → NumberAt (now (c .before .before .before .before .before .args .script))
+    (c .before .before .before .before .before .args .at) (c .before .m .given .0 .0) (c .before .m .given .0 .1 .0)
 size c = number-at _ _ (c .before .before .before .read-number .ensures) (c .before .m .given .1)
 
 read-number-requires : tie.Need-read-number-requires
@@ -29,7 +30,8 @@ returns : tie.Need-returns
 returns c =
     let b = c .before .before .before .before in
     let s = now (b .args .script) in
-    absurd (stuck readCycle s (b .args .at) 1 (lit< tt) (b .pre .0 .stand) (cycle-none (drop (b .args .at) s) (number-none s (b .args .at) (c .before .before .read-number .ensures) (c .enum-told .given .1))))
+    absurd (stuck readCycle s (b .args .at) 1 (lit< tt) (b .pre .0 .stand)
+    (cycle-none (drop (b .args .at) s) (number-none s (b .args .at) (c .before .before .read-number .ensures) (c .enum-told .given .1))))
 
 mul-counts : tie.Need-mul-counts
 mul-counts c = search needs
@@ -60,7 +62,8 @@ returns-2 c =
     let m = d .before .m .given .0 in
     let n = size d in
     let f = n .after in
-    loaded (now (a .script)) (a .at) (m .0) (m .1 .0) (c .before .before .places .result) (n .read) (c .before .before .places .ensures) (now (a .counts)) (a .i) (now (a .steps)) (a .used) _ _ (omega arith) (c .copy-numbers .ensures)
+    loaded (now (a .script)) (a .at) (m .0) (m .1 .0) (c .before .before .places .result) (n .read) (c .before .before .places .ensures) (now (a .counts))
+    (a .i) (now (a .steps)) (a .used) _ _ (omega arith) (c .copy-numbers .ensures)
 
 pub load-cycle-spec : {M : Type 1} → statement M
 load-cycle-spec =

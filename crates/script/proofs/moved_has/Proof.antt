@@ -7,9 +7,9 @@ use native.Mathlib.Omega.{arith}
 use denote.Ref.{now}
 use Rattle.number.specs.Numbers.{readNumber}
 use Rattle.complex.specs.Lists.{holds}
-use Rattle.command.specs.Lists.{numbersRead, Stand}
-use Rattle.command.proofs.Rest.{leaves-number}
-use Rattle.command.proofs.Fields.{number-at, number-none}
+use Rattle.decode_parts.specs.Lists.{numbersRead, Stand}
+use Rattle.decode_parts.proofs.Rest.{leaves-number}
+use Rattle.decode_parts.proofs.Fields.{number-at, number-none}
 use Rattle.script.proofs.Steps.{turn, stuck, none-left}
 use Rattle.script.proofs.Moved.{has-here, has-later}
 use Rattle.script.proofs.moved_has.Statement.{statement}
@@ -39,7 +39,8 @@ returns c =
     let i = c .before .before .before in
     let l = i .before .loop in
     let s = now (i .before .before .before .args .script) in
-    absurd (stuck readNumber s (l .at) (l .left) (i .loop-test .taken) (l .inv .0) (number-none s (l .at) (c .before .before .read-number .ensures) (c .enum-told .given .1)))
+    absurd (stuck readNumber s (l .at) (l .left) (i .loop-test .taken) (l .inv .0)
+    (number-none s (l .at) (c .before .before .read-number .ensures) (c .enum-told .given .1)))
 
 -- the number at hand, and those after it
 read :

@@ -7,9 +7,9 @@ use native.Mathlib.Omega.{arith}
 use denote.Ref.{now}
 use Rattle.number.specs.Numbers.{readNumber}
 use Rattle.complex.specs.Lists.{places}
-use Rattle.command.specs.Lists.{numbersRead, Stand}
-use Rattle.command.proofs.Rest.{leaves-number}
-use Rattle.command.proofs.Fields.{number-at, number-none}
+use Rattle.decode_parts.specs.Lists.{numbersRead, Stand}
+use Rattle.decode_parts.proofs.Rest.{leaves-number}
+use Rattle.decode_parts.proofs.Fields.{number-at, number-none}
 use Rattle.script.proofs.Steps.{turn, stuck, none-left}
 use Rattle.script.proofs.Moved.{rise-low, rise-high, rise-next}
 use Rattle.script.proofs.moved_rise.Statement.{statement}
@@ -39,7 +39,8 @@ returns c =
     let i = c .before .before .before in
     let l = i .before .loop in
     let s = now (i .before .before .before .args .script) in
-    absurd (stuck readNumber s (l .at) (l .left) (i .loop-test .taken) (l .inv .0) (number-none s (l .at) (c .before .before .read-number .ensures) (c .enum-told .given .1)))
+    absurd (stuck readNumber s (l .at) (l .left) (i .loop-test .taken) (l .inv .0)
+    (number-none s (l .at) (c .before .before .read-number .ensures) (c .enum-told .given .1)))
 
 -- the number at hand, and those after it
 read :
@@ -60,7 +61,8 @@ returns-2 c =
     let d = c .before in
     let l = d .before .before .before .before .before .loop in
     let a = d .before .before .before .before .before .before .before .args in
-    rise-low (l .least) (d .before .cycle .given .0 .0) (numbersRead (now (a .script)) (d .before .cycle .given .0 .1 .0) (l .left - 1)) (a .limit) (c .if1 .taken)
+    rise-low (l .least) (d .before .cycle .given .0 .0) (numbersRead (now (a .script)) (d .before .cycle .given .0 .1 .0) (l .left - 1)) (a .limit)
+    (c .if1 .taken)
     ∙ ap (λ (ms : List ℕ). places (l .least) ms (a .limit)) (sym (read d .0))
     ∙ l .inv .1
 
@@ -69,7 +71,8 @@ returns-3 c =
     let d = c .before .before in
     let l = d .before .before .before .before .before .loop in
     let a = d .before .before .before .before .before .before .before .args in
-    rise-high (l .least) (d .before .cycle .given .0 .0) (numbersRead (now (a .script)) (d .before .cycle .given .0 .1 .0) (l .left - 1)) (a .limit) (c .before .if1 .left) (c .if2 .taken)
+    rise-high (l .least) (d .before .cycle .given .0 .0) (numbersRead (now (a .script)) (d .before .cycle .given .0 .1 .0) (l .left - 1)) (a .limit)
+    (c .before .if1 .left) (c .if2 .taken)
     ∙ ap (λ (ms : List ℕ). places (l .least) ms (a .limit)) (sym (read d .0))
     ∙ l .inv .1
 
@@ -88,7 +91,8 @@ loop-again c =
     let l = d .before .before .before .before .before .loop in
     let a = d .before .before .before .before .before .before .before .args in (
       read d .1,
-      rise-next (l .least) (d .before .cycle .given .0 .0) (numbersRead (now (a .script)) (d .before .cycle .given .0 .1 .0) (l .left - 1)) (a .limit) (c .before .if1 .left) (c .if2 .left)
+      rise-next (l .least) (d .before .cycle .given .0 .0) (numbersRead (now (a .script)) (d .before .cycle .given .0 .1 .0) (l .left - 1)) (a .limit)
+          (c .before .if1 .left) (c .if2 .left)
           ∙ ap (λ (ms : List ℕ). places (l .least) ms (a .limit)) (sym (read d .0))
           ∙ l .inv .1,
     )

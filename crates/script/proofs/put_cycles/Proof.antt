@@ -7,7 +7,8 @@ use Rattle.script.proofs.put_cycles.Statement.{statement}
 use Rattle.script.proofs.put_cycles.Tie as tie
 
 abbrev Inv-loop : tie.InvT-loop
-Inv-loop script first count counts₀ row steps₀ place at₀ left₀ i₀ used₀ counts steps at left i used = Loading script first count counts₀ row steps₀ place counts steps at left i used
+Inv-loop script first count counts₀ row steps₀ place at₀ left₀ i₀ used₀ counts steps at left i used =
+    Loading script first count counts₀ row steps₀ place counts steps at left i used
 
 abbrev μ-loop : tie.MeasureT-loop
 μ-loop script first count counts₀ row steps₀ place at₀ left₀ i₀ used₀ counts steps at left i used = left

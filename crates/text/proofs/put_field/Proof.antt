@@ -5,12 +5,12 @@ use mathlib.Core.Path.{_≡_}
 use borrow.Author.Needs.{needs}
 use lib.ListN.{length}
 use Rattle.complex.specs.Program.{decimal}
-use Rattle.text.specs.Texts.{Put}
+use Rattle.text.specs.Texts.{TextPut}
 use Rattle.text.proofs.Puts.{put-number, put-byte, put-then, put-length}
 use Rattle.text.proofs.put_field.Statement.{statement}
 use Rattle.text.proofs.put_field.Tie as tie
 
-number : (c : tie.After-put-decimal) → Put (c .before .before .before .args .out .now) (c .before .before .before .args .at) (decimal (c .before .before .before .args .n)) 10 (c .put-decimal .last .1 .0) (c .put-decimal .result)
+number : (c : tie.After-put-decimal) → TextPut (c .before .before .before .args .out .now) (c .before .before .before .args .at) (decimal (c .before .before .before .args .n)) 10 (c .put-decimal .last .1 .0) (c .put-decimal .result)
 number c =
     let s = c .before .before .before in
     put-number (s .args .out .now) (s .args .at) (s .args .n) (c .put-decimal .last .1 .0) (c .put-decimal .result) (s .fits .n .fits) (c .put-decimal .ensures .0) (c .put-decimal .ensures .1)

@@ -1,0 +1,13 @@
+-- `is_edge` meets its contract. Assumes nothing.
+use Rattle.ask_face_named.proofs.Walking.{edge-open, edge-other}
+use Rattle.ask_face_named.proofs.is_edge.Statement.{statement}
+use Rattle.ask_face_named.proofs.is_edge.Tie as tie
+
+returns : tie.Need-returns
+returns c = edge-open _ (c .if1 .taken)
+
+returns-2 : tie.Need-returns-2
+returns-2 c = edge-other _ (c .if1 .left)
+
+pub is-edge-spec : {M : Type 1} → statement M
+is-edge-spec = tie.close (tie.spec returns returns-2)

@@ -1,0 +1,94 @@
+-- `edges_no` meets its contract. Assumes nothing.
+use borrow.Author.Needs.{needs}
+use borrow.Author.Tests.{not-true, not-false, le-leb, lt-leb}
+use Prim.Native.Nat.{ℕ, _≤_, _<_}
+use mathlib.Core.Path.{_≡_, refl, sym, _∙_}
+use mathlib.Core.Bool.{Bool, true, false, not, _&&_, _||_, cond}
+use lib.Dec.{eqb, leb}
+use Rattle.ask_glue.specs.Questions.{mayGlueBy, edgesNo}
+use Rattle.ask_glue.proofs.edges_no.Statement.{statement}
+use Rattle.ask_glue.proofs.edges_no.Tie as tie
+
+abbrev edgeBy : ℕ → Bool
+edgeBy k = eqb k 1 || eqb k 2
+
+module _ (ka kb : ℕ) (same : Bool) (flag : ℕ) (meet : Bool) where
+  -- by what each question gets
+  by : (p q f m : Bool) → edgeBy ka ≡ p → edgeBy kb ≡ q → leb flag 1 ≡ f → mayGlueBy ka kb meet ≡ m → edgesNo ka kb same flag meet ≡ cond (p && q) (cond f (cond (not same && m) 0 6) 5) 4
+  by p q f m ep eq ef em = λ i. cond (ep i && eq i) (cond (ef i) (cond (not same && em i) 0 6) 5) 4
+
+  first : edgeBy ka ≡ false → 4 ≡ edgesNo ka kb same flag meet
+  first e = sym (by false (edgeBy kb) (leb flag 1) (mayGlueBy ka kb meet) e refl refl refl)
+
+  module _ (a : edgeBy ka ≡ true) where
+    second : edgeBy kb ≡ false → 4 ≡ edgesNo ka kb same flag meet
+    second e = sym (by true false (leb flag 1) (mayGlueBy ka kb meet) a e refl refl)
+
+    module _ (b : edgeBy kb ≡ true) where
+      third : 1 < flag → 5 ≡ edgesNo ka kb same flag meet
+      third h = sym (by true true false (mayGlueBy ka kb meet) a b (lt-leb flag 1 h) refl)
+
+      module _ (f : flag ≤ 1) where
+        fourth : same ≡ true → 6 ≡ edgesNo ka kb same flag meet
+        fourth e = sym (by true true true (mayGlueBy ka kb meet) a b (le-leb flag 1 f) refl ∙ λ i. cond (not (e i) && mayGlueBy ka kb meet) 0 6)
+
+        last : (m : Bool) → same ≡ false → mayGlueBy ka kb meet ≡ m → cond m 0 6 ≡ edgesNo ka kb same flag meet
+        last m e em = sym (by true true true m a b (le-leb flag 1 f) em ∙ λ i. cond (not (e i) && m) 0 6)
+
+is-edge-requires : tie.Need-is-edge-requires
+is-edge-requires c κs = search needs
+
+returns : tie.Need-returns
+returns c =
+    let s = c .before .before .args in
+    first (s .ka) (s .kb) (s .same) (s .flag) (s .meet) (sym (c .before .is-edge .ensures) ∙ not-true _ (c .if1 .taken))
+
+is-edge-requires-2 : tie.Need-is-edge-requires-2
+is-edge-requires-2 c κs = search needs
+
+returns-2 : tie.Need-returns-2
+returns-2 c =
+    let e = c .before .before in
+    let s = e .before .before .args in
+    second (s .ka) (s .kb) (s .same) (s .flag) (s .meet) (sym (e .before .is-edge .ensures) ∙ not-false _ (e .if1 .left)) (sym (c .before .is-edge2 .ensures) ∙ not-true _ (c .if2 .taken))
+
+returns-3 : tie.Need-returns-3
+returns-3 c =
+    let g = c .before in
+    let e = g .before .before in
+    let s = e .before .before .args in
+    third (s .ka) (s .kb) (s .same) (s .flag) (s .meet) (sym (e .before .is-edge .ensures) ∙ not-false _ (e .if1 .left)) (sym (g .before .is-edge2 .ensures) ∙ not-false _ (g .if2 .left)) (c .if3 .taken)
+
+returns-4 : tie.Need-returns-4
+returns-4 c =
+    let f = c .before in
+    let g = f .before in
+    let e = g .before .before in
+    let s = e .before .before .args in
+    fourth (s .ka) (s .kb) (s .same) (s .flag) (s .meet) (sym (e .before .is-edge .ensures) ∙ not-false _ (e .if1 .left)) (sym (g .before .is-edge2 .ensures) ∙ not-false _ (g .if2 .left)) (f .if3 .left) (c .if4 .taken)
+
+may-glue-requires : tie.Need-may-glue-requires
+may-glue-requires c κs = search needs
+
+returns-5 : tie.Need-returns-5
+returns-5 c =
+    let m = c .before in
+    let h = m .before in
+    let f = h .before in
+    let g = f .before in
+    let e = g .before .before in
+    let s = e .before .before .args in
+    last (s .ka) (s .kb) (s .same) (s .flag) (s .meet) (sym (e .before .is-edge .ensures) ∙ not-false _ (e .if1 .left)) (sym (g .before .is-edge2 .ensures) ∙ not-false _ (g .if2 .left)) (f .if3 .left) true (h .if4 .left) (sym (m .may-glue .ensures) ∙ c .if5 .taken)
+
+returns-6 : tie.Need-returns-6
+returns-6 c =
+    let m = c .before in
+    let h = m .before in
+    let f = h .before in
+    let g = f .before in
+    let e = g .before .before in
+    let s = e .before .before .args in
+    last (s .ka) (s .kb) (s .same) (s .flag) (s .meet) (sym (e .before .is-edge .ensures) ∙ not-false _ (e .if1 .left)) (sym (g .before .is-edge2 .ensures) ∙ not-false _ (g .if2 .left)) (f .if3 .left) false (h .if4 .left) (sym (m .may-glue .ensures) ∙ c .if5 .left)
+
+pub edges-no-spec : {M : Type 1} → statement M
+edges-no-spec = tie.close (tie.spec is-edge-requires returns is-edge-requires-2 returns-2 returns-3 returns-4 may-glue-requires returns-5 returns-6)

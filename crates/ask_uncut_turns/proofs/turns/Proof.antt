@@ -1,0 +1,122 @@
+-- `turns` meets its contract. The loop keeps: the whole test is the test of the cycles left, whose steps begin at `from`. Assumes nothing.
+use borrow.Author.Needs.{needs}
+use Prim.Native.Nat.{_≤_, _-_}
+use mathlib.Core.Path.{sym, _∙_}
+use native.Mathlib.Omega.{arith}
+use lib.ListN.{getD}
+use Rattle.complex.specs.Cells.{Cycle, stepsOf}
+use Rattle.complex.specs.Uses.{passages}
+use Rattle.store.proofs.Lists.{places-one}
+use Rattle.sound.specs.Rows.{rowsOf}
+use Rattle.ask_uncut_turns.specs.Turns.{turnsAt}
+use Rattle.ask_uncut_turns.proofs.Turning.{Rounding, rounding-start, rounding-room, rounding-found, rounding-turn, rounding-end}
+use Rattle.ask_uncut_turns.proofs.turns.Statement.{statement}
+use Rattle.ask_uncut_turns.proofs.turns.Tie as tie
+
+abbrev Inv-loop : tie.InvT-loop
+Inv-loop ids kinds starts ends n whole cycles m steps v from₀ i₀ from i =
+    (i ≤ m) × Rounding (turnsAt (rowsOf n ids kinds starts ends) whole v) (λ (k : Cycle). passages (stepsOf k)) cycles steps m from i
+
+abbrev μ-loop : tie.MeasureT-loop
+μ-loop ids kinds starts ends n whole cycles m steps v from₀ i₀ from i = m - i
+
+loop-holds : tie.Need-loop-holds Inv-loop μ-loop
+loop-holds c =
+    let a = c .args in (
+      omega arith,
+      rounding-start (turnsAt (rowsOf (a .n) (a .ids .now) (a .kinds .now) (a .starts .now) (a .ends .now)) (a .whole) (a .v))
+          (λ (k : Cycle). passages (stepsOf k)) (a .cycles .now) (a .steps .now) (a .m),
+    )
+
+mul-c : tie.Need-mul-c Inv-loop μ-loop
+mul-c c = search needs
+
+element-copy-out-c : tie.Need-element-copy-out-c Inv-loop μ-loop
+element-copy-out-c c = search needs
+
+cycle-turns-requires : tie.Need-cycle-turns-requires Inv-loop μ-loop
+cycle-turns-requires c κs =
+    let at = c .before .before in
+    let s = at .before in
+    let a = s .args in
+    let p = s .pre in (
+      p .0,
+      (
+        p .1 .1 .0,
+        rounding-room (turnsAt (rowsOf (a .n) (a .ids .now) (a .kinds .now) (a .starts .now) (a .ends .now)) (a .whole) (a .v))
+            (λ (k : Cycle). passages (stepsOf k)) (a .cycles .now) (a .steps .now) (a .m) (omega (arith, p .1)) (at .loop .from) (at .loop .i) (omega arith)
+            (at .loop .inv .1) 2048 (p .1 .1 .1 .1),
+      ),
+    )
+
+returns : tie.Need-returns Inv-loop μ-loop
+returns c =
+    let at = c .before .before .before .before in
+    let s = at .before in
+    let a = s .args in
+    let p = s .pre in
+    rounding-found (turnsAt (rowsOf (a .n) (a .ids .now) (a .kinds .now) (a .starts .now) (a .ends .now)) (a .whole) (a .v))
+    (λ (k : Cycle). passages (stepsOf k)) (a .cycles .now) (a .steps .now) (a .m) (omega (arith, p .1)) (at .loop .from) (at .loop .i) (omega arith)
+    (at .loop .inv .1) (sym (c .before .cycle-turns .ensures) ∙ c .if1 .taken)
+
+places-requires : tie.Need-places-requires Inv-loop μ-loop
+places-requires c κs = search needs
+
+add-from : tie.Need-add-from Inv-loop μ-loop
+add-from c =
+    let at = c .before .before .before .before .before in
+    let s = at .before in
+    let a = s .args in
+    let p = s .pre in
+    let r = rounding-room (turnsAt (rowsOf (a .n) (a .ids .now) (a .kinds .now) (a .starts .now) (a .ends .now)) (a .whole) (a .v))
+    (λ (k : Cycle). passages (stepsOf k)) (a .cycles .now) (a .steps .now) (a .m) (omega (arith, p .1)) (at .loop .from) (at .loop .i)
+    (omega (arith, c .before .before .before .before)) (at .loop .inv .1) 2048 (p .1 .1 .1 .1) in
+    let e = c .places .ensures ∙ places-one (getD (a .cycles .now) (at .loop .i) 0) in
+    record { fits = omega (arith, e, r) }
+
+add-i : tie.Need-add-i Inv-loop μ-loop
+add-i c = omega (arith, c .before .before .before .before)
+
+loop-less : tie.Need-loop-less Inv-loop μ-loop
+loop-less c = omega (arith, c .before .before .before .before)
+
+loop-again : tie.Need-loop-again Inv-loop μ-loop
+loop-again c =
+    let at = c .before .before .before .before .before in
+    let s = at .before in
+    let a = s .args in
+    let p = s .pre in (
+      omega (arith, c .before .before .before .before),
+      rounding-turn (turnsAt (rowsOf (a .n) (a .ids .now) (a .kinds .now) (a .starts .now) (a .ends .now)) (a .whole) (a .v))
+          (λ (k : Cycle). passages (stepsOf k)) (a .cycles .now) (a .steps .now) (a .m) (omega (arith, p .1)) (at .loop .from) (at .loop .i)
+          (omega (arith, c .before .before .before .before)) (at .loop .inv .1)
+          (sym (c .before .before .cycle-turns .ensures) ∙ c .before .if1 .left) _ (c .places .ensures ∙ places-one (getD (a .cycles .now) (at .loop .i) 0)),
+    )
+
+returns-2 : tie.Need-returns-2 Inv-loop μ-loop
+returns-2 c =
+    let at = c .before in
+    let s = at .before in
+    let a = s .args in
+    let p = s .pre in
+    rounding-end (turnsAt (rowsOf (a .n) (a .ids .now) (a .kinds .now) (a .starts .now) (a .ends .now)) (a .whole) (a .v))
+    (λ (k : Cycle). passages (stepsOf k)) (a .cycles .now) (a .steps .now) (a .m) (omega (arith, p .1)) (at .loop .from) (at .loop .i) (omega arith)
+    (at .loop .inv .1)
+
+pub turns-spec : {M : Type 1} → statement M
+turns-spec =
+    tie.close
+    (tie.spec
+    Inv-loop
+    μ-loop
+    loop-holds
+    mul-c
+    element-copy-out-c
+    cycle-turns-requires
+    returns
+    places-requires
+    add-from
+    add-i
+    loop-less
+    loop-again
+    returns-2)

@@ -1,0 +1,2 @@
+pub mod Unglues
+pub mod Places

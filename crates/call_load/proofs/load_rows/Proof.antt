@@ -1,0 +1,62 @@
+-- `load_rows` meets its contract. Assumes nothing.
+use borrow.Author.Needs.{needs}
+use Rattle.file_read.proofs.Verdict.{cells-over}
+use Rattle.call_load.proofs.Loads.{counts-some, counts-none}
+use Rattle.call_load.proofs.Bare.{bare-yes, bare-no, rows-in}
+use Rattle.call_load.proofs.load_rows.Statement.{statement}
+use Rattle.call_load.proofs.load_rows.Tie as tie
+
+counts-at-requires : tie.Need-counts-at-requires
+counts-at-requires c κs = search needs
+
+enum-known-next : tie.Need-enum-known-next
+enum-known-next c = search needs
+
+enum-told : tie.Need-enum-told
+enum-told c = search needs
+
+returns : tie.Need-returns
+returns c = let k = c .before .before in counts-none _ (k .counts-at .result) (k .counts-at .ensures) (c .enum-told .given .1)
+
+load-bare-requires : tie.Need-load-bare-requires
+load-bare-requires c κs =
+    let kt = c .before .before .before .before .before .before .before .before .before .before in
+    let k = kt .before .before .before in
+    let C = counts-some _ (k .counts-at .result) (k .counts-at .ensures) _ _ _ (kt .before .next .given .1) in
+    (C .inside, C .few)
+
+enum-known-good : tie.Need-enum-known-good
+enum-known-good c = search needs
+
+enum-told-2 : tie.Need-enum-told-2
+enum-told-2 c = search needs
+
+returns-2 : tie.Need-returns-2
+returns-2 c =
+    let l = c .before .before in
+    let kt = c .before .before .before .before .before .before .before .before .before .before .before .before .before in
+    let k = kt .before .before .before in
+    let C = counts-some _ (k .counts-at .result) (k .counts-at .ensures) _ _ _ (kt .before .next .given .1) in
+    cells-over _ _ _ (C .first) _ _ (C .second) (bare-no _ _ (l .load-bare .result) (l .load-bare .ensures) (c .enum-told2 .given .1))
+
+returns-3 : tie.Need-returns-3
+returns-3 c =
+    let l = c .before .before .before in
+    let kt = c .before .before .before .before .before .before .before .before .before .before .before .before .before .before in
+    let k = kt .before .before .before in
+    let C = counts-some _ (k .counts-at .result) (k .counts-at .ensures) _ _ _ (kt .before .next .given .1) in
+    rows-in _ _ _ _ C _ _ (bare-yes _ _ (l .load-bare .result) (l .load-bare .ensures) _ (c .before .good2 .given .1))
+
+pub load-rows-spec : {M : Type 1} → statement M
+load-rows-spec =
+    tie.close
+    (tie.spec
+    counts-at-requires
+    enum-known-next
+    enum-told
+    returns
+    load-bare-requires
+    enum-known-good
+    enum-told-2
+    returns-2
+    returns-3)

@@ -1,4 +1,0 @@
-pub mod Runs
-pub mod Passing
-pub mod Dealing
-pub mod Ungluing

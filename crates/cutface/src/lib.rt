@@ -1,7 +1,0 @@
-use outline::Listed;
-
-// The cycles of two faces.
-pub struct Parts {
-    pub old: Listed,
-    pub new: Listed,
-}

@@ -1,0 +1,70 @@
+-- What a decoded command says, read with the script that its lists stay in. Definitions only.
+use Prim.Native.Nat.{ℕ, _+_, _*_, _≤_}
+use mathlib.Core.Path.{_≡_}
+use mathlib.Core.List.{List}
+use lib.ListN.{length, drop}
+use Rattle.number.specs.Readers.{Read}
+use Rattle.number.specs.Said.{Said, done, no, foundOr}
+use Rattle.number.specs.Numbers.{readNumber}
+use Rattle.bends.specs.Bends.{positionsAt}
+use Rattle.complex.specs.Cells.{vertex, openEdge, closedEdge, face}
+use Rattle.complex.specs.Decode as bytes
+use Rattle.decode_parts.specs.Lists.{Stand, numbersRead, cyclesRead}
+use Rattle.decode_command.specs.declared.Command.{Command}
+use Rattle.decode_command.specs.declared.Command.the-variants.{Vertex, Open, Closed, Face, Move, Delete, GlueVertices, GlueEdges, Unglue}
+use Rattle.decode_command.specs.declared.Command.the-variants.{CutEdge, CutFaceVertex, CutFaceOpen, CutFaceClosed, Uncut}
+use Rattle.decode_command.specs.declared.Decoded.{Decoded}
+use Rattle.decode_command.specs.declared.Decoded.the-variants.{Whole, Malformed}
+
+abbrev pub commandOf : List ℕ → Command → bytes.Command
+commandOf s (Vertex x y) = bytes.create (vertex (record { x = x; y = y }))
+commandOf s (Open a b n first) = bytes.create (openEdge a b (positionsAt s first n))
+commandOf s (Closed n first) = bytes.create (closedEdge (positionsAt s first n))
+commandOf s (Face k first) = bytes.create (face (cyclesRead s first k))
+commandOf s (Move v x y) = bytes.move v (record { x = x; y = y })
+commandOf s (Delete i) = bytes.delete i
+commandOf s (GlueVertices a b) = bytes.glueVertices a b
+commandOf s (GlueEdges a b f) = bytes.glueEdges a b f
+commandOf s (Unglue i) = bytes.unglue i
+commandOf s (CutEdge e q) = bytes.cutEdge e q
+commandOf s (CutFaceVertex f x y) = bytes.cutFaceVertex f (record { x = x; y = y })
+commandOf s (CutFaceOpen f c1 s1 c2 s2 n first m place) = bytes.cutFaceOpen f c1 s1 c2 s2 (positionsAt s first n) (numbersRead s place m)
+commandOf s (CutFaceClosed f n first m place) = bytes.cutFaceClosed f (positionsAt s first n) (numbersRead s place m)
+commandOf s (Uncut i) = bytes.uncut i
+
+-- the cases of `Decoded`: 0 with a command and the bytes after it, or 2
+abbrev pub decodedSays : List ℕ → Decoded → Said (bytes.Command × List ℕ)
+decodedSays s (Whole c next) = done (commandOf s c, drop next s)
+decodedSays s Malformed = no 2
+
+-- the lists of a command lie in the script
+abbrev pub ListsLie : List ℕ → Command → Type 0
+ListsLie s (Vertex x y) = Unit {0}
+ListsLie s (Open a b n first) = first + 16 * n ≤ length s
+ListsLie s (Closed n first) = first + 16 * n ≤ length s
+ListsLie s (Face k first) = Stand bytes.readCycle s first k
+ListsLie s (Move v x y) = Unit {0}
+ListsLie s (Delete i) = Unit {0}
+ListsLie s (GlueVertices a b) = Unit {0}
+ListsLie s (GlueEdges a b f) = Unit {0}
+ListsLie s (Unglue i) = Unit {0}
+ListsLie s (CutEdge e q) = Unit {0}
+ListsLie s (CutFaceVertex f x y) = Unit {0}
+ListsLie s (CutFaceOpen f c1 s1 c2 s2 n first m place) = (first + 16 * n ≤ length s) × Stand readNumber s place m
+ListsLie s (CutFaceClosed f n first m place) = (first + 16 * n ≤ length s) × Stand readNumber s place m
+ListsLie s (Uncut i) = Unit {0}
+
+-- a command whose fields begin at `at` ends at `next`
+pub record Ended (s : List ℕ) (at : ℕ) (c : Command) (next : ℕ) : Type 0 where
+  pub after : at ≤ next
+  pub fits : next ≤ length s
+  pub lists : ListsLie s c
+
+abbrev pub DecodedEnd : List ℕ → ℕ → Decoded → Type 0
+DecodedEnd s at (Whole c next) = Ended s at c next
+DecodedEnd s at Malformed = Unit {0}
+
+-- r says what is read from `at` on, or 2
+pub record Decodes (s : List ℕ) (at : ℕ) (read : Read bytes.Command) (r : Decoded) : Type 0 where
+  pub answer : decodedSays s r ≡ foundOr 2 read
+  pub ends : DecodedEnd s at r

@@ -1,0 +1,4 @@
+pub mod Fields
+pub mod Rest
+pub mod Skips
+pub mod Stands

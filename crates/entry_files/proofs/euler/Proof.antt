@@ -1,0 +1,42 @@
+-- `entry_files::euler` meets its contract: 10, or the Euler number of the drawing that was read. Assumes nothing.
+use borrow.Author.Needs.{needs}
+use mir.Syntax.{w32}
+use mir.ValLaws.{toZ-ofZ}
+use denote.Ref.{now}
+use mathlib.Core.Path.{_≡_, _∙_}
+use Rattle.call_read.proofs.Judged.{opened-file, opened-none}
+use Rattle.entry_files.proofs.Opening.{euler-refused, euler-is}
+use Rattle.entry_files.proofs.euler.Statement.{statement}
+use Rattle.entry_files.proofs.euler.Tie as tie
+
+open-requires : tie.Need-open-requires
+open-requires c κs = search needs
+
+enum-known-t : tie.Need-enum-known-t
+enum-known-t c = search needs
+
+enum-told : tie.Need-enum-told
+enum-told c = search needs
+
+returns : tie.Need-returns
+returns c =
+    let o = c .before .before in
+    let s = o .before .before .before .before .before .before .before .before .before .before .before .before .before .before .before .before in
+    euler-refused (now (s .args .file)) (opened-none _ _ (o .«open» .result) (o .«open» .ensures) (c .enum-told .given .1))
+
+euler-requires : tie.Need-euler-requires
+euler-requires c κs =
+    let t = c .before .before .before .before .before .before .before .before .before .before .before .before .before in
+    let o = t .before .before in
+    opened-file _ _ (o .«open» .result) (o .«open» .ensures) _ (t .t .given .1) .ready
+
+returns-2 : tie.Need-returns-2
+returns-2 c =
+    let t = c .before .before .before .before .before .before .before .before .before .before .before .before .before .before in
+    let o = t .before .before in
+    let s = o .before .before .before .before .before .before .before .before .before .before .before .before .before .before .before .before in
+    let f = opened-file _ _ (o .«open» .result) (o .«open» .ensures) _ (t .t .given .1) in
+    euler-is (now (s .args .file)) _ _ f _ (toZ-ofZ w32 (c .euler .result) (record { sfits = c .euler .ok }) ∙ c .euler .ensures)
+
+pub euler-spec : {M : Type 1} → statement M
+euler-spec = tie.close (tie.spec open-requires enum-known-t enum-told returns euler-requires returns-2)

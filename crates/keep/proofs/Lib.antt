@@ -1,3 +1,0 @@
-pub mod Kept
-pub mod Sliding
-pub mod Runs

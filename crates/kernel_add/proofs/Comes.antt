@@ -1,0 +1,63 @@
+-- A cell that comes: the answer, where 3 to 6 got a yes. Assumes nothing.
+use Prim.Native.Nat.{ℕ, _+_, _-_}
+use native.Mathlib.Omega.{arith}
+use mathlib.Core.Path.{_≡_, refl, sym, ap, _∙_, subst}
+use mathlib.Core.Bool.{true, cond}
+use lib.Dec.{eqb}
+use Rattle.complex.specs.Cells.{Figure}
+use Rattle.complex.specs.Sound.{cyclesIn, stepsIn, bendsIn}
+use Rattle.complex.specs.Decode.{create}
+use Rattle.complex.proofs.Asked.{Passed}
+use Rattle.store.specs.declared.Drawing.{Drawing}
+use Rattle.store.specs.View.{sheetOf}
+use Rattle.rows_new.specs.Appends.{CellRoom}
+use Rattle.rows_new.proofs.Bends.{Grew}
+use Rattle.answer.specs.declared.Totals.{Totals}
+use Rattle.answer.specs.Sizes.{sized, nothing, moreLess, changedBy}
+use Rattle.answer.specs.Late.{sizesBy, lateNo}
+use Rattle.answer.specs.Answers.{outcome}
+use Rattle.ask_create.proofs.Create.{cell-refuses, cell-room, cell-answers}
+use Rattle.lent.specs.Arrays.{Arrays, heldBy, rowsBy, normal, Lengths}
+use Rattle.lent.specs.declared.Line.{Line}
+use Rattle.lent.specs.Replies.{lineOf, answerBy, Ready, Obeyed}
+use Rattle.lent.proofs.Held.{held-sizes}
+use Rattle.lent.proofs.Sums.{ready-rows, ready-drawing, ready-sizes, ready-indexes, ready-totals}
+use Rattle.kernel_add.specs.Comes.{oneNew}
+
+one-outcome : (next n : ℕ) (out : Drawing) → out .next ≡ next + 1 → out .count ≡ n + 1 → answerBy (oneNew next) out ≡ outcome next n out
+one-outcome next n out e f =
+    let g : out .next - next ≡ 1 = omega (arith, e) in
+    let h : n + (out .next - next) - out .count ≡ 0 = omega (arith, e, f) in
+    λ i. record { number = 0; first = cond (eqb (sym g i) 0) 0 next; new = sym g i; removed = sym h i; drawing = out }
+
+-- n is what `cell_no` answers for the figure x
+module _ (a : Arrays) (t : Totals) (r : Ready a t) (x : Figure) (p : Passed (sheetOf (heldBy a)) (create x)) (n : ℕ)
+    (en : n ≡ lateNo (a .next) 1 (changedBy (sizesBy t) (moreLess (sized 1 (cyclesIn x) (stepsIn x) (bendsIn x)) nothing))) where
+  pub obeyed-full : (n ≡ 0 → ⊥) → (k : Line) → k ≡ lineOf n → Obeyed a (create x) a k
+  obeyed-full nz k e =
+      let d = heldBy a in
+      record {
+        answers =
+            cell-refuses d (ready-sizes a t r) (ready-drawing a t r) x p (rowsBy a) (ready-indexes a t r) t (ready-totals a t r) n en nz
+            (answerBy k d) (ap (λ (u : Line). answerBy u d) e);
+        back = λ z. refl;
+        rows = ready-rows a t r;
+      }
+
+  module _ (z : n ≡ 0) where
+    pub came-room : CellRoom (heldBy a) x
+    came-room = cell-room (heldBy a) (ready-sizes a t r) (ready-drawing a t r) x p (rowsBy a) (ready-indexes a t r) t (ready-totals a t r) n en z
+
+    -- b are the arrays with the cell
+    pub obeyed-came : (b : Arrays) → Lengths b → b .next ≡ a .next + 1 → b .count ≡ a .count + 1 → normal b ≡ true → Grew (heldBy a) x (heldBy b)
+        → (o : Arrays) → o ≡ b → (k : Line) → k ≡ oneNew (a .next) → Obeyed a (create x) o k
+    obeyed-came b l e f m g o eo k ek =
+        subst (λ (q : Arrays). Obeyed a (create x) q k) (sym eo)
+        (record {
+          answers =
+              cell-answers (heldBy a) (ready-sizes a t r) (ready-drawing a t r) x p (rowsBy a) (ready-indexes a t r) t (ready-totals a t r) n en z
+              (heldBy b) (held-sizes b l) (g .1) (g .0)
+              (answerBy k (heldBy b)) (ap (λ (u : Line). answerBy u (heldBy b)) ek ∙ one-outcome (a .next) (a .count) (heldBy b) e f);
+          back = λ s. absurd (s (ap (λ (u : Line). u .number) ek));
+          rows = m;
+        })

@@ -1,0 +1,4 @@
+pub mod Dead
+pub mod Gone
+pub mod Three
+pub mod ThreeGone

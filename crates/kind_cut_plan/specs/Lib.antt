@@ -1,0 +1,2 @@
+pub mod RingPlans
+pub mod OpenPlans

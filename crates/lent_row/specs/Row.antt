@@ -1,0 +1,130 @@
+-- The rules of one row of lent arrays, but for the places of its bends. Definitions only.
+use Prim.Native.Nat.{ℕ, zero, suc, _+_, _≤_}
+use mathlib.Core.Path.{_≡_}
+use mathlib.Core.Bool.{Bool, true, _&&_, cond}
+use mathlib.Core.List.{List, []}
+use lib.Dec.{eqb, leb, ltb}
+use lib.Ieee.{Float}
+use lib.ListN.{length, take, getD}
+use denote.Ref.{RefT}
+use Rattle.number.specs.Said.{Said, done, no}
+use Rattle.coordinate.specs.declared.Position.{Position}
+use Rattle.coordinate.specs.Bounds.{within}
+use Rattle.complex.specs.Lists.{total}
+use Rattle.complex.specs.Sound.{cellsMost, cyclesMost, stepsMost, bendsMost}
+use Rattle.store.specs.Edits.{placesOf}
+use Rattle.sound.specs.Rows.{Rows, rowsOf, rowGood}
+use Rattle.answer.specs.declared.Totals.{Totals}
+use Rattle.lent.specs.Arrays.{Arrays, Numbers, Floats, positionIn, normalAt, totalsBy}
+use Rattle.lent_cycles.specs.Ring.{cyclesRight}
+use Rattle.lent_row.specs.declared.Row.{Row}
+use Rattle.lent_row.specs.declared.Row.the-variants.{Sums, Fault}
+
+-- ---- the rules
+-- the id of the row before, 0 before the first
+abbrev pub idBefore : List ℕ → ℕ → ℕ
+idBefore is zero = 0
+idBefore is (suc i) = getD is i 0
+
+-- the id in row i is above the one before it, and below the next id
+abbrev pub idRight : ℕ → List ℕ → ℕ → Bool
+idRight next is i = ltb (getD is i 0) next && ltb (idBefore is i) (getD is i 0)
+
+-- a vertex lies in bounds, an open edge's ends are vertices, a closed edge has a bend
+abbrev pub figureRight : Rows → List ℕ → ℕ → Position → Bool
+figureRight t bs i p = rowGood t bs i && cond (eqb (getD (t .kinds) i 0) 0) (within p) true
+
+-- the places that the counts of the first i rows stand for
+abbrev pub placesUpto : List ℕ → ℕ → ℕ
+placesUpto l i = total (placesOf 0) (take i l)
+
+abbrev pub rowsIn : Arrays → Rows
+rowsIn a = rowsOf (a .count) (a .ids) (a .kinds) (a .starts) (a .ends)
+
+-- the row i is right: its id, its normal form, the totals so far, its own rules
+abbrev pub rowRight : Arrays → ℕ → Bool
+rowRight a i =
+    idRight (a .next) (a .ids) i
+    && (normalAt (a .kinds) (a .starts) (a .ends) (a .bends) (a .counts) i
+    && (leb (placesUpto (a .bends) (i + 1)) bendsMost
+    && (leb (placesUpto (a .counts) (i + 1)) cyclesMost
+    && (figureRight (rowsIn a) (take (a .count) (a .bends)) i (positionIn (a .px) (a .py) i)
+    && cyclesRight (rowsIn a) (a .cycles) (a .steps) (placesUpto (a .counts) i) (getD (a .counts) i 0)))))
+
+-- ---- the arrays without the bends' places
+-- a with no place of a bend
+abbrev pub bareOf : Arrays → Arrays
+bareOf a =
+    record {
+      next = a .next;
+      count = a .count;
+      ids = a .ids;
+      kinds = a .kinds;
+      starts = a .starts;
+      ends = a .ends;
+      bends = a .bends;
+      counts = a .counts;
+      px = a .px;
+      py = a .py;
+      cycles = a .cycles;
+      steps = a .steps;
+      bx = [];
+      by = [];
+    }
+
+-- names for a contract: those of references, and at a call's entry
+abbrev pub bare : ℕ → ℕ → RefT (List ℕ) → RefT (List ℕ) → RefT (List ℕ) → RefT (List ℕ) → RefT (List ℕ) → RefT (List ℕ)
+    → RefT (List Float) → RefT (List Float) → RefT (List ℕ) → RefT (List ℕ) → Arrays
+bare next n is ks ss es bs cs px py cy st =
+    record {
+      next = next;
+      count = n;
+      ids = is .now;
+      kinds = ks .now;
+      starts = ss .now;
+      ends = es .now;
+      bends = bs .now;
+      counts = cs .now;
+      px = px .now;
+      py = py .now;
+      cycles = cy .now;
+      steps = st .now;
+      bx = [];
+      by = [];
+    }
+
+abbrev pub atEntry : ℕ → ℕ → Numbers → Numbers → Numbers → Numbers → Numbers → Numbers → Floats → Floats → Numbers → Numbers → Arrays
+atEntry next n is ks ss es bs cs px py cy st =
+    bare next n (is .entry) (ks .entry) (ss .entry) (es .entry) (bs .entry) (cs .entry) (px .entry) (py .entry) (cy .entry) (st .entry)
+
+-- the lengths of these arrays
+pub record RowLengths (a : Arrays) : Type 0 where
+  pub ids : length (a .ids) ≡ cellsMost
+  pub kinds : length (a .kinds) ≡ cellsMost
+  pub starts : length (a .starts) ≡ cellsMost
+  pub ends : length (a .ends) ≡ cellsMost
+  pub bends : length (a .bends) ≡ cellsMost
+  pub counts : length (a .counts) ≡ cellsMost
+  pub px : length (a .px) ≡ cellsMost
+  pub py : length (a .py) ≡ cellsMost
+  pub cycles : length (a .cycles) ≡ cyclesMost
+  pub steps : length (a .steps) ≡ stepsMost
+
+-- ---- what is said of a row
+-- the cases of `Row`: 0 with the sums, or 1
+abbrev pub rowSays : Row → Said Totals
+rowSays (Sums t) = done t
+rowSays Fault = no 1
+
+-- the sums of the first i rows
+abbrev pub totalsUpto : Arrays → ℕ → Totals
+totalsUpto a i = totalsBy i (a .bends) (a .counts) (a .cycles)
+
+-- t are the sums of the first i rows, and keep the ceilings
+pub record Upto (a : Arrays) (i : ℕ) (t : Totals) : Type 0 where
+  pub few : a .count ≤ cellsMost
+  pub long : RowLengths a
+  pub sums : t ≡ totalsUpto a i
+  pub bends : t .bends ≤ bendsMost
+  pub cycles : t .cycles ≤ cyclesMost
+  pub steps : t .steps ≤ stepsMost

@@ -1,4 +1,0 @@
-pub mod Marking
-pub mod Counting
-pub mod Meaning
-pub mod Answers

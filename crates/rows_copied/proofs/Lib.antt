@@ -1,0 +1,4 @@
+pub mod Runs
+pub mod Passing
+pub mod Dealt
+pub mod Ungluing

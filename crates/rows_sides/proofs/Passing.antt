@@ -1,0 +1,38 @@
+-- The cycles in number arrays, counted one after another. Assumes nothing.
+use Prim.Native.Nat.{ℕ, _+_, _-_, _<_, _≤_}
+use mathlib.Core.Path.{_≡_, ap, ap₂, sym, _∙_}
+use mathlib.Core.List.{List, [], _∷_, _++_}
+use native.Mathlib.Omega.{arith}
+use native.Mathlib.Numerals.{add-one}
+use lib.ListN.{length, take, drop, getD, length-drop}
+use lib.Seq.{take-all, take-suc}
+use Rattle.complex.specs.Lists.{total}
+use Rattle.complex.specs.Cells.{Cycle}
+use Rattle.store.specs.View.{width, widthSum, cycleOf, cyclesFrom}
+use Rattle.store.proofs.Lists.{sum-append, sum-more, sum-le}
+use Rattle.rows_marks.proofs.Faces.{cycles-snoc}
+
+-- one cycle more
+pub cycles-more : (ns : List ℕ) (j from c : ℕ) (st : List ℕ) → j < length ns → from ≡ widthSum (take j ns) → c ≡ getD ns j 0
+    → cyclesFrom (take (j + 1) ns) st ≡ cyclesFrom (take j ns) st ++ (cycleOf c (drop from st) ∷ [])
+cycles-more ns j from c st h f e =
+    rw (add-one, take-suc ns j 0 h) (cycles-snoc (take j ns) (getD ns j 0) st ∙ ap₂ (λ (k n : ℕ). cyclesFrom (take j ns) st ++ (cycleOf k (drop n st) ∷ [])) (sym e) (sym f))
+
+pub from-more : (ns : List ℕ) (j from c : ℕ) → j < length ns → from ≡ widthSum (take j ns) → c ≡ getD ns j 0 → from + width c ≡ widthSum (take (j + 1) ns)
+from-more ns j from c h f e = ap₂ (λ (a k : ℕ). a + width k) f e ∙ sym (sum-more width ns j 0 h)
+
+pub from-within : (ns : List ℕ) (j n from c : ℕ) → n ≤ length ns → j < n → from ≡ widthSum (take j ns) → c ≡ getD ns j 0 → from + width c ≤ widthSum (take n ns)
+from-within ns j n from c h k f e =
+    let g : j < length ns = omega arith in
+    omega (arith, from-more ns j from c g f e, sum-le width ns (j + 1) n (omega arith))
+
+-- ---- counting
+module _ (uses : Cycle → ℕ) where
+  pub total-more : (ns : List ℕ) (j from c : ℕ) (st : List ℕ) → j < length ns → from ≡ widthSum (take j ns) → c ≡ getD ns j 0
+      → total uses (cyclesFrom (take (j + 1) ns) st) ≡ total uses (cyclesFrom (take j ns) st) + uses (cycleOf c (drop from st))
+  total-more ns j from c st h f e =
+      ap (total uses) (cycles-more ns j from c st h f e) ∙ sum-append uses (cyclesFrom (take j ns) st) (cycleOf c (drop from st) ∷ []) ∙ omega arith
+
+-- ---- the part of an array from a place on
+pub part-is : (from : ℕ) (st : List ℕ) → take (length st - from) (drop from st) ≡ drop from st
+part-is from st = take-all (length st - from) (drop from st) (omega (arith, length-drop from st))

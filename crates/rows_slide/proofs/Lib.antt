@@ -1,0 +1,4 @@
+pub mod Kept
+pub mod Sliding
+pub mod Runs
+pub mod Steps

@@ -1,0 +1,51 @@
+-- `dead_until` meets its contract. Assumes nothing.
+use borrow.Author.Needs.{needs}
+use Prim.Native.Nat.{_-_}
+use mathlib.Core.Bool.{true}
+use native.Mathlib.Omega.{arith}
+use borrow.Author.Tests.{not-true, not-false}
+use Rattle.rows_slide.specs.Slid.{Seen}
+use Rattle.rows_slide.proofs.Sliding.{seen-start, seen-turn, seen-stop, seen-all}
+use Rattle.rows_slide.proofs.dead_until.Statement.{statement}
+use Rattle.rows_slide.proofs.dead_until.Tie as tie
+
+abbrev Inv-loop : tie.InvT-loop
+Inv-loop dead i n k₀ k = Seen dead true i n k
+
+abbrev μ-loop : tie.MeasureT-loop
+μ-loop dead i n k₀ k = n - k
+
+loop-holds : tie.Need-loop-holds Inv-loop μ-loop
+loop-holds c = seen-start _ true _ _ (c .pre .0)
+
+shared-slice-read-if1 : tie.Need-shared-slice-read-if1 Inv-loop μ-loop
+shared-slice-read-if1 c = search needs
+
+returns : tie.Need-returns Inv-loop μ-loop
+returns c = seen-stop (c .before .before .before .loop .inv) (not-true _ (c .if1 .taken))
+
+add-k : tie.Need-add-k Inv-loop μ-loop
+add-k c = search needs
+
+loop-less : tie.Need-loop-less Inv-loop μ-loop
+loop-less c = search needs
+
+loop-again : tie.Need-loop-again Inv-loop μ-loop
+loop-again c = let at = c .before .before .before in seen-turn (at .before .pre .1) (omega arith) (not-false _ (c .if1 .left)) (at .loop .inv)
+
+returns-2 : tie.Need-returns-2 Inv-loop μ-loop
+returns-2 c = seen-all (omega arith) (c .before .loop .inv)
+
+pub dead-until-spec : {M : Type 1} → statement M
+dead-until-spec =
+    tie.close
+    (tie.spec
+    Inv-loop
+    μ-loop
+    loop-holds
+    shared-slice-read-if1
+    returns
+    add-k
+    loop-less
+    loop-again
+    returns-2)

@@ -1,0 +1,54 @@
+-- `living_until` meets its contract. Assumes nothing.
+use borrow.Author.Needs.{needs}
+use Prim.Native.Nat.{_-_}
+use mathlib.Core.Bool.{false}
+use native.Mathlib.Omega.{arith}
+use Rattle.rows_slide.specs.Slid.{Seen}
+use Rattle.rows_slide.proofs.Sliding.{seen-turn, seen-stop, seen-all}
+use Rattle.rows_slide.proofs.living_until.Statement.{statement}
+use Rattle.rows_slide.proofs.living_until.Tie as tie
+
+abbrev Inv-loop : tie.InvT-loop
+Inv-loop dead i n k₀ k = Seen dead false i n k
+
+abbrev μ-loop : tie.MeasureT-loop
+μ-loop dead i n k₀ k = n - k
+
+living-eights-requires : tie.Need-living-eights-requires Inv-loop μ-loop
+living-eights-requires c κs = search needs
+
+loop-holds : tie.Need-loop-holds Inv-loop μ-loop
+loop-holds c = c .living-eights .ensures
+
+shared-slice-read-if1 : tie.Need-shared-slice-read-if1 Inv-loop μ-loop
+shared-slice-read-if1 c = search needs
+
+returns : tie.Need-returns Inv-loop μ-loop
+returns c = seen-stop (c .before .before .before .loop .inv) (c .if1 .taken)
+
+add-k : tie.Need-add-k Inv-loop μ-loop
+add-k c = search needs
+
+loop-less : tie.Need-loop-less Inv-loop μ-loop
+loop-less c = search needs
+
+loop-again : tie.Need-loop-again Inv-loop μ-loop
+loop-again c = let at = c .before .before .before in seen-turn (at .before .before .before .pre .1) (omega arith) (c .if1 .left) (at .loop .inv)
+
+returns-2 : tie.Need-returns-2 Inv-loop μ-loop
+returns-2 c = seen-all (omega arith) (c .before .loop .inv)
+
+pub living-until-spec : {M : Type 1} → statement M
+living-until-spec =
+    tie.close
+    (tie.spec
+    Inv-loop
+    μ-loop
+    living-eights-requires
+    loop-holds
+    shared-slice-read-if1
+    returns
+    add-k
+    loop-less
+    loop-again
+    returns-2)

@@ -1,0 +1,2 @@
+pub mod Slid
+pub mod Stretches

@@ -1,0 +1,1 @@
+// A run over a script, as the definitions have it: its turns, and how many are enough.

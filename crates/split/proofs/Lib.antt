@@ -1,6 +1,0 @@
-pub mod Arcs
-pub mod Places
-pub mod Parts
-pub mod Bridges
-pub mod Corners
-pub mod Cuts

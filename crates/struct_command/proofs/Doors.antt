@@ -1,0 +1,42 @@
+-- What a call on the arrays that a struct was taken apart into says of the struct. Assumes nothing.
+use Prim.Native.Nat.{ℕ}
+use mathlib.Core.Path.{_≡_, sym, ap, _∙_, subst}
+use mathlib.Core.Bool.{Bool, cond}
+use mathlib.Core.List.{List}
+use lib.Dec.{T}
+use Rattle.complex.specs.Answer.{no, command}
+use Rattle.store.specs.declared.Drawing.{Drawing}
+use Rattle.store.specs.View.{sheetOf}
+use Rattle.sound.specs.Soundness.{soundDrawing}
+use Rattle.answer.specs.declared.Answer.{Answer}
+use Rattle.lent.specs.Arrays.{Arrays, heldBy, soundArrays}
+use Rattle.lent.specs.declared.Line.{Line}
+use Rattle.lent.specs.Replies.{answerBy}
+use Rattle.lent.proofs.Replies.{drawing-of}
+use Rattle.entry_command.specs.Commands.{commandIn, CommandedIn}
+use Rattle.door.specs.Apart.{Apart}
+use Rattle.door.proofs.Sound.{sound-apart}
+use Rattle.struct_command.specs.Entries.{commandOn, Commanded}
+
+module _ (d : Drawing) (a : Arrays) (h : Apart d a) where
+  same-sound : soundArrays a ≡ soundDrawing d
+  same-sound = sound-apart a d (h .rows) (h .held)
+
+  -- what is f of a sound drawing and g of another, asked of the arrays, is asked of the struct
+  pub same-call : {A : Type 0} (f g : Drawing → A)
+      → cond (soundArrays a) (f (heldBy a)) (g (heldBy a)) ≡ cond (soundDrawing d) (f d) (g d)
+  same-call {A} f g =
+      ap (λ (b : Bool). cond b (f (heldBy a)) (g (heldBy a))) same-sound ∙ ap (λ (x : Drawing). cond (soundDrawing d) (f x) (g x)) (h .held)
+
+  command-apart : (bytes : List ℕ) → commandIn a bytes ≡ commandOn d bytes
+  command-apart bytes = same-call (λ x. command (sheetOf x) bytes) (λ x. no 1 (sheetOf x))
+
+  -- the line and the struct that the arrays hold afterwards
+  pub commanded : (bytes : List ℕ) (b : Arrays) (l : Line) (r : Answer) → CommandedIn a bytes b l → r ≡ answerBy l (heldBy b) → Commanded d bytes r
+  commanded bytes b l r o e =
+      subst (Commanded d bytes) (sym e)
+      record {
+        said = o .said ∙ command-apart bytes;
+        back = λ z. ap heldBy (o .back z) ∙ h .held;
+        sound = λ w. drawing-of b (o .sound (subst T (sym same-sound) w));
+      }

@@ -1,3 +1,0 @@
-pub mod Unglues
-pub mod Search
-pub mod Places
