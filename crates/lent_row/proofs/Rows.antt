@@ -13,6 +13,7 @@ use Rattle.complex.specs.Sound.{cellsMost, cyclesMost, stepsMost, bendsMost}
 use Rattle.store.specs.Edits.{placesOf}
 use Rattle.store.proofs.Lists.{sum-more, places-none}
 use Rattle.sound.specs.Rows.{allFrom}
+use Rattle.sound.proofs.Testing.{and-true}
 use Rattle.answer.specs.declared.Totals.{Totals}
 use Rattle.lent.specs.Arrays.{Arrays, positionIn, normalAt}
 use Rattle.lent_table.specs.Table.{Table}
@@ -36,17 +37,17 @@ pub places-more : (l : List ℕ) (i : ℕ) → i < length l → placesUpto l (i 
 places-more l i h = sum-more (placesOf 0) l i 0 h ∙ ap (λ (x : ℕ). placesUpto l i + x) (places-none (getD l i 0))
 
 -- ---- the row i: what is left of its rules after each of them
-abbrev pub afterFigure : Arrays → ℕ → Bool
-afterFigure a i = cyclesRight (rowsIn a) (a .cycles) (a .steps) (placesUpto (a .counts) i) (getD (a .counts) i 0)
-
 abbrev pub afterCycles : Arrays → ℕ → Bool
-afterCycles a i = figureRight (rowsIn a) (take (a .count) (a .bends)) i (positionIn (a .px) (a .py) i) && afterFigure a i
+afterCycles a i = cyclesRight (rowsIn a) (a .cycles) (a .steps) (placesUpto (a .counts) i) (getD (a .counts) i 0)
 
 abbrev pub afterBends : Arrays → ℕ → Bool
 afterBends a i = leb (placesUpto (a .counts) (i + 1)) cyclesMost && afterCycles a i
 
+abbrev pub afterFigure : Arrays → ℕ → Bool
+afterFigure a i = leb (placesUpto (a .bends) (i + 1)) bendsMost && afterBends a i
+
 abbrev pub afterNormal : Arrays → ℕ → Bool
-afterNormal a i = leb (placesUpto (a .bends) (i + 1)) bendsMost && afterBends a i
+afterNormal a i = figureRight (rowsIn a) (take (a .count) (a .bends)) i (positionIn (a .px) (a .py) i) && afterFigure a i
 
 abbrev pub afterId : Arrays → ℕ → Bool
 afterId a i = normalAt (a .kinds) (a .starts) (a .ends) (a .bends) (a .counts) i && afterNormal a i
@@ -91,7 +92,7 @@ module _ (a : Arrays) (i : ℕ) (t : Totals) (u : Upto a i t) (h : i < a .count)
 
   -- the cycles are left
   module _ (c : ℕ) (ec : c ≡ getD (a .counts) i 0)
-      (left : rowRight a i ≡ afterFigure a i) where
+      (left : rowRight a i ≡ afterCycles a i) where
     right-is : rowRight a i ≡ cyclesRight (rowsIn a) (a .cycles) (a .steps) (t .cycles) c
     right-is = left ∙ ap₂ (cyclesRight (rowsIn a) (a .cycles) (a .steps)) (sym cycles-so) (sym ec)
 
@@ -124,5 +125,10 @@ module _ (a : Arrays) (i : ℕ) (t : Totals) (u : Upto a i t) (h : i < a .count)
           ap done (λ j. record { cells = i + 1; cycles = k j; steps = st j; bends = bends-with b eb j })
           ∙ sym (ap said (right-is ∙ d .0))
 
-      pub row-plain : c ≡ 0 → done (record { cells = i + 1; cycles = t .cycles + c; steps = t .steps; bends = t .bends + b }) ≡ said (rowRight a i)
-      row-plain z = row-done (Summed (t .steps)) (none-right z) (t .steps) refl
+      row-none : c ≡ 0 → done (record { cells = i + 1; cycles = t .cycles + c; steps = t .steps; bends = t .bends + b }) ≡ said (rowRight a i)
+      row-none z = row-done (Summed (t .steps)) (none-right z) (t .steps) refl
+
+  -- a row without cycles passes no ceiling of theirs
+  pub row-plain : (c : ℕ) → c ≡ getD (a .counts) i 0 → rowRight a i ≡ afterBends a i → (b : ℕ) → b ≡ getD (a .bends) i 0 → c ≡ 0
+      → done (record { cells = i + 1; cycles = t .cycles + c; steps = t .steps; bends = t .bends + b }) ≡ said (rowRight a i)
+  row-plain c ec left b eb z = row-none c ec (left ∙ and-true _ (cycles-fit c ec (omega (arith, z)))) b eb z

@@ -41,14 +41,14 @@ placesUpto l i = total (placesOf 0) (take i l)
 abbrev pub rowsIn : Arrays → Rows
 rowsIn a = rowsOf (a .count) (a .ids) (a .kinds) (a .starts) (a .ends)
 
--- the row i is right: its id, its normal form, the totals so far, its own rules
+-- the row i is right: its id, its normal form, its own rules, the totals so far, its cycles
 abbrev pub rowRight : Arrays → ℕ → Bool
 rowRight a i =
     idRight (a .next) (a .ids) i
     && (normalAt (a .kinds) (a .starts) (a .ends) (a .bends) (a .counts) i
+    && (figureRight (rowsIn a) (take (a .count) (a .bends)) i (positionIn (a .px) (a .py) i)
     && (leb (placesUpto (a .bends) (i + 1)) bendsMost
     && (leb (placesUpto (a .counts) (i + 1)) cyclesMost
-    && (figureRight (rowsIn a) (take (a .count) (a .bends)) i (positionIn (a .px) (a .py) i)
     && cyclesRight (rowsIn a) (a .cycles) (a .steps) (placesUpto (a .counts) i) (getD (a .counts) i 0)))))
 
 -- ---- the arrays without the bends' places

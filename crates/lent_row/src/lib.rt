@@ -138,6 +138,7 @@ fn figure_right(
 }
 
 // The cell in row i but for the places of its bends, where t are the sums of the rows before it: the sums with it, or its fault.
+// What depends on the kind is asked first, all at once: so the kind is looked at once.
 pub fn row_right(
     next: u32,
     count: usize,
@@ -166,18 +167,15 @@ pub fn row_right(
     if !row_normal(kinds[i], starts[i], ends[i], bends[i], counts[i]) {
         return Row::Fault;
     }
+    let p = lent::vertex_at(px, py, i);
+    if !figure_right(table, ids, kinds, starts, ends, bends, count, i, p) {
+        return Row::Fault;
+    }
     let b = store::wide(bends[i]);
     if BENDS_MOST - t.bends < b {
         return Row::Fault;
     }
     let c = store::wide(counts[i]);
-    if CYCLES_MOST - t.cycles < c {
-        return Row::Fault;
-    }
-    let p = lent::vertex_at(px, py, i);
-    if !figure_right(table, ids, kinds, starts, ends, bends, count, i, p) {
-        return Row::Fault;
-    }
     if c == 0 {
         return Row::Sums(Totals {
             cells: i + 1,
@@ -185,6 +183,9 @@ pub fn row_right(
             steps: t.steps,
             bends: t.bends + b,
         });
+    }
+    if CYCLES_MOST - t.cycles < c {
+        return Row::Fault;
     }
     let Steps::Upto(s) = lent_cycles::cycles_good(
         table,

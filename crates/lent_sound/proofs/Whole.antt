@@ -120,25 +120,26 @@ parts-of a i e =
     let b0 = both-true (rowRight a i) _ e in
     let b1 = both-true (idRight (a .next) (a .ids) i) _ (b0 .0) in
     let b2 = both-true (normalAt (a .kinds) (a .starts) (a .ends) (a .bends) (a .counts) i) _ (b1 .1) in
-    let b3 = both-true (leb (placesUpto (a .bends) (i + 1)) bendsMost) _ (b2 .1) in
-    let b4 = both-true (leb (placesUpto (a .counts) (i + 1)) cyclesMost) _ (b3 .1) in
-    let b5 = both-true (figureRight (rowsIn a) (take (a .count) (a .bends)) i (positionIn (a .px) (a .py) i)) _ (b4 .1) in
-    let f = both-true (rowGood (rowsIn a) (take (a .count) (a .bends)) i) _ (b5 .0) in
+    let b3 = both-true (figureRight (rowsIn a) (take (a .count) (a .bends)) i (positionIn (a .px) (a .py) i)) _ (b2 .1) in
+    let b4 = both-true (leb (placesUpto (a .bends) (i + 1)) bendsMost) _ (b3 .1) in
+    let b5 = both-true (leb (placesUpto (a .counts) (i + 1)) cyclesMost) _ (b4 .1) in
+    let f = both-true (rowGood (rowsIn a) (take (a .count) (a .bends)) i) _ (b3 .0) in
     let k = both-true (leb (stepsUpto (a .cycles) (placesUpto (a .counts) i + getD (a .counts) i 0)) stepsMost) _ (b5 .1) in
-    record { id = b1 .0; row = b2 .0; bendSum = b3 .0; cycleSum = b4 .0; edge = f .0; vertex = f .1; bends = b0 .1; stepSum = k .0; cycles = k .1 }
+    record { id = b1 .0; row = b2 .0; bendSum = b4 .0; cycleSum = b5 .0; edge = f .0; vertex = f .1; bends = b0 .1; stepSum = k .0; cycles = k .1 }
 
 parts-right : (a : Arrays) (i : ℕ) → Parts a i → rightAt true a i ≡ true
 parts-right a i q =
     ap₂ _&&_
-    (ap₂ _&&_ (q .id) (ap₂ _&&_ (q .row) (ap₂ _&&_ (q .bendSum) (ap₂ _&&_ (q .cycleSum)
-    (ap₂ _&&_ (ap₂ _&&_ (q .edge) (q .vertex)) (ap₂ _&&_ (q .stepSum) (q .cycles)))))))
+    (ap₂ _&&_ (q .id) (ap₂ _&&_ (q .row) (ap₂ _&&_ (ap₂ _&&_ (q .edge) (q .vertex))
+    (ap₂ _&&_ (q .bendSum) (ap₂ _&&_ (q .cycleSum) (ap₂ _&&_ (q .stepSum) (q .cycles)))))))
     (q .bends)
 
 row-bends : (a : Arrays) (i : ℕ) → rowRight a i ≡ true → leb (placesUpto (a .bends) (i + 1)) bendsMost ≡ true
 row-bends a i e =
     let b1 = both-true (idRight (a .next) (a .ids) i) _ e in
     let b2 = both-true (normalAt (a .kinds) (a .starts) (a .ends) (a .bends) (a .counts) i) _ (b1 .1) in
-    both-true (leb (placesUpto (a .bends) (i + 1)) bendsMost) _ (b2 .1) .0
+    let b3 = both-true (figureRight (rowsIn a) (take (a .count) (a .bends)) i (positionIn (a .px) (a .py) i)) _ (b2 .1) in
+    both-true (leb (placesUpto (a .bends) (i + 1)) bendsMost) _ (b3 .1) .0
 
 module _ (a : Arrays) (l : Lengths a) where
   held-placed : a .count ≤ cellsMost → allFrom (placedIn a) 0 (a .count) ≡ all cellPlaced (take (a .count) (heldBy a .cells))

@@ -31,23 +31,23 @@ id-good c = c .before .before .before .before .before .before
 abbrev start2 : tie.Else2 → tie.Start
 start2 c = start1 (id-good (c .before))
 
-abbrev row-good : tie.After-wide → tie.Else2
+abbrev row-good : tie.After-figure-right → tie.Else2
 row-good c = c .before .before
 
 abbrev start3 : tie.Else3 → tie.Start
-start3 c = start2 (row-good (c .before .before))
+start3 c = start2 (row-good (c .before))
 
-abbrev bends-good : tie.After-wide2 → tie.Else3
-bends-good c = c .before .before
+abbrev figure-good : tie.After-wide → tie.Else3
+figure-good c = c .before .before
 
 abbrev start4 : tie.Else4 → tie.Start
-start4 c = start3 (bends-good (c .before .before))
+start4 c = start3 (figure-good (c .before .before))
 
-abbrev cycles-good : tie.After-figure-right → tie.Else4
-cycles-good c = c .before .before
+abbrev bends-good : tie.After-wide2 → tie.Else4
+bends-good c = c .before .before
 
-abbrev start5 : tie.Else5 → tie.Start
-start5 c = start4 (cycles-good (c .before))
+abbrev start6 : tie.Else6 → tie.Start
+start6 c = start4 (bends-good (c .before .before .before))
 
 -- ---- what is left then
 left1 : (c : tie.Else1) → rowRight (held (start1 c)) (row (start1 c)) ≡ afterId (held (start1 c)) (row (start1 c))
@@ -56,36 +56,36 @@ left1 c = and-true _ (sym (c .before .id-right .ensures) ∙ not-false _ (c .if1
 left2 : (c : tie.Else2) → rowRight (held (start2 c)) (row (start2 c)) ≡ afterNormal (held (start2 c)) (row (start2 c))
 left2 c = left1 (id-good (c .before)) ∙ and-true _ (sym (c .before .row-normal .ensures) ∙ not-false _ (c .if2 .left))
 
-left3 : (c : tie.Else3) → rowRight (held (start3 c)) (row (start3 c)) ≡ afterBends (held (start3 c)) (row (start3 c))
-left3 c =
-    let s = start3 c in
-    let b = c .before .before in
-    left2 (row-good b) ∙ and-true _ (bends-fit (held s) (row s) (s .args .t) (s .pre .0) (s .pre .1 .1) _ (b .wide .ensures) (c .if3 .left))
-
-left4 : (c : tie.Else4) → rowRight (held (start4 c)) (row (start4 c)) ≡ afterCycles (held (start4 c)) (row (start4 c))
-left4 c =
-    let s = start4 c in
-    let b = c .before .before in
-    left3 (bends-good b) ∙ and-true _ (cycles-fit (held s) (row s) (s .args .t) (s .pre .0) (s .pre .1 .1) _ (b .wide2 .ensures) (c .if4 .left))
-
 -- the figure is asked of the place in the row
 figure-is : (c : tie.After-figure-right) →
-    let s = start4 (cycles-good c) in
+    let s = start2 (row-good c) in
     c .figure-right .result ≡ figureRight (rowsIn (held s)) (take (s .args .count) (s .args .bends .now)) (row s)
     (positionIn (s .args .px .now) (s .args .py .now) (row s))
 figure-is c =
-    let s = start4 (cycles-good c) in
+    let s = start2 (row-good c) in
     c .figure-right .ensures ∙ ap (figureRight (rowsIn (held s)) (take (s .args .count) (s .args .bends .now)) (row s)) (c .before .vertex-at .ensures)
 
-left5 : (c : tie.Else5) → rowRight (held (start5 c)) (row (start5 c)) ≡ afterFigure (held (start5 c)) (row (start5 c))
-left5 c = left4 (cycles-good (c .before)) ∙ and-true _ (sym (figure-is (c .before)) ∙ not-false _ (c .if5 .left))
+left3 : (c : tie.Else3) → rowRight (held (start3 c)) (row (start3 c)) ≡ afterFigure (held (start3 c)) (row (start3 c))
+left3 c = left2 (row-good (c .before)) ∙ and-true _ (sym (figure-is (c .before)) ∙ not-false _ (c .if3 .left))
 
--- the numbers of bends and cycles, after all these
-abbrev counted : tie.Else5 → tie.After-wide2
-counted c = cycles-good (c .before) .before .before
+left4 : (c : tie.Else4) → rowRight (held (start4 c)) (row (start4 c)) ≡ afterBends (held (start4 c)) (row (start4 c))
+left4 c =
+    let s = start4 c in
+    let b = c .before .before in
+    left3 (figure-good b) ∙ and-true _ (bends-fit (held s) (row s) (s .args .t) (s .pre .0) (s .pre .1 .1) _ (b .wide .ensures) (c .if4 .left))
 
-abbrev bent : tie.Else5 → tie.After-wide
-bent c = bends-good (counted c) .before .before
+-- the numbers of cycles and bends, after all these
+abbrev counted : tie.Else6 → tie.After-wide2
+counted c = c .before .before .before
+
+abbrev bent : tie.After-wide2 → tie.After-wide
+bent c = bends-good c .before .before
+
+left6 : (c : tie.Else6) → rowRight (held (start6 c)) (row (start6 c)) ≡ afterCycles (held (start6 c)) (row (start6 c))
+left6 c =
+    let s = start6 c in
+    let w = counted c in
+    left4 (bends-good w) ∙ and-true _ (cycles-fit (held s) (row s) (s .args .t) (s .pre .0) (s .pre .1 .1) _ (w .wide2 .ensures) (c .if6 .left))
 
 -- ---- the needs
 id-right-requires : tie.Need-id-right-requires
@@ -137,6 +137,20 @@ returns-2 c =
     row-fault (held s) (row s) (s .args .t) (s .pre .0) (s .pre .1 .1)
     (left1 (id-good q) ∙ and-false _ (sym (q .row-normal .ensures) ∙ not-true _ (c .if2 .taken)))
 
+vertex-at-requires : tie.Need-vertex-at-requires
+vertex-at-requires c κs = search needs
+
+figure-right-requires : tie.Need-figure-right-requires
+figure-right-requires c κs =
+    let s = start2 (c .before) in
+    (looked (held s) (row s) (s .args .t) (s .pre .0) (s .pre .1 .1) _ (s .pre .1 .0), (s .pre .0 .long .bends, s .pre .1 .1))
+
+returns-3 : tie.Need-returns-3
+returns-3 c =
+    let q = c .before in
+    let s = start2 (row-good q) in
+    row-fault (held s) (row s) (s .args .t) (s .pre .0) (s .pre .1 .1) (left2 (row-good q) ∙ and-false _ (sym (figure-is q) ∙ not-true _ (c .if3 .taken)))
+
 mul-wide : tie.Need-mul-wide
 mul-wide c = search needs
 
@@ -146,15 +160,15 @@ element-copy-out-wide c = search needs
 wide-requires : tie.Need-wide-requires
 wide-requires c κs = search needs
 
-sub-if3 : tie.Need-sub-if3
-sub-if3 c = search needs
+sub-if4 : tie.Need-sub-if4
+sub-if4 c = search needs
 
-returns-3 : tie.Need-returns-3
-returns-3 c =
+returns-4 : tie.Need-returns-4
+returns-4 c =
     let q = c .before .before in
-    let s = start2 (row-good q) in
+    let s = start3 (figure-good q) in
     row-fault (held s) (row s) (s .args .t) (s .pre .0) (s .pre .1 .1)
-    (left2 (row-good q) ∙ and-false _ (bends-over (held s) (row s) (s .args .t) (s .pre .0) (s .pre .1 .1) _ (q .wide .ensures) (c .if3 .taken)))
+    (left3 (figure-good q) ∙ and-false _ (bends-over (held s) (row s) (s .args .t) (s .pre .0) (s .pre .1 .1) _ (q .wide .ensures) (c .if4 .taken)))
 
 mul-wide-2 : tie.Need-mul-wide-2
 mul-wide-2 c = search needs
@@ -165,33 +179,9 @@ element-copy-out-wide-2 c = search needs
 wide-requires-2 : tie.Need-wide-requires-2
 wide-requires-2 c κs = search needs
 
-sub-if4 : tie.Need-sub-if4
-sub-if4 c = search needs
-
-returns-4 : tie.Need-returns-4
-returns-4 c =
-    let q = c .before .before in
-    let s = start3 (bends-good q) in
-    row-fault (held s) (row s) (s .args .t) (s .pre .0) (s .pre .1 .1)
-    (left3 (bends-good q) ∙ and-false _ (cycles-over (held s) (row s) (s .args .t) (s .pre .0) (s .pre .1 .1) _ (q .wide2 .ensures) (c .if4 .taken)))
-
-vertex-at-requires : tie.Need-vertex-at-requires
-vertex-at-requires c κs = search needs
-
-figure-right-requires : tie.Need-figure-right-requires
-figure-right-requires c κs =
-    let s = start4 (c .before) in
-    (looked (held s) (row s) (s .args .t) (s .pre .0) (s .pre .1 .1) _ (s .pre .1 .0), (s .pre .0 .long .bends, s .pre .1 .1))
-
-returns-5 : tie.Need-returns-5
-returns-5 c =
-    let q = c .before in
-    let s = start4 (cycles-good q) in
-    row-fault (held s) (row s) (s .args .t) (s .pre .0) (s .pre .1 .1) (left4 (cycles-good q) ∙ and-false _ (sym (figure-is q) ∙ not-true _ (c .if5 .taken)))
-
 add-t46 : tie.Need-add-t46
 add-t46 c =
-    let s = start5 (c .before) in
+    let s = start4 (bends-good (c .before)) in
     record { fits = omega (arith, row-in (held s) (row s) (s .args .t) (s .pre .0) (s .pre .1 .1)) }
 
 add-t47 : tie.Need-add-t47
@@ -200,24 +190,30 @@ add-t47 c = search needs
 add-t48 : tie.Need-add-t48
 add-t48 c = search needs
 
+returns-5 : tie.Need-returns-5
+returns-5 c =
+    let w = c .before .before .before in
+    let s = start4 (bends-good w) in
+    row-plain (held s) (row s) (s .args .t) (s .pre .0) (s .pre .1 .1) _ (w .wide2 .ensures) (left4 (bends-good w)) _ (bent w .wide .ensures)
+    (c .before .before .if5 .taken)
+
+sub-if6 : tie.Need-sub-if6
+sub-if6 c = omega (arith, start4 (bends-good (c .before .before)) .pre .0 .cycles)
+
 returns-6 : tie.Need-returns-6
 returns-6 c =
-    let q = c .before .before .before in
-    let s = start5 q in
-    row-plain (held s) (row s) (s .args .t) (s .pre .0) (s .pre .1 .1) _ (counted q .wide2 .ensures) (left5 q) _ (bent q .wide .ensures)
-    (c .before .before .if6 .taken)
+    let w = c .before .before .before in
+    let s = start4 (bends-good w) in
+    row-fault (held s) (row s) (s .args .t) (s .pre .0) (s .pre .1 .1)
+    (left4 (bends-good w) ∙ and-false _ (cycles-over (held s) (row s) (s .args .t) (s .pre .0) (s .pre .1 .1) _ (w .wide2 .ensures) (c .if6 .taken)))
 
 cycles-good-requires : tie.Need-cycles-good-requires
 cycles-good-requires c κs =
-    let q = c .before in
-    let s = start5 q in
+    let s = start6 c in
     let u = s .pre .0 in
     let h = s .pre .1 .1 in (
       looked (held s) (row s) (s .args .t) u h _ (s .pre .1 .0),
-      (
-        u .long .cycles,
-        (u .long .steps, (omega (arith, cycles-good (q .before) .if4 .left, u .cycles), (steps-so (held s) (row s) (s .args .t) u h, u .steps))),
-      ),
+      (u .long .cycles, (u .long .steps, (omega (arith, c .if6 .left, u .cycles), (steps-so (held s) (row s) (s .args .t) u h, u .steps)))),
     )
 
 enum-known-s : tie.Need-enum-known-s
@@ -229,32 +225,29 @@ enum-told c = search needs
 returns-7 : tie.Need-returns-7
 returns-7 c =
     let w = c .before .before in
-    let q = w .before .before in
-    let s = start5 q in
-    row-stop (held s) (row s) (s .args .t) (s .pre .0) (s .pre .1 .1) _ (counted q .wide2 .ensures) (left5 q) _ (w .cycles-good .ensures)
+    let q = w .before in
+    let s = start6 q in
+    row-stop (held s) (row s) (s .args .t) (s .pre .0) (s .pre .1 .1) _ (counted q .wide2 .ensures) (left6 q) _ (w .cycles-good .ensures)
     (c .enum-told .given .1)
-
-add-t22 : tie.Need-add-t22
-add-t22 c =
-    let s = start5 (c .before .before .before .before .before) in
-    record { fits = omega (arith, row-in (held s) (row s) (s .args .t) (s .pre .0) (s .pre .1 .1)) }
-
-add-t26 : tie.Need-add-t26
-add-t26 c = search needs
 
 add-t30 : tie.Need-add-t30
 add-t30 c =
-    let q = c .before .before .before .before .before .before .before in
-    let s = start5 q in
-    record { fits = omega (arith, bends-good (counted q) .if3 .left, s .pre .0 .bends) }
+    let s = start6 (c .before .before .before .before) in
+    record { fits = omega (arith, row-in (held s) (row s) (s .args .t) (s .pre .0) (s .pre .1 .1)) }
+
+add-t34 : tie.Need-add-t34
+add-t34 c = search needs
+
+add-t26 : tie.Need-add-t26
+add-t26 c = search needs
 
 returns-8 : tie.Need-returns-8
 returns-8 c =
     let k = c .before .before .before in
     let w = k .before .before in
-    let q = w .before .before in
-    let s = start5 q in
-    row-done (held s) (row s) (s .args .t) (s .pre .0) (s .pre .1 .1) _ (counted q .wide2 .ensures) (left5 q) _ (bent q .wide .ensures) _
+    let q = w .before in
+    let s = start6 q in
+    row-done (held s) (row s) (s .args .t) (s .pre .0) (s .pre .1 .1) _ (counted q .wide2 .ensures) (left6 q) _ (bent (counted q) .wide .ensures) _
     (w .cycles-good .ensures) _ (k .s .given .1)
 
 pub row-right-spec : {M : Type 1} → statement M
@@ -275,28 +268,28 @@ row-right-spec =
     element-copy-out-row-normal-5
     row-normal-requires
     returns-2
+    vertex-at-requires
+    figure-right-requires
+    returns-3
     mul-wide
     element-copy-out-wide
     wide-requires
-    sub-if3
-    returns-3
+    sub-if4
+    returns-4
     mul-wide-2
     element-copy-out-wide-2
     wide-requires-2
-    sub-if4
-    returns-4
-    vertex-at-requires
-    figure-right-requires
-    returns-5
     add-t46
     add-t47
     add-t48
+    returns-5
+    sub-if6
     returns-6
     cycles-good-requires
     enum-known-s
     enum-told
     returns-7
-    add-t22
-    add-t26
     add-t30
+    add-t34
+    add-t26
     returns-8)
