@@ -7,16 +7,14 @@ use Rattle.number.specs.Said.{Said, done, no}
 use Rattle.complex.specs.Uncut.{Uncut, twoFaces, oneCycle, rings}
 use Rattle.ask_uncut_uses.specs.declared.Use.{Use}
 use Rattle.ask_uncut_uses.specs.declared.Uses.{Uses}
-use Rattle.ask_uncut_uses.specs.Uses.{useAt}
+use Rattle.ask_uncut_uses.specs.Uses.{useAt, caseOf}
 use Rattle.ask_uncut.specs.declared.AtEdge.{AtEdge}
-use Rattle.ask_uncut.specs.declared.AtEdge.the-variants.{Refused as Neither, TwoFaces, OneCycle, Rings}
+use Rattle.ask_uncut.specs.declared.AtEdge.the-variants.{Refused as Neither, Used}
 
 -- the cases of `AtEdge` at the edge e: 0 with a case of 0E, or 6
 abbrev pub edgeSays : ℕ → AtEdge → Said Uncut
 edgeSays e Neither = no 6
-edgeSays e (TwoFaces u w) = done (twoFaces (useAt e u) (useAt e w))
-edgeSays e (OneCycle u w) = done (oneCycle (useAt e u) (useAt e w))
-edgeSays e (Rings u w) = done (rings (useAt e u) (useAt e w))
+edgeSays e (Used k u w) = done (caseOf k (useAt e u) (useAt e w))
 
 -- whatever the edge's id is, r says f of it
 abbrev pub EdgeSays : AtEdge → (ℕ → Said Uncut) → Type 0

@@ -1,15 +1,14 @@
 ghost use mathlib.Core.Bool.{cond};
 ghost use Rattle.ask_uncut.specs.Cases.{EdgeSays, openPair, openCase, closedPair, closedCase};
 use ask_uncut_ends::AtVertex;
+use ask_uncut_uses::Between;
 use ask_uncut_uses::Use;
 use ask_uncut_uses::Uses;
 
-// Which case of an edge holds: between two faces, in one cycle, or as a ring between two faces.
+// Which case of an edge holds: how its two uses lie.
 pub enum AtEdge {
     Refused,
-    TwoFaces(Use, Use),
-    OneCycle(Use, Use),
-    Rings(Use, Use),
+    Used(Between, Use, Use),
 }
 
 // What stands at a cell: no vertex and no edge, or the case there.
@@ -31,13 +30,13 @@ fn open_pair(u: Use, w: Use) -> AtEdge
             let b = w.cycle;
             if a == b {
                 if u.back {
-                    return AtEdge::OneCycle(u, w);
+                    return AtEdge::Used(Between::OneCycle, u, w);
                 }
-                return AtEdge::OneCycle(w, u);
+                return AtEdge::Used(Between::OneCycle, w, u);
             }
             return AtEdge::Refused;
         }
-        return AtEdge::TwoFaces(u, w);
+        return AtEdge::Used(Between::TwoFaces, u, w);
     }
     AtEdge::Refused
 }
@@ -52,7 +51,7 @@ fn closed_pair(u: Use, w: Use) -> AtEdge
         if f == g {
             return AtEdge::Refused;
         }
-        return AtEdge::Rings(u, w);
+        return AtEdge::Used(Between::Rings, u, w);
     }
     AtEdge::Refused
 }

@@ -8,10 +8,13 @@ use lib.ListN.{length, take, drop}
 use Rattle.complex.specs.Lists.{total}
 use Rattle.complex.specs.Cells.{Cycle}
 use Rattle.complex.specs.Uses.{cycleUses, Use as Used}
+use Rattle.complex.specs.Uncut.{Uncut, twoFaces, oneCycle, rings}
 use Rattle.store.specs.Edits.{placesOf}
 use Rattle.store.specs.View.{widthSum}
 use Rattle.ask_uncut_uses.specs.declared.Use.{Use}
 use Rattle.ask_uncut_uses.specs.declared.Uses.{Uses}
+use Rattle.ask_uncut_uses.specs.declared.Between.{Between}
+use Rattle.ask_uncut_uses.specs.declared.Between.the-variants.{TwoFaces, OneCycle, Rings}
 
 abbrev pub useOf : Used → Use
 useOf u = record { face = u .face; cycle = u .cycle; step = u .step; back = u .halfedge .backward }
@@ -19,6 +22,12 @@ useOf u = record { face = u .face; cycle = u .cycle; step = u .step; back = u .h
 -- a use of the edge e, in the definitions' words
 abbrev pub useAt : ℕ → Use → Used
 useAt e u = record { face = u .face; cycle = u .cycle; step = u .step; halfedge = record { edge = e; backward = u .back } }
+
+-- the case of 0E at an edge by its two uses
+abbrev pub caseOf : Between → Used → Used → Uncut
+caseOf TwoFaces u w = twoFaces u w
+caseOf OneCycle u w = oneCycle u w
+caseOf Rings u w = rings u w
 
 abbrev pub noUse : Use
 noUse = record { face = 0; cycle = 0; step = 0; back = false }

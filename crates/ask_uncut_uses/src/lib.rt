@@ -15,6 +15,13 @@ pub struct Use {
     pub back: bool,
 }
 
+// How the two uses of an edge lie that can be uncut: of an open edge in two faces or in one cycle, of a closed one in two faces.
+pub enum Between {
+    TwoFaces,
+    OneCycle,
+    Rings,
+}
+
 // How many uses, 3 for more than 2, and the first two.
 pub struct Uses {
     pub count: usize,

@@ -5,7 +5,7 @@ use mathlib.Core.Path.{_≡_, refl, ap, subst, _∙_}
 use lib.ListN.{length, replicate, length-replicate}
 use Rattle.complex.specs.Cells.{Sheet}
 use Rattle.complex.specs.Decode.{Command, uncut}
-use Rattle.complex.specs.Uncut.{Uncut, twoFaces, oneCycle, rings, uncutCase, uncutResult}
+use Rattle.complex.specs.Uncut.{uncutCase, uncutResult}
 use Rattle.store.specs.declared.Drawing.{Drawing}
 use Rattle.store.specs.Sizes.{Sizes}
 use Rattle.store.specs.View.{sheetOf, Fits}
@@ -14,11 +14,13 @@ use Rattle.answer.specs.declared.Answer.{Answer}
 use Rattle.answer.specs.declared.Totals.{Totals}
 use Rattle.answer.specs.Answers.{outcome, Counts, Answers}
 use Rattle.answer.specs.Late.{sizesBy, lateNo}
+use Rattle.rows_corners.specs.Faces.{Roomy}
 use Rattle.ask_uncut_uses.specs.declared.Use.{Use}
-use Rattle.ask_uncut_uses.specs.Uses.{useAt}
-use Rattle.law_uncut_edge.specs.Needs.{Case, Takes}
-use Rattle.law_uncut_edge.proofs.Answering.{two-case, two-takes, two-counts, two-answers, ring-case, ring-takes, ring-counts, ring-answers}
-use Rattle.law_uncut_edge.proofs.Answering.{one-refuses, one-case, one-takes, one-counts, one-answers}
+use Rattle.ask_uncut_uses.specs.declared.Between.{Between}
+use Rattle.ask_uncut_uses.specs.declared.Between.the-variants.{TwoFaces, OneCycle, Rings}
+use Rattle.ask_uncut_uses.specs.Uses.{useAt, caseOf}
+use Rattle.law_uncut_edge.specs.Needs.{moreCycles, Case, Takes, TakesBy}
+use Rattle.law_uncut_edge.proofs.Answering.{takes-by, refuses-by, case-by, counts-by, answers-by}
 use Rattle.lent.specs.Arrays.{Arrays, heldBy, rowsBy}
 use Rattle.lent.specs.declared.Line.{Line}
 use Rattle.lent.specs.Replies.{lineOf, answerBy, Ready, Obeyed, Holds}
@@ -45,82 +47,64 @@ module _ (a : Arrays) (s : Sheet) (out : Arrays) (en : out .next ≡ a .next) (H
 pub after : {s x : Sheet} {b : Arrays} → s ≡ x → Holds s b → Holds x b
 after {s} {x} {b} e h = subst (λ (y : Sheet). Holds y b) e h
 
--- what a case that holds in sound arrays leads to, where their sums are t
-pub record Leads (a : Arrays) (t : Totals) (e : ℕ) (k : Uncut) : Type 0 where
-  pub is : Case (heldBy a) (rowsBy a) e k
-  pub takes : (n m : ℕ) → n ≤ 512 → m ≤ 2048 → t .cycles < n → t .steps ≤ m → Takes n m (uncutResult (sheetOf (heldBy a)) e k)
-  pub fewer : (out : Arrays) → out .next ≡ a .next → Holds (uncutResult (sheetOf (heldBy a)) e k) out → out .count ≤ a .count
-  pub obeyed : (out : Arrays) → out .next ≡ a .next → Holds (uncutResult (sheetOf (heldBy a)) e k) out
-      → (l : Line) → l ≡ lessLine (a .count - out .count) → Obeyed a (uncut e) out l
-
--- new arrays with room for the result: small ones where the drawing has few cycles and steps, and large ones
+-- ---- new arrays with room for the result: small ones where the drawing has few cycles and steps, and large ones
 abbrev ofSize : ℕ → ℕ
 ofSize n = length (replicate {A = ℕ} n 0)
 
-module _ {a : Arrays} {t : Totals} {e : ℕ} {k : Uncut} (l : Leads a t e k) where
-  pub small : (t .cycles < 32) × (t .steps ≤ 128) → Takes (ofSize 32) (ofSize 128) (uncutResult (sheetOf (heldBy a)) e k)
-  small h =
-      let en = length-replicate {A = ℕ} 32 0 in
-      let em = length-replicate {A = ℕ} 128 0 in
-      let c = h .0 in
-      let s = h .1 in
-      l .takes (ofSize 32) (ofSize 128) (omega arith) (omega arith) (omega arith) (omega arith)
+pub small : {t : Totals} {s : Sheet} → TakesBy t s → (t .cycles < 32) × (t .steps ≤ 128) → Takes (ofSize 32) (ofSize 128) s
+small {t} {s} l h =
+    let en = length-replicate {A = ℕ} 32 0 in
+    let em = length-replicate {A = ℕ} 128 0 in
+    let c = h .0 in
+    let m = h .1 in
+    l .takes (ofSize 32) (ofSize 128) (omega arith) (omega arith) (omega arith) (omega arith)
 
-  pub large : Takes (ofSize 512) (ofSize 2048) (uncutResult (sheetOf (heldBy a)) e k)
-  large =
-      let en = length-replicate {A = ℕ} 512 0 in
-      let em = length-replicate {A = ℕ} 2048 0 in
-      let r = l .is .room in
-      record { fewCounts = omega arith; fewSteps = omega arith; cycles = omega (arith, r .cycles); steps = omega (arith, r .steps) }
+pub large : {s : Sheet} → Roomy s → Takes (ofSize 512) (ofSize 2048) s
+large {s} r =
+    let en = length-replicate {A = ℕ} 512 0 in
+    let em = length-replicate {A = ℕ} 2048 0 in
+    record { fewCounts = omega arith; fewSteps = omega arith; cycles = omega (arith, r .cycles); steps = omega (arith, r .steps) }
 
-module _ (a : Arrays) (t : Totals) (y : Ready a t) (e : ℕ) (u w : Use) where
-  pub two-leads : uncutCase (sheetOf (heldBy a)) e ≡ twoFaces (useAt e u) (useAt e w) → Leads a t e (twoFaces (useAt e u) (useAt e w))
-  two-leads h =
-      let z = ready-sizes a t y in
-      let s = ready-drawing a t y in
-      let x = ready-indexes a t y in
-      record {
-        is = two-case (heldBy a) z s (rowsBy a) x e u w h;
-        takes = two-takes (heldBy a) z s (rowsBy a) x e u w h t (ready-totals a t y);
-        fewer = λ out en H. no-more a _ out en H (two-counts (heldBy a) z s (rowsBy a) x e u w h);
-        obeyed = λ out en H. obeyed-gone a _ out en H (uncut e) (two-answers (heldBy a) z s (rowsBy a) x e u w h);
-      }
+most-one : (k : Between) → moreCycles k ≤ 1
+most-one TwoFaces = omega arith
+most-one OneCycle = omega arith
+most-one Rings = omega arith
 
-  pub ring-leads : uncutCase (sheetOf (heldBy a)) e ≡ rings (useAt e u) (useAt e w) → Leads a t e (rings (useAt e u) (useAt e w))
-  ring-leads h =
-      let z = ready-sizes a t y in
-      let s = ready-drawing a t y in
-      let x = ready-indexes a t y in
-      record {
-        is = ring-case (heldBy a) z s (rowsBy a) x e u w h;
-        takes = ring-takes (heldBy a) z s (rowsBy a) x e u w h t (ready-totals a t y);
-        fewer = λ out en H. no-more a _ out en H (ring-counts (heldBy a) z s (rowsBy a) x e u w h);
-        obeyed = λ out en H. obeyed-gone a _ out en H (uncut e) (ring-answers (heldBy a) z s (rowsBy a) x e u w h);
-      }
+pub few-more : (k : Between) (n : ℕ) → n ≡ moreCycles k → n ≤ 4294967296
+few-more k n e = let m = most-one k in omega (arith, e)
 
-  -- of the sizes only the number of cycles grows
-  module _ (h : uncutCase (sheetOf (heldBy a)) e ≡ oneCycle (useAt e u) (useAt e w)) (r : ℕ)
-      (er : r ≡ lateNo (a .next) 0 (changedBy (sizesBy t) (moreLess (sized 0 1 0 0) nothing))) where
-    pub one-no : (r ≡ 0 → ⊥) → (l : Line) → l ≡ lineOf r → Obeyed a (uncut e) a l
-    one-no n l el =
+-- ---- the case of e by its two uses, and what `late_no` says
+module _ (a : Arrays) (t : Totals) (y : Ready a t) (e : ℕ) (k : Between) (u w : Use)
+    (h : uncutCase (sheetOf (heldBy a)) e ≡ caseOf k (useAt e u) (useAt e w)) where
+  pub room-by : TakesBy t (uncutResult (sheetOf (heldBy a)) e (caseOf k (useAt e u) (useAt e w)))
+  room-by = takes-by (heldBy a) (ready-sizes a t y) (ready-drawing a t y) (rowsBy a) (ready-indexes a t y) e k u w h t (ready-totals a t y)
+
+  module _ (n : ℕ) (en : n ≡ moreCycles k) (r : ℕ) (er : r ≡ lateNo (a .next) 0 (changedBy (sizesBy t) (moreLess (sized 0 n 0 0) nothing))) where
+    late-is : r ≡ lateNo (a .next) 0 (changedBy (sizesBy t) (moreLess (sized 0 (moreCycles k) 0 0) nothing))
+    late-is = er ∙ ap (λ (m : ℕ). lateNo (a .next) 0 (changedBy (sizesBy t) (moreLess (sized 0 m 0 0) nothing))) en
+
+    pub edge-no : (r ≡ 0 → ⊥) → (l : Line) → l ≡ lineOf r → Obeyed a (uncut e) a l
+    edge-no q l el =
         record {
           answers =
-              one-refuses (heldBy a) (ready-sizes a t y) (ready-drawing a t y) (rowsBy a) (ready-indexes a t y) e u w h t (ready-totals a t y)
-              r er n (answerBy l (heldBy a))
-              (ap (λ (k : Line). answerBy k (heldBy a)) el);
+              refuses-by (heldBy a) (ready-sizes a t y) (ready-drawing a t y) (rowsBy a) (ready-indexes a t y) e k u w h t (ready-totals a t y)
+              r late-is q (answerBy l (heldBy a))
+              (ap (λ (v : Line). answerBy v (heldBy a)) el);
           back = λ z. refl;
           rows = ready-rows a t y;
         }
 
-    pub one-leads : r ≡ 0 → Leads a t e (oneCycle (useAt e u) (useAt e w))
-    one-leads o =
-        let z = ready-sizes a t y in
-        let s = ready-drawing a t y in
-        let x = ready-indexes a t y in
-        let q = ready-totals a t y in
-        record {
-          is = one-case (heldBy a) z s (rowsBy a) x e u w h t q r er o;
-          takes = one-takes (heldBy a) z s (rowsBy a) x e u w h t q r er;
-          fewer = λ out en H. no-more a _ out en H (one-counts (heldBy a) z s (rowsBy a) x e u w h t q r er o);
-          obeyed = λ out en H. obeyed-gone a _ out en H (uncut e) (one-answers (heldBy a) z s (rowsBy a) x e u w h t q r er o);
-        }
+    module _ (o : r ≡ 0) where
+      pub case-is : Case (heldBy a) (rowsBy a) e (caseOf k (useAt e u) (useAt e w))
+      case-is = case-by (heldBy a) (ready-sizes a t y) (ready-drawing a t y) (rowsBy a) (ready-indexes a t y) e k u w h t (ready-totals a t y) r late-is o
+
+      module _ (out : Arrays) (q : out .next ≡ a .next) (H : Holds (uncutResult (sheetOf (heldBy a)) e (caseOf k (useAt e u) (useAt e w))) out) where
+        pub fewer : out .count ≤ a .count
+        fewer =
+            no-more a _ out q H
+            (counts-by (heldBy a) (ready-sizes a t y) (ready-drawing a t y) (rowsBy a) (ready-indexes a t y) e k u w h t (ready-totals a t y) r late-is o)
+
+        pub edge-obeyed : (l : Line) → l ≡ lessLine (a .count - out .count) → Obeyed a (uncut e) out l
+        edge-obeyed =
+            obeyed-gone a _ out q H (uncut e)
+            (answers-by (heldBy a) (ready-sizes a t y) (ready-drawing a t y) (rowsBy a) (ready-indexes a t y) e k u w h t (ready-totals a t y) r late-is o)

@@ -1,26 +1,109 @@
 ghost use mathlib.Core.Path.{_≡_};
 ghost use mathlib.Core.Bool.{true};
-ghost use mathlib.Core.List.{[]};
 ghost use Prim.Native.Nat.{_-_, _<_, _≤_};
 ghost use lib.ListN.{length};
-ghost use Rattle.complex.specs.Cells.{face, cellAt};
-ghost use Rattle.complex.specs.Edits.{neither, replaced, rebuild};
+ghost use Rattle.complex.specs.Cells.{cellAt};
 ghost use Rattle.complex.specs.Decode.{uncut};
-ghost use Rattle.complex.specs.Uncut.{uncutCase, uncutResult, twoFaces, oneCycle, rings};
+ghost use Rattle.complex.specs.Uncut.{uncutCase, uncutResult};
 ghost use Rattle.complex.specs.Sound.{cellsMost};
 ghost use Rattle.store.specs.View.{sheetOf};
-ghost use Rattle.rows_spans.specs.Building.{Built, built};
-ghost use Rattle.ask_uncut_uses.specs.Uses.{useAt};
-ghost use Rattle.law_uncut_edge.specs.Needs.{joinedCycles, partedCycles, ringlessCycles, Case, Takes, Going};
-ghost use Rattle.lent.specs.Arrays.{heldBy, rowsBy, normal, Lengths, lent, entry, exit};
+ghost use Rattle.rows_spans.specs.Building.{Built};
+ghost use Rattle.ask_uncut_uses.specs.Uses.{useAt, caseOf};
+ghost use Rattle.law_uncut_edge.specs.Needs.{leftCycles, goneWith, moreCycles, Case, Takes, TakesBy};
+ghost use Rattle.lent.specs.Arrays.{heldBy, rowsBy, lent, entry, exit};
 ghost use Rattle.lent.specs.Replies.{Ready, Obeyed, Holds};
 use answer::Totals;
+use ask_uncut_uses::Between;
 use ask_uncut_uses::Use;
 use lent::Line;
 use rows_spans::Used;
 
-// The cells i and j go, and the face f gets the cycles of a list.
-fn without_cells(
+// The cycles that are left to the face of u.
+fn left(
+    next: u32,
+    count: usize,
+    ids: &[u32; 256],
+    kinds: &[u32; 256],
+    starts: &[u32; 256],
+    ends: &[u32; 256],
+    bends: &[u32; 256],
+    counts: &[u32; 256],
+    px: &[f64; 256],
+    py: &[f64; 256],
+    cycles: &[u32; 512],
+    steps: &[u32; 2048],
+    bx: &[f64; 2048],
+    by: &[f64; 2048],
+    t: Totals,
+    e: u32,
+    k: Between,
+    u: Use,
+    w: Use,
+    numbers: &mut [u32],
+    places: &mut [u32],
+) -> Used
+    requires { ⌜ Ready (lent next count ids kinds starts ends bends counts px py cycles steps bx by) t ⌝ }
+    requires { ⌜ Case (heldBy (lent next count ids kinds starts ends bends counts px py cycles steps bx by)) (rowsBy (lent next count ids kinds starts ends bends counts px py cycles steps bx by)) e (caseOf k (useAt e u) (useAt e w)) ⌝ }
+    requires { ⌜ Takes (length (now numbers)) (length (now places)) (uncutResult (sheetOf (heldBy (lent next count ids kinds starts ends bends counts px py cycles steps bx by))) e (caseOf k (useAt e u) (useAt e w))) ⌝ }
+    ensures { λ r. ⌜ Built (leftCycles k (cellAt (sheetOf (heldBy (entry next count ids kinds starts ends bends counts px py cycles steps bx by)))) (useAt e u) (useAt e w)) (now (numbers .exit)) r (now (places .exit)) ⌝ }
+{
+    let p = kernel_places::place_of(count, ids, counts, cycles, t, u.face, u.cycle);
+    let q = kernel_places::place_of(count, ids, counts, cycles, t, w.face, w.cycle);
+    let v = kernel_places::head_of(count, ids, starts, ends, e, u.back);
+    let x = kernel_places::head_of(count, ids, starts, ends, e, w.back);
+    let s = u.step;
+    let z = w.step;
+    match k {
+        Between::TwoFaces => kernel_paths::merged_cycles(
+            cycles,
+            steps,
+            p,
+            s,
+            q,
+            z,
+            v,
+            numbers,
+            places,
+        ),
+        Between::OneCycle => kernel_paths::parted_cycles(
+            cycles,
+            steps,
+            p,
+            s,
+            z,
+            v,
+            x,
+            numbers,
+            places,
+        ),
+        Between::Rings => kernel_paths::ringed_cycles(cycles, steps, p, q, numbers, places),
+    }
+}
+
+// The cell that goes with the edge e: the other face g, or none but e.
+fn gone_with(k: Between, e: u32, g: u32) -> u32
+    ensures { λ r. ⌜ r ≡ goneWith k e g ⌝ }
+{
+    match k {
+        Between::TwoFaces => g,
+        Between::OneCycle => e,
+        Between::Rings => g,
+    }
+}
+
+// By how many the cycles become more: in one cycle by one.
+fn more_cycles(k: Between) -> usize
+    ensures { λ r. ⌜ r ≡ moreCycles k ⌝ }
+{
+    match k {
+        Between::TwoFaces => 0,
+        Between::OneCycle => 1,
+        Between::Rings => 0,
+    }
+}
+
+// The edge e goes, with the face of w if that is another, and the face of u has the cycles that are left. How many rows there are then.
+fn take_out(
     next: u32,
     count: usize,
     ids: &mut [u32; 256],
@@ -35,19 +118,44 @@ fn without_cells(
     steps: &mut [u32; 2048],
     bx: &mut [f64; 2048],
     by: &mut [f64; 2048],
-    i: u32,
-    j: u32,
-    f: u32,
-    numbers: &[u32],
-    places: &[u32],
-    u: Used,
+    t: Totals,
+    e: u32,
+    k: Between,
+    u: Use,
+    w: Use,
+    numbers: &mut [u32],
+    places: &mut [u32],
 ) -> usize
-    requires { ⌜ Going (heldBy (lent next count ids kinds starts ends bends counts px py cycles steps bx by)) (rowsBy (lent next count ids kinds starts ends bends counts px py cycles steps bx by)) i j f (now numbers) u (now places) ⌝ }
-    requires { ⌜ Lengths (lent next count ids kinds starts ends bends counts px py cycles steps bx by) ⌝ }
-    requires { ⌜ normal (lent next count ids kinds starts ends bends counts px py cycles steps bx by) ≡ true ⌝ }
-    ensures { λ r. ⌜ Holds (rebuild (neither i j) (replaced f (face (built (now (numbers .entry)) u (now (places .entry))))) [] (sheetOf (heldBy (entry next count ids kinds starts ends bends counts px py cycles steps bx by)))) (exit next r ids kinds starts ends bends counts px py cycles steps bx by) ⌝ }
+    requires { ⌜ Ready (lent next count ids kinds starts ends bends counts px py cycles steps bx by) t ⌝ }
+    requires { ⌜ Case (heldBy (lent next count ids kinds starts ends bends counts px py cycles steps bx by)) (rowsBy (lent next count ids kinds starts ends bends counts px py cycles steps bx by)) e (caseOf k (useAt e u) (useAt e w)) ⌝ }
+    requires { ⌜ Takes (length (now numbers)) (length (now places)) (uncutResult (sheetOf (heldBy (lent next count ids kinds starts ends bends counts px py cycles steps bx by))) e (caseOf k (useAt e u) (useAt e w))) ⌝ }
+    ensures { λ r. ⌜ Holds (uncutResult (sheetOf (heldBy (entry next count ids kinds starts ends bends counts px py cycles steps bx by))) e (caseOf k (useAt e u) (useAt e w))) (exit next r ids kinds starts ends bends counts px py cycles steps bx by) ⌝ }
 {
-    let a = store::find(ids, count, i);
+    let l = left(
+        next,
+        count,
+        ids,
+        kinds,
+        starts,
+        ends,
+        bends,
+        counts,
+        px,
+        py,
+        cycles,
+        steps,
+        bx,
+        by,
+        t,
+        e,
+        k,
+        u,
+        w,
+        numbers,
+        places,
+    );
+    let j = gone_with(k, e, w.face);
+    let a = store::find(ids, count, e);
     let b = store::find(ids, count, j);
     kernel_reface::reface(
         next,
@@ -64,14 +172,102 @@ fn without_cells(
         steps,
         bx,
         by,
-        i,
+        e,
         a,
         j,
         b,
-        f,
+        u.face,
         numbers,
         places,
+        l,
+    )
+}
+
+// Whether arrays of 32 counts and 128 steps have room for the cycles of a drawing, and a cycle more.
+fn few(t: Totals) -> bool
+    ensures { λ r. ⌜ (r ≡ true → (t .cycles < 32) × (t .steps ≤ 128)) ⌝ }
+{
+    t.cycles < 32 && t.steps <= 128
+}
+
+// The same with room for the list, as small as may be.
+fn with_room(
+    next: u32,
+    count: usize,
+    ids: &mut [u32; 256],
+    kinds: &mut [u32; 256],
+    starts: &mut [u32; 256],
+    ends: &mut [u32; 256],
+    bends: &mut [u32; 256],
+    counts: &mut [u32; 256],
+    px: &mut [f64; 256],
+    py: &mut [f64; 256],
+    cycles: &mut [u32; 512],
+    steps: &mut [u32; 2048],
+    bx: &mut [f64; 2048],
+    by: &mut [f64; 2048],
+    t: Totals,
+    e: u32,
+    k: Between,
+    u: Use,
+    w: Use,
+) -> usize
+    requires { ⌜ Ready (lent next count ids kinds starts ends bends counts px py cycles steps bx by) t ⌝ }
+    requires { ⌜ Case (heldBy (lent next count ids kinds starts ends bends counts px py cycles steps bx by)) (rowsBy (lent next count ids kinds starts ends bends counts px py cycles steps bx by)) e (caseOf k (useAt e u) (useAt e w)) ⌝ }
+    requires { ⌜ TakesBy t (uncutResult (sheetOf (heldBy (lent next count ids kinds starts ends bends counts px py cycles steps bx by))) e (caseOf k (useAt e u) (useAt e w))) ⌝ }
+    ensures { λ r. ⌜ Holds (uncutResult (sheetOf (heldBy (entry next count ids kinds starts ends bends counts px py cycles steps bx by))) e (caseOf k (useAt e u) (useAt e w))) (exit next r ids kinds starts ends bends counts px py cycles steps bx by) ⌝ }
+{
+    if few(t) {
+        let mut numbers = [0u32; 32];
+        let mut places = [0u32; 128];
+        return take_out(
+            next,
+            count,
+            ids,
+            kinds,
+            starts,
+            ends,
+            bends,
+            counts,
+            px,
+            py,
+            cycles,
+            steps,
+            bx,
+            by,
+            t,
+            e,
+            k,
+            u,
+            w,
+            &mut numbers,
+            &mut places,
+        );
+    }
+    let mut numbers = [0u32; 512];
+    let mut places = [0u32; 2048];
+    take_out(
+        next,
+        count,
+        ids,
+        kinds,
+        starts,
+        ends,
+        bends,
+        counts,
+        px,
+        py,
+        cycles,
+        steps,
+        bx,
+        by,
+        t,
+        e,
+        k,
         u,
+        w,
+        &mut numbers,
+        &mut places,
     )
 }
 
@@ -90,125 +286,8 @@ fn gone(n: usize, k: usize) -> Line
     }
 }
 
-// Whether arrays of 32 counts and 128 steps have room for the cycles of a drawing, and a cycle more.
-fn few(t: Totals) -> bool
-    ensures { λ r. ⌜ (r ≡ true → (t .cycles < 32) × (t .steps ≤ 128)) ⌝ }
-{
-    t.cycles < 32 && t.steps <= 128
-}
-
-// ---- an open edge between two faces
-
-// The cycles of both faces.
-fn joined(
-    next: u32,
-    count: usize,
-    ids: &[u32; 256],
-    kinds: &[u32; 256],
-    starts: &[u32; 256],
-    ends: &[u32; 256],
-    bends: &[u32; 256],
-    counts: &[u32; 256],
-    px: &[f64; 256],
-    py: &[f64; 256],
-    cycles: &[u32; 512],
-    steps: &[u32; 2048],
-    bx: &[f64; 2048],
-    by: &[f64; 2048],
-    t: Totals,
-    e: u32,
-    u: Use,
-    w: Use,
-    numbers: &mut [u32],
-    places: &mut [u32],
-) -> Used
-    requires { ⌜ Ready (lent next count ids kinds starts ends bends counts px py cycles steps bx by) t ⌝ }
-    requires { ⌜ Case (heldBy (lent next count ids kinds starts ends bends counts px py cycles steps bx by)) (rowsBy (lent next count ids kinds starts ends bends counts px py cycles steps bx by)) e (twoFaces (useAt e u) (useAt e w)) ⌝ }
-    requires { ⌜ Takes (length (now numbers)) (length (now places)) (uncutResult (sheetOf (heldBy (lent next count ids kinds starts ends bends counts px py cycles steps bx by))) e (twoFaces (useAt e u) (useAt e w))) ⌝ }
-    ensures { λ r. ⌜ Built (joinedCycles (cellAt (sheetOf (heldBy (entry next count ids kinds starts ends bends counts px py cycles steps bx by)))) (useAt e u) (useAt e w)) (now (numbers .exit)) r (now (places .exit)) ⌝ }
-{
-    let p = kernel_places::place_of(count, ids, counts, cycles, t, u.face, u.cycle);
-    let q = kernel_places::place_of(count, ids, counts, cycles, t, w.face, w.cycle);
-    let v = kernel_places::head_of(count, ids, starts, ends, e, u.back);
-    kernel_paths::merged_cycles(cycles, steps, p, u.step, q, w.step, v, numbers, places)
-}
-
-// The edge e goes with the face of w, and the face of u has the cycles of both.
-fn join_faces(
-    next: u32,
-    count: usize,
-    ids: &mut [u32; 256],
-    kinds: &mut [u32; 256],
-    starts: &mut [u32; 256],
-    ends: &mut [u32; 256],
-    bends: &mut [u32; 256],
-    counts: &mut [u32; 256],
-    px: &mut [f64; 256],
-    py: &mut [f64; 256],
-    cycles: &mut [u32; 512],
-    steps: &mut [u32; 2048],
-    bx: &mut [f64; 2048],
-    by: &mut [f64; 2048],
-    t: Totals,
-    e: u32,
-    u: Use,
-    w: Use,
-    numbers: &mut [u32],
-    places: &mut [u32],
-) -> usize
-    requires { ⌜ Ready (lent next count ids kinds starts ends bends counts px py cycles steps bx by) t ⌝ }
-    requires { ⌜ Case (heldBy (lent next count ids kinds starts ends bends counts px py cycles steps bx by)) (rowsBy (lent next count ids kinds starts ends bends counts px py cycles steps bx by)) e (twoFaces (useAt e u) (useAt e w)) ⌝ }
-    requires { ⌜ Takes (length (now numbers)) (length (now places)) (uncutResult (sheetOf (heldBy (lent next count ids kinds starts ends bends counts px py cycles steps bx by))) e (twoFaces (useAt e u) (useAt e w))) ⌝ }
-    ensures { λ r. ⌜ Holds (uncutResult (sheetOf (heldBy (entry next count ids kinds starts ends bends counts px py cycles steps bx by))) e (twoFaces (useAt e u) (useAt e w))) (exit next r ids kinds starts ends bends counts px py cycles steps bx by) ⌝ }
-{
-    let l = joined(
-        next,
-        count,
-        ids,
-        kinds,
-        starts,
-        ends,
-        bends,
-        counts,
-        px,
-        py,
-        cycles,
-        steps,
-        bx,
-        by,
-        t,
-        e,
-        u,
-        w,
-        numbers,
-        places,
-    );
-    without_cells(
-        next,
-        count,
-        ids,
-        kinds,
-        starts,
-        ends,
-        bends,
-        counts,
-        px,
-        py,
-        cycles,
-        steps,
-        bx,
-        by,
-        e,
-        w.face,
-        u.face,
-        numbers,
-        places,
-        l,
-    )
-}
-
-// The result is never too large.
-pub fn two_faces(
+// 0E at the edge e by its two uses. Of the sizes only the number of cycles can grow.
+pub fn uncut_edge(
     next: &mut u32,
     count: &mut usize,
     ids: &mut [u32; 256],
@@ -225,221 +304,19 @@ pub fn two_faces(
     by: &mut [f64; 2048],
     t: Totals,
     e: u32,
+    k: Between,
     u: Use,
     w: Use,
 ) -> Line
     requires { ⌜ Ready (lent (now next) (now count) ids kinds starts ends bends counts px py cycles steps bx by) t ⌝ }
-    requires { ⌜ uncutCase (sheetOf (heldBy (lent (now next) (now count) ids kinds starts ends bends counts px py cycles steps bx by))) e ≡ twoFaces (useAt e u) (useAt e w) ⌝ }
-    ensures { λ r. ⌜ Obeyed (entry (now (next .entry)) (now (count .entry)) ids kinds starts ends bends counts px py cycles steps bx by) (uncut e) (exit (now (next .exit)) (now (count .exit)) ids kinds starts ends bends counts px py cycles steps bx by) r ⌝ }
-{
-    let id = *next;
-    let n = *count;
-    if few(t) {
-        let mut numbers = [0u32; 32];
-        let mut places = [0u32; 128];
-        let k = join_faces(
-            id,
-            n,
-            ids,
-            kinds,
-            starts,
-            ends,
-            bends,
-            counts,
-            px,
-            py,
-            cycles,
-            steps,
-            bx,
-            by,
-            t,
-            e,
-            u,
-            w,
-            &mut numbers,
-            &mut places,
-        );
-        *count = k;
-        return gone(n, k);
-    }
-    let mut numbers = [0u32; 512];
-    let mut places = [0u32; 2048];
-    let k = join_faces(
-        id,
-        n,
-        ids,
-        kinds,
-        starts,
-        ends,
-        bends,
-        counts,
-        px,
-        py,
-        cycles,
-        steps,
-        bx,
-        by,
-        t,
-        e,
-        u,
-        w,
-        &mut numbers,
-        &mut places,
-    );
-    *count = k;
-    gone(n, k)
-}
-
-// ---- an open edge with both steps in one cycle
-
-// The cycles of the face, with two in the place of one.
-fn parted(
-    next: u32,
-    count: usize,
-    ids: &[u32; 256],
-    kinds: &[u32; 256],
-    starts: &[u32; 256],
-    ends: &[u32; 256],
-    bends: &[u32; 256],
-    counts: &[u32; 256],
-    px: &[f64; 256],
-    py: &[f64; 256],
-    cycles: &[u32; 512],
-    steps: &[u32; 2048],
-    bx: &[f64; 2048],
-    by: &[f64; 2048],
-    t: Totals,
-    e: u32,
-    u: Use,
-    w: Use,
-    numbers: &mut [u32],
-    places: &mut [u32],
-) -> Used
-    requires { ⌜ Ready (lent next count ids kinds starts ends bends counts px py cycles steps bx by) t ⌝ }
-    requires { ⌜ Case (heldBy (lent next count ids kinds starts ends bends counts px py cycles steps bx by)) (rowsBy (lent next count ids kinds starts ends bends counts px py cycles steps bx by)) e (oneCycle (useAt e u) (useAt e w)) ⌝ }
-    requires { ⌜ Takes (length (now numbers)) (length (now places)) (uncutResult (sheetOf (heldBy (lent next count ids kinds starts ends bends counts px py cycles steps bx by))) e (oneCycle (useAt e u) (useAt e w))) ⌝ }
-    ensures { λ r. ⌜ Built (partedCycles (cellAt (sheetOf (heldBy (entry next count ids kinds starts ends bends counts px py cycles steps bx by)))) (useAt e u) (useAt e w)) (now (numbers .exit)) r (now (places .exit)) ⌝ }
-{
-    let p = kernel_places::place_of(count, ids, counts, cycles, t, u.face, u.cycle);
-    let here = kernel_places::head_of(count, ids, starts, ends, e, u.back);
-    let last = kernel_places::head_of(count, ids, starts, ends, e, w.back);
-    kernel_paths::parted_cycles(
-        cycles,
-        steps,
-        p,
-        u.step,
-        w.step,
-        here,
-        last,
-        numbers,
-        places,
-    )
-}
-
-// The edge e goes, and its face has two cycles in the place of one.
-fn part_cycle(
-    next: u32,
-    count: usize,
-    ids: &mut [u32; 256],
-    kinds: &mut [u32; 256],
-    starts: &mut [u32; 256],
-    ends: &mut [u32; 256],
-    bends: &mut [u32; 256],
-    counts: &mut [u32; 256],
-    px: &mut [f64; 256],
-    py: &mut [f64; 256],
-    cycles: &mut [u32; 512],
-    steps: &mut [u32; 2048],
-    bx: &mut [f64; 2048],
-    by: &mut [f64; 2048],
-    t: Totals,
-    e: u32,
-    u: Use,
-    w: Use,
-    numbers: &mut [u32],
-    places: &mut [u32],
-) -> usize
-    requires { ⌜ Ready (lent next count ids kinds starts ends bends counts px py cycles steps bx by) t ⌝ }
-    requires { ⌜ Case (heldBy (lent next count ids kinds starts ends bends counts px py cycles steps bx by)) (rowsBy (lent next count ids kinds starts ends bends counts px py cycles steps bx by)) e (oneCycle (useAt e u) (useAt e w)) ⌝ }
-    requires { ⌜ Takes (length (now numbers)) (length (now places)) (uncutResult (sheetOf (heldBy (lent next count ids kinds starts ends bends counts px py cycles steps bx by))) e (oneCycle (useAt e u) (useAt e w))) ⌝ }
-    ensures { λ r. ⌜ Holds (uncutResult (sheetOf (heldBy (entry next count ids kinds starts ends bends counts px py cycles steps bx by))) e (oneCycle (useAt e u) (useAt e w))) (exit next r ids kinds starts ends bends counts px py cycles steps bx by) ⌝ }
-{
-    let l = parted(
-        next,
-        count,
-        ids,
-        kinds,
-        starts,
-        ends,
-        bends,
-        counts,
-        px,
-        py,
-        cycles,
-        steps,
-        bx,
-        by,
-        t,
-        e,
-        u,
-        w,
-        numbers,
-        places,
-    );
-    without_cells(
-        next,
-        count,
-        ids,
-        kinds,
-        starts,
-        ends,
-        bends,
-        counts,
-        px,
-        py,
-        cycles,
-        steps,
-        bx,
-        by,
-        e,
-        e,
-        u.face,
-        numbers,
-        places,
-        l,
-    )
-}
-
-// Of the sizes only the number of cycles grows, by one.
-pub fn one_cycle(
-    next: &mut u32,
-    count: &mut usize,
-    ids: &mut [u32; 256],
-    kinds: &mut [u32; 256],
-    starts: &mut [u32; 256],
-    ends: &mut [u32; 256],
-    bends: &mut [u32; 256],
-    counts: &mut [u32; 256],
-    px: &mut [f64; 256],
-    py: &mut [f64; 256],
-    cycles: &mut [u32; 512],
-    steps: &mut [u32; 2048],
-    bx: &mut [f64; 2048],
-    by: &mut [f64; 2048],
-    t: Totals,
-    e: u32,
-    u: Use,
-    w: Use,
-) -> Line
-    requires { ⌜ Ready (lent (now next) (now count) ids kinds starts ends bends counts px py cycles steps bx by) t ⌝ }
-    requires { ⌜ uncutCase (sheetOf (heldBy (lent (now next) (now count) ids kinds starts ends bends counts px py cycles steps bx by))) e ≡ oneCycle (useAt e u) (useAt e w) ⌝ }
+    requires { ⌜ uncutCase (sheetOf (heldBy (lent (now next) (now count) ids kinds starts ends bends counts px py cycles steps bx by))) e ≡ caseOf k (useAt e u) (useAt e w) ⌝ }
     ensures { λ r. ⌜ Obeyed (entry (now (next .entry)) (now (count .entry)) ids kinds starts ends bends counts px py cycles steps bx by) (uncut e) (exit (now (next .exit)) (now (count .exit)) ids kinds starts ends bends counts px py cycles steps bx by) r ⌝ }
 {
     let id = *next;
     let n = *count;
     let more = Totals {
         cells: 0,
-        cycles: 1,
+        cycles: more_cycles(k),
         steps: 0,
         bends: 0,
     };
@@ -453,37 +330,7 @@ pub fn one_cycle(
     if no != 0 {
         return lent::line_of(no);
     }
-    if few(t) {
-        let mut numbers = [0u32; 32];
-        let mut places = [0u32; 128];
-        let k = part_cycle(
-            id,
-            n,
-            ids,
-            kinds,
-            starts,
-            ends,
-            bends,
-            counts,
-            px,
-            py,
-            cycles,
-            steps,
-            bx,
-            by,
-            t,
-            e,
-            u,
-            w,
-            &mut numbers,
-            &mut places,
-        );
-        *count = k;
-        return gone(n, k);
-    }
-    let mut numbers = [0u32; 512];
-    let mut places = [0u32; 2048];
-    let k = part_cycle(
+    let left = with_room(
         id,
         n,
         ids,
@@ -500,203 +347,10 @@ pub fn one_cycle(
         by,
         t,
         e,
+        k,
         u,
         w,
-        &mut numbers,
-        &mut places,
     );
-    *count = k;
-    gone(n, k)
-}
-
-// ---- a closed edge between two faces
-
-// The cycles of both faces, without those of the edge.
-fn ringless(
-    next: u32,
-    count: usize,
-    ids: &[u32; 256],
-    kinds: &[u32; 256],
-    starts: &[u32; 256],
-    ends: &[u32; 256],
-    bends: &[u32; 256],
-    counts: &[u32; 256],
-    px: &[f64; 256],
-    py: &[f64; 256],
-    cycles: &[u32; 512],
-    steps: &[u32; 2048],
-    bx: &[f64; 2048],
-    by: &[f64; 2048],
-    t: Totals,
-    e: u32,
-    u: Use,
-    w: Use,
-    numbers: &mut [u32],
-    places: &mut [u32],
-) -> Used
-    requires { ⌜ Ready (lent next count ids kinds starts ends bends counts px py cycles steps bx by) t ⌝ }
-    requires { ⌜ Case (heldBy (lent next count ids kinds starts ends bends counts px py cycles steps bx by)) (rowsBy (lent next count ids kinds starts ends bends counts px py cycles steps bx by)) e (rings (useAt e u) (useAt e w)) ⌝ }
-    requires { ⌜ Takes (length (now numbers)) (length (now places)) (uncutResult (sheetOf (heldBy (lent next count ids kinds starts ends bends counts px py cycles steps bx by))) e (rings (useAt e u) (useAt e w))) ⌝ }
-    ensures { λ r. ⌜ Built (ringlessCycles (cellAt (sheetOf (heldBy (entry next count ids kinds starts ends bends counts px py cycles steps bx by)))) (useAt e u) (useAt e w)) (now (numbers .exit)) r (now (places .exit)) ⌝ }
-{
-    let p = kernel_places::place_of(count, ids, counts, cycles, t, u.face, u.cycle);
-    let q = kernel_places::place_of(count, ids, counts, cycles, t, w.face, w.cycle);
-    kernel_paths::ringed_cycles(cycles, steps, p, q, numbers, places)
-}
-
-// The closed edge e goes with the face of w, and the face of u has the cycles of both that are not of e.
-fn join_ringless(
-    next: u32,
-    count: usize,
-    ids: &mut [u32; 256],
-    kinds: &mut [u32; 256],
-    starts: &mut [u32; 256],
-    ends: &mut [u32; 256],
-    bends: &mut [u32; 256],
-    counts: &mut [u32; 256],
-    px: &mut [f64; 256],
-    py: &mut [f64; 256],
-    cycles: &mut [u32; 512],
-    steps: &mut [u32; 2048],
-    bx: &mut [f64; 2048],
-    by: &mut [f64; 2048],
-    t: Totals,
-    e: u32,
-    u: Use,
-    w: Use,
-    numbers: &mut [u32],
-    places: &mut [u32],
-) -> usize
-    requires { ⌜ Ready (lent next count ids kinds starts ends bends counts px py cycles steps bx by) t ⌝ }
-    requires { ⌜ Case (heldBy (lent next count ids kinds starts ends bends counts px py cycles steps bx by)) (rowsBy (lent next count ids kinds starts ends bends counts px py cycles steps bx by)) e (rings (useAt e u) (useAt e w)) ⌝ }
-    requires { ⌜ Takes (length (now numbers)) (length (now places)) (uncutResult (sheetOf (heldBy (lent next count ids kinds starts ends bends counts px py cycles steps bx by))) e (rings (useAt e u) (useAt e w))) ⌝ }
-    ensures { λ r. ⌜ Holds (uncutResult (sheetOf (heldBy (entry next count ids kinds starts ends bends counts px py cycles steps bx by))) e (rings (useAt e u) (useAt e w))) (exit next r ids kinds starts ends bends counts px py cycles steps bx by) ⌝ }
-{
-    let l = ringless(
-        next,
-        count,
-        ids,
-        kinds,
-        starts,
-        ends,
-        bends,
-        counts,
-        px,
-        py,
-        cycles,
-        steps,
-        bx,
-        by,
-        t,
-        e,
-        u,
-        w,
-        numbers,
-        places,
-    );
-    without_cells(
-        next,
-        count,
-        ids,
-        kinds,
-        starts,
-        ends,
-        bends,
-        counts,
-        px,
-        py,
-        cycles,
-        steps,
-        bx,
-        by,
-        e,
-        w.face,
-        u.face,
-        numbers,
-        places,
-        l,
-    )
-}
-
-// The result is never too large.
-pub fn rings(
-    next: &mut u32,
-    count: &mut usize,
-    ids: &mut [u32; 256],
-    kinds: &mut [u32; 256],
-    starts: &mut [u32; 256],
-    ends: &mut [u32; 256],
-    bends: &mut [u32; 256],
-    counts: &mut [u32; 256],
-    px: &mut [f64; 256],
-    py: &mut [f64; 256],
-    cycles: &mut [u32; 512],
-    steps: &mut [u32; 2048],
-    bx: &mut [f64; 2048],
-    by: &mut [f64; 2048],
-    t: Totals,
-    e: u32,
-    u: Use,
-    w: Use,
-) -> Line
-    requires { ⌜ Ready (lent (now next) (now count) ids kinds starts ends bends counts px py cycles steps bx by) t ⌝ }
-    requires { ⌜ uncutCase (sheetOf (heldBy (lent (now next) (now count) ids kinds starts ends bends counts px py cycles steps bx by))) e ≡ rings (useAt e u) (useAt e w) ⌝ }
-    ensures { λ r. ⌜ Obeyed (entry (now (next .entry)) (now (count .entry)) ids kinds starts ends bends counts px py cycles steps bx by) (uncut e) (exit (now (next .exit)) (now (count .exit)) ids kinds starts ends bends counts px py cycles steps bx by) r ⌝ }
-{
-    let id = *next;
-    let n = *count;
-    if few(t) {
-        let mut numbers = [0u32; 32];
-        let mut places = [0u32; 128];
-        let k = join_ringless(
-            id,
-            n,
-            ids,
-            kinds,
-            starts,
-            ends,
-            bends,
-            counts,
-            px,
-            py,
-            cycles,
-            steps,
-            bx,
-            by,
-            t,
-            e,
-            u,
-            w,
-            &mut numbers,
-            &mut places,
-        );
-        *count = k;
-        return gone(n, k);
-    }
-    let mut numbers = [0u32; 512];
-    let mut places = [0u32; 2048];
-    let k = join_ringless(
-        id,
-        n,
-        ids,
-        kinds,
-        starts,
-        ends,
-        bends,
-        counts,
-        px,
-        py,
-        cycles,
-        steps,
-        bx,
-        by,
-        t,
-        e,
-        u,
-        w,
-        &mut numbers,
-        &mut places,
-    );
-    *count = k;
-    gone(n, k)
+    *count = left;
+    gone(n, left)
 }

@@ -12,7 +12,8 @@ use Rattle.complex.specs.Cells.{Figure, Sheet, cellAt}
 use Rattle.complex.specs.Edits.{rebuild}
 use Rattle.complex.specs.Sound.{idsEnd, cellsMost, cyclesMost, stepsMost, bendsMost}
 use Rattle.complex.specs.Decode.{uncut}
-use Rattle.complex.specs.Uncut.{Uncut, twoFaces, oneCycle, rings, uncutCase, uncutResult, allowed, cycleOfUse}
+use Rattle.complex.specs.Uses.{Use as Used}
+use Rattle.complex.specs.Uncut.{Uncut, uncutCase, uncutResult, allowed, cycleOfUse}
 use Rattle.answer.specs.Sizes.{SheetSizes as Counted, Change, sized, nothing, moreLess, changedBy, sizesFit, sizesOf, sizesAfter, aloneLeft, newByUncut, uncutChange}
 use Rattle.store.specs.declared.Drawing.{Drawing}
 use Rattle.store.specs.declared.Index.{Index}
@@ -35,8 +36,11 @@ use Rattle.law_uncut.proofs.Passing.{uncut-passed, uncut-result}
 use Rattle.answer.proofs.SizesUncut.{uncut-new, uncut-change, uncut-sizes}
 use Rattle.answer.proofs.Asked.{Asked, asked-six, sound-in, next-in, refuses, room, counts-done, answers, asked-of}
 use Rattle.ask_uncut_uses.specs.declared.Use.{Use}
-use Rattle.ask_uncut_uses.specs.Uses.{useAt}
-use Rattle.law_uncut_edge.specs.Needs.{Case, Takes}
+use Rattle.ask_uncut_uses.specs.declared.Between.{Between}
+use Rattle.ask_uncut_uses.specs.declared.Between.the-variants.{TwoFaces, OneCycle, Rings}
+use Rattle.ask_uncut_uses.specs.Uses.{useAt, caseOf}
+use Rattle.law_uncut_edge.specs.Needs.{moreCycles, Case, Takes, TakesBy}
+use Rattle.law_uncut_edge.proofs.Results.{result-is}
 
 alone-least : (n : ℕ) → aloneLeft n ≤ 1
 alone-least n = go (eqb n 0)
@@ -145,95 +149,81 @@ module _ (d : Drawing) (z : Sizes d) (w : T (soundDrawing d)) (ix : Index) (x : 
         let rs = ap (λ (v : Counted). v .steps) sizes-left in
         record { fewCounts = hn; fewSteps = hm; cycles = omega arith; steps = omega (arith, l .steps) }
 
-    -- where nothing grows, both questions get a yes
-    pub no-more : Lessens change → change .more .cycles ≤ change .less .cycles → late change ≡ 0
-    no-more l m =
-        late-is change l
-        ∙ ap (λ (b : Bool). cond b 0 8) (le-leb (own .cycles + change .more .cycles - change .less .cycles) cyclesMost (let f = own-few in omega (arith, f .cycles)))
+-- ---- by the two uses: only the cycles can become more
+lessens : (k : Between) (s : Sheet) (e : ℕ) (u w : Used) → Lessens (uncutChange s e (caseOf k u w))
+lessens TwoFaces s e u w =
+    let a = alone-least (length (cycleOfUse (cellAt s) u) + length (cycleOfUse (cellAt s) w) - 2) in
+    record { cells = omega arith; steps = omega arith; bends = omega arith }
+lessens OneCycle s e u w =
+    let n = length (cycleOfUse (cellAt s) u) in
+    let a = alone-least (distance n (suc (u .step)) (w .step)) in
+    let b = alone-least (distance n (suc (w .step)) (u .step)) in
+    record { cells = omega arith; steps = omega arith; bends = omega arith }
+lessens Rings s e u w = record { cells = omega arith; steps = omega arith; bends = omega arith }
 
--- ---- a case between two faces
-module _ (d : Drawing) (z : Sizes d) (t : T (soundDrawing d)) (ix : Index) (x : Indexes d ix) (e : ℕ) (u w : Use) where
-  module _ (h : uncutCase (sheetOf d) e ≡ twoFaces (useAt e u) (useAt e w)) where
-    abbrev between-two : Uncut
-    between-two = twoFaces (useAt e u) (useAt e w)
+one-more : (k : Between) (s : Sheet) (e : ℕ) (u w : Used) → uncutChange s e (caseOf k u w) .more .cycles ≤ uncutChange s e (caseOf k u w) .less .cycles + 1
+one-more TwoFaces s e u w = omega arith
+one-more OneCycle s e u w = omega arith
+one-more Rings s e u w = omega arith
 
-    two-lessens : Lessens (uncutChange (sheetOf d) e between-two)
-    two-lessens =
-        let a = alone-least (length (cycleOfUse (cellAt (sheetOf d)) (useAt e u)) + length (cycleOfUse (cellAt (sheetOf d)) (useAt e w)) - 2) in
-        record { cells = omega arith; steps = omega arith; bends = omega arith }
+both-fit : (a b : ℕ) → a ≤ cyclesMost → b ≤ cyclesMost → leb a cyclesMost ≡ leb b cyclesMost
+both-fit a b h g = le-leb a cyclesMost h ∙ sym (le-leb b cyclesMost g)
 
-    two-none : late d z t ix x (uncutChange (sheetOf d) e between-two) ≡ 0
-    two-none = no-more d z t ix x e between-two h refl refl two-lessens (omega arith)
+-- the cycles fit by the change if and only if they fit with as many more
+fits-alike : (k : Between) (s : Sheet) (e : ℕ) (u w : Used) (n : ℕ) → n ≤ cyclesMost
+    → leb (n + moreCycles k - 0) cyclesMost ≡ leb (n + uncutChange s e (caseOf k u w) .more .cycles - uncutChange s e (caseOf k u w) .less .cycles) cyclesMost
+fits-alike TwoFaces s e u w n h = both-fit (n + 0 - 0) (n + 0 - 1) (omega arith) (omega arith)
+fits-alike OneCycle s e u w n h = refl
+fits-alike Rings s e u w n h = both-fit (n + 0 - 0) (n + 0 - 2) (omega arith) (omega arith)
 
-    pub two-takes : (o : Totals) → o ≡ own d z t ix x → (n m : ℕ) → n ≤ 512 → m ≤ 2048 → o .cycles < n → o .steps ≤ m
-        → Takes n m (uncutResult (sheetOf d) e between-two)
-    two-takes = takes-few d z t ix x e between-two h refl refl two-lessens (omega arith)
+may : (k : Between) (u w : Used) → allowed (caseOf k u w) ≡ true
+may TwoFaces u w = refl
+may OneCycle u w = refl
+may Rings u w = refl
 
-    pub two-case : Case d ix e between-two
-    two-case = case-of d z t ix x e between-two h refl refl _ refl two-none _ _ refl
+none-new : (k : Between) (u w : Used) → newByUncut (caseOf k u w) ≡ 0
+none-new TwoFaces u w = refl
+none-new OneCycle u w = refl
+none-new Rings u w = refl
 
-    module _ (out : Drawing) (zo : Sizes out) (fo : Fits out) (v : sheetOf out ≡ uncutResult (sheetOf d) e between-two) where
-      pub two-counts : Counts (d .next) (d .count) out
-      two-counts = counts-of d z t ix x e between-two h refl refl _ refl two-none out zo fo v
+module _ (d : Drawing) (z : Sizes d) (t : T (soundDrawing d)) (ix : Index) (x : Indexes d ix) (e : ℕ) (k : Between) (u w : Use)
+    (h : uncutCase (sheetOf d) e ≡ caseOf k (useAt e u) (useAt e w)) (o : Totals) (eo : o ≡ own d z t ix x) where
+  abbrev this : Uncut
+  this = caseOf k (useAt e u) (useAt e w)
 
-      pub two-answers : (o : Answer) → o ≡ outcome (d .next) (d .count) out → Answers d (uncut e) o
-      two-answers = answers-of d z t ix x e between-two h refl refl _ refl two-none out zo fo v
+  abbrev may-this : allowed (caseOf k (useAt e u) (useAt e w)) ≡ true
+  may-this = may k (useAt e u) (useAt e w)
 
-  module _ (h : uncutCase (sheetOf d) e ≡ rings (useAt e u) (useAt e w)) where
-    abbrev ring-between : Uncut
-    ring-between = rings (useAt e u) (useAt e w)
+  abbrev no-new : newByUncut (caseOf k (useAt e u) (useAt e w)) ≡ 0
+  no-new = none-new k (useAt e u) (useAt e w)
 
-    ring-lessens : Lessens (uncutChange (sheetOf d) e ring-between)
-    ring-lessens = record { cells = omega arith; steps = omega arith; bends = omega arith }
+  pub takes-by : TakesBy o (uncutResult (sheetOf d) e this)
+  takes-by =
+      record {
+        takes =
+            takes-few d z t ix x e this h may-this no-new (lessens k (sheetOf d) e (useAt e u) (useAt e w)) (one-more k (sheetOf d) e (useAt e u) (useAt e w)) o eo;
+      }
 
-    ring-none : late d z t ix x (uncutChange (sheetOf d) e ring-between) ≡ 0
-    ring-none = no-more d z t ix x e ring-between h refl refl ring-lessens (omega arith)
+  -- what `late_no` says of so many cycles more
+  module _ (r : ℕ) (er : r ≡ lateNo (d .next) 0 (changedBy (sizesBy o) (moreLess (sized 0 (moreCycles k) 0 0) nothing))) where
+    late-by : r ≡ late d z t ix x (uncutChange (sheetOf d) e this)
+    late-by =
+        let f = own-few d z t ix x in
+        er ∙ ap (λ (y : Totals). lateNo (d .next) 0 (changedBy (sizesBy y) (moreLess (sized 0 (moreCycles k) 0 0) nothing))) eo
+        ∙ late-is d z t ix x (moreLess (sized 0 (moreCycles k) 0 0) nothing) (record { cells = omega arith; steps = omega arith; bends = omega arith })
+        ∙ ap (λ (b : Bool). cond b 0 8) (fits-alike k (sheetOf d) e (useAt e u) (useAt e w) (own d z t ix x .cycles) (f .cycles))
+        ∙ sym (late-is d z t ix x (uncutChange (sheetOf d) e this) (lessens k (sheetOf d) e (useAt e u) (useAt e w)))
 
-    pub ring-takes : (o : Totals) → o ≡ own d z t ix x → (n m : ℕ) → n ≤ 512 → m ≤ 2048 → o .cycles < n → o .steps ≤ m
-        → Takes n m (uncutResult (sheetOf d) e ring-between)
-    ring-takes = takes-few d z t ix x e ring-between h refl refl ring-lessens (omega arith)
-
-    pub ring-case : Case d ix e ring-between
-    ring-case = case-of d z t ix x e ring-between h refl refl _ refl ring-none _ _ refl
-
-    module _ (out : Drawing) (zo : Sizes out) (fo : Fits out) (v : sheetOf out ≡ uncutResult (sheetOf d) e ring-between) where
-      pub ring-counts : Counts (d .next) (d .count) out
-      ring-counts = counts-of d z t ix x e ring-between h refl refl _ refl ring-none out zo fo v
-
-      pub ring-answers : (o : Answer) → o ≡ outcome (d .next) (d .count) out → Answers d (uncut e) o
-      ring-answers = answers-of d z t ix x e ring-between h refl refl _ refl ring-none out zo fo v
-
-  -- ---- in one cycle: only the cycles can become too many, by one
-  module _ (h : uncutCase (sheetOf d) e ≡ oneCycle (useAt e u) (useAt e w)) (o : Totals) (eo : o ≡ own d z t ix x) (r : ℕ) (er : r ≡ lateNo (d .next) 0 (changedBy (sizesBy o) (moreLess (sized 0 1 0 0) nothing))) where
-    abbrev in-one : Uncut
-    in-one = oneCycle (useAt e u) (useAt e w)
-
-    one-lessens : Lessens (uncutChange (sheetOf d) e in-one)
-    one-lessens =
-        let n = length (cycleOfUse (cellAt (sheetOf d)) (useAt e u)) in
-        let a = alone-least (distance n (suc (u .step)) (w .step)) in
-        let b = alone-least (distance n (suc (w .step)) (u .step)) in
-        record { cells = omega arith; steps = omega arith; bends = omega arith }
-
-    pub one-takes : (n m : ℕ) → n ≤ 512 → m ≤ 2048 → o .cycles < n → o .steps ≤ m → Takes n m (uncutResult (sheetOf d) e in-one)
-    one-takes = takes-few d z t ix x e in-one h refl refl one-lessens (omega arith) o eo
-
-    one-late : r ≡ late d z t ix x (uncutChange (sheetOf d) e in-one)
-    one-late =
-        er ∙ ap (λ (y : Totals). lateNo (d .next) 0 (changedBy (sizesBy y) (moreLess (sized 0 1 0 0) nothing))) eo
-        ∙ late-is d z t ix x (moreLess (sized 0 1 0 0) nothing) (record { cells = omega arith; steps = omega arith; bends = omega arith })
-        ∙ sym (late-is d z t ix x (uncutChange (sheetOf d) e in-one) one-lessens)
-
-    pub one-refuses : (r ≡ 0 → ⊥) → (y : Answer) → y ≡ refusal d r → Answers d (uncut e) y
-    one-refuses = refuses d z t (uncut e) r (asked d z t ix x e in-one h refl refl r one-late)
+    pub refuses-by : (r ≡ 0 → ⊥) → (y : Answer) → y ≡ refusal d r → Answers d (uncut e) y
+    refuses-by = refuses d z t (uncut e) r (asked d z t ix x e this h may-this no-new r late-by)
 
     module _ (y : r ≡ 0) where
-      pub one-case : Case d ix e in-one
-      one-case = case-of d z t ix x e in-one h refl refl r one-late y _ _ refl
+      pub case-by : Case d ix e this
+      case-by = case-of d z t ix x e this h may-this no-new r late-by y _ _ (result-is k (sheetOf d) e (useAt e u) (useAt e w))
 
-      module _ (out : Drawing) (zo : Sizes out) (fo : Fits out) (v : sheetOf out ≡ uncutResult (sheetOf d) e in-one) where
-        pub one-counts : Counts (d .next) (d .count) out
-        one-counts = counts-of d z t ix x e in-one h refl refl r one-late y out zo fo v
+      module _ (out : Drawing) (zo : Sizes out) (fo : Fits out) (v : sheetOf out ≡ uncutResult (sheetOf d) e this) where
+        pub counts-by : Counts (d .next) (d .count) out
+        counts-by = counts-of d z t ix x e this h may-this no-new r late-by y out zo fo v
 
-        pub one-answers : (q : Answer) → q ≡ outcome (d .next) (d .count) out → Answers d (uncut e) q
-        one-answers = answers-of d z t ix x e in-one h refl refl r one-late y out zo fo v
+        pub answers-by : (q : Answer) → q ≡ outcome (d .next) (d .count) out → Answers d (uncut e) q
+        answers-by = answers-of d z t ix x e this h may-this no-new r late-by y out zo fo v

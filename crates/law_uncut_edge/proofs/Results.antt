@@ -9,11 +9,12 @@ use borrow.Author.Tests.{eq-eqb}
 use lib.Dec.{T, eqb}
 use lib.ListN.{length, getD, set}
 use Rattle.complex.specs.Lists.{one, without}
-use Rattle.complex.specs.Cells.{Cycle, Figure, face, LiveCell, Sheet, someIf, lookup, cellAt, cyclesOf, stepsOf, isEdge}
+use Rattle.complex.specs.Cells.{Cycle, Figure, face, LiveCell, Sheet, someIf, lookup, cellAt, cyclesOf, stepsOf, headOf, isEdge, isLive}
 use Rattle.complex.specs.Edits.{others, neither, replaced, rebuild}
 use Rattle.complex.specs.Sound.{cyclesIn, stepsIn, over}
 use Rattle.complex.specs.Cut.{noCycle, stretch}
-use Rattle.complex.specs.Uncut.{twoFaces, oneCycle, rings, uncutResult, pathOr}
+use Rattle.complex.specs.Uses.{Use as Used}
+use Rattle.complex.specs.Uncut.{uncutResult, pathOr}
 use Rattle.complex.proofs.Bools.{truth}
 use Rattle.complex.proofs.Adds.{stays-at}
 use Rattle.complex.proofs.UncutFaces.{Placed}
@@ -26,17 +27,19 @@ use Rattle.sound.specs.Soundness.{soundDrawing}
 use Rattle.sound.proofs.Meaning.{looks}
 use Rattle.rows_spans.specs.declared.Used.{Used as Taken}
 use Rattle.rows_spans.specs.Building.{Built, built, RoomFor}
-use Rattle.rows_corners.specs.Faces.{Roomy, IndexRows}
-use Rattle.rows_corners.proofs.Edits.{rows-in, named-in}
+use Rattle.rows_corners.specs.Faces.{Roomy}
+use Rattle.rows_corners.proofs.Edits.{named-in}
 use Rattle.answer.proofs.Asked.{sound-in}
 use Rattle.rows_corners.proofs.Lists.{built-as}
 use Rattle.ask_uncut_uses.specs.declared.Use.{Use}
 use Rattle.rows_stretches.specs.declared.Place.{Place}
 use Rattle.rows_stretches.specs.Paths.{Few, followingIn, mergedList, Merging, partedList, Parting, ringedList, Ringing}
 use Rattle.rows_stretches.proofs.Lists.{steps-length}
-use Rattle.ask_uncut_uses.specs.Uses.{useAt}
-use Rattle.law_uncut_edge.specs.Needs.{headBy, joinedCycles, partedCycles, ringlessCycles, Case, Takes, Has, CycleFound, Going}
-use Rattle.law_uncut_edge.proofs.Told.{Apart, Together, told, edge-in, face-of, face-in, cycle-of, some-of, stays-alone, stays-with}
+use Rattle.ask_uncut_uses.specs.declared.Between.{Between}
+use Rattle.ask_uncut_uses.specs.declared.Between.the-variants.{TwoFaces, OneCycle, Rings}
+use Rattle.ask_uncut_uses.specs.Uses.{useAt, caseOf}
+use Rattle.law_uncut_edge.specs.Needs.{headBy, leftCycles, goneWith, Case, Takes, Has, CycleFound, Going}
+use Rattle.law_uncut_edge.proofs.Told.{Alike, Pair, told-pair, edge-in, face-of, cycle-of, some-of, stays-with}
 use Rattle.law_uncut_edge.proofs.Finding.{found-steps, head-is}
 
 -- ---- where there is room for the cycles of a sheet, there is room for those of a face
@@ -78,195 +81,164 @@ module _ (d : Drawing) (z : Sizes d) (ix : Index) (e : ℕ) (w : T (soundDrawing
       let c = steps-length (d .cycles) (d .steps) q (g .lies) in
       omega arith
 
--- ---- two uses in two faces: the edge goes with the face of the second, and the face of the first gets the cycles ks
-module _ (d : Drawing) (z : Sizes d) (ix : Index) (e : ℕ) (u w : Use) (t : T (soundDrawing d)) (x : Indexes d ix) (a : Apart (sheetOf d) e (useAt e u) (useAt e w)) where
+-- ---- the result: the edge goes with a cell, and the face of the first use gets the cycles that are left
+-- the edge goes, named twice or once
+once : (s : Sheet) (e : ℕ) (f : ℕ → Figure → Figure) → rebuild (neither e e) f [] s ≡ rebuild (others e) f [] s
+once s e f = ap (λ (p : ℕ → Bool). rebuild p f [] s) (λ i k. same-twice (others e k) i)
+  where
+    same-twice : (b : Bool) → b && b ≡ b
+    same-twice true = refl
+    same-twice false = refl
+
+abbrev leftIn : Between → Sheet → ℕ → Used → Used → List Cycle → Sheet
+leftIn k s e u w ks = rebuild (neither e (goneWith k e (w .face))) (replaced (u .face) (face ks)) [] s
+
+pub result-is : (k : Between) (s : Sheet) (e : ℕ) (u w : Used) → uncutResult s e (caseOf k u w) ≡ leftIn k s e u w (leftCycles k (cellAt s) u w)
+result-is TwoFaces s e u w = refl
+result-is OneCycle s e u w = sym (once s e (replaced (u .face) (face (leftCycles OneCycle (cellAt s) u w))))
+result-is Rings s e u w = refl
+
+module _ (d : Drawing) (z : Sizes d) (ix : Index) (e : ℕ) (k : Between) (u w : Use) (c : Case d ix e (caseOf k (useAt e u) (useAt e w))) where
+  pair : Pair (sheetOf d) e k (useAt e u) (useAt e w)
+  pair = told-pair (sheetOf d) (sound-in d (c .sound)) e k (useAt e u) (useAt e w) (c .holds)
+
+  abbrev left-list : List Cycle
+  left-list = leftCycles k (cellAt (sheetOf d)) (useAt e u) (useAt e w)
+
   pub has-first : Has d ix (u .face) (u .cycle)
-  has-first = has d z ix e t x (a .edge) u (a .first)
+  has-first = has d z ix e (c .sound) (c .index) (pair .edge) u (pair .first)
 
   pub has-second : Has d ix (w .face) (w .cycle)
-  has-second = has d z ix e t x (a .edge) w (a .second)
+  has-second = has d z ix e (c .sound) (c .index) (pair .edge) w (pair .second)
 
-  first-stays : neither e (w .face) (u .face) ≡ true
-  first-stays = stays-with (sheetOf d) e (a .edge) (useAt e u) (a .first) (w .face) (λ q. a .apart (sym q))
+  stays : neither e (goneWith k e (w .face)) (u .face) ≡ true
+  stays = stays-with (sheetOf d) e (pair .edge) (useAt e u) (pair .first) (goneWith k e (w .face)) (pair .apart)
 
-  apart-room : (ks : List Cycle) {n m : ℕ} → Takes n m (rebuild (neither e (w .face)) (replaced (u .face) (face ks)) [] (sheetOf d)) → RoomFor n m ks
-  apart-room ks {n} {m} r = room-in (neither e (w .face)) (u .face) ks (sheetOf d) first-stays (face (cyclesOf (cellAt (sheetOf d) (u .face)))) (a .first .0) r
+  left-room : {n m : ℕ} → Takes n m (uncutResult (sheetOf d) e (caseOf k (useAt e u) (useAt e w))) → RoomFor n m left-list
+  left-room {n} {m} t =
+      room-in (neither e (goneWith k e (w .face))) (u .face) left-list (sheetOf d) stays (face (cyclesOf (cellAt (sheetOf d) (u .face)))) (pair .first .0)
+      (subst (Takes n m) (result-is k (sheetOf d) e (useAt e u) (useAt e w)) t)
 
-  module _ (ks : List Cycle) (r : Roomy (rebuild (neither e (w .face)) (replaced (u .face) (face ks)) [] (sheetOf d))) where
-    module _ {counts : List ℕ} {v : Taken} {steps : List ℕ} (b : Built ks counts v steps) where
-      pub apart-with : rebuild (neither e (w .face)) (replaced (u .face) (face (built counts v steps))) [] (sheetOf d) ≡ rebuild (neither e (w .face)) (replaced (u .face) (face ks)) [] (sheetOf d)
-      apart-with = ap (λ (l : List Cycle). rebuild (neither e (w .face)) (replaced (u .face) (face l)) [] (sheetOf d)) (b .list)
+  -- the list is built, and j is the cell that goes with e
+  module _ {counts : List ℕ} {t : Taken} {steps : List ℕ} (b : Built left-list counts t steps) (j : ℕ) (ej : j ≡ goneWith k e (w .face)) where
+    pub left-result : rebuild (neither e j) (replaced (u .face) (face (built counts t steps))) [] (sheetOf d)
+        ≡ uncutResult (sheetOf d) e (caseOf k (useAt e u) (useAt e w))
+    left-result =
+        ap (λ (i : ℕ). rebuild (neither e i) (replaced (u .face) (face (built counts t steps))) [] (sheetOf d)) ej
+        ∙ ap (leftIn k (sheetOf d) e (useAt e u) (useAt e w)) (b .list) ∙ sym (result-is k (sheetOf d) e (useAt e u) (useAt e w))
 
-      pub apart-going : Going d ix e (w .face) (u .face) counts v steps
-      apart-going =
-          record {
-            sound = t;
-            index = x;
-            first = edge-in (sheetOf d) e (a .edge);
-            second = face-in (sheetOf d) e (a .edge) (useAt e w) (a .second);
-            building = b .building;
-            stays = first-stays;
-            room = subst Roomy (sym apart-with) r;
-            face = face-of (sheetOf d) e (a .edge) (useAt e u) (a .first);
-          }
-
--- ---- an open edge between two faces
-module _ (d : Drawing) (z : Sizes d) (ix : Index) (e : ℕ) (u w : Use) (c : Case d ix e (twoFaces (useAt e u) (useAt e w))) where
-  two : Apart (sheetOf d) e (useAt e u) (useAt e w)
-  two = told (sheetOf d) (sound-in d (c .sound)) e (twoFaces (useAt e u) (useAt e w)) (c .holds) refl
-
-  abbrev joined-list : List Cycle
-  joined-list = joinedCycles (cellAt (sheetOf d)) (useAt e u) (useAt e w)
-
-  pub joined-rows : IndexRows ix (d .count)
-  joined-rows = rows-in d z (c .sound) ix (c .index)
-
-  pub joined-first : Has d ix (u .face) (u .cycle)
-  joined-first = has-first d z ix e u w (c .sound) (c .index) two
-
-  pub joined-second : Has d ix (w .face) (w .cycle)
-  joined-second = has-second d z ix e u w (c .sound) (c .index) two
-
-  module _ (p q : Place) (gp : CycleFound d (u .face) (u .cycle) p) (gq : CycleFound d (w .face) (w .cycle) q) (v : ℕ) (ev : v ≡ headBy ix (d .count) e (u .back)) where
-    joined-is : mergedList (d .cycles) (d .steps) p (u .step) q (w .step) v ≡ joined-list
-    joined-is =
-        let hv = head-is (looks d z ix (c .index) (c .sound)) e (u .back) v ev in
-        let sp = found-steps d (u .face) (u .cycle) p gp in
-        let sq = found-steps d (w .face) (w .cycle) q gq in
-        λ i. set (gp .list i) (gp .cycle i) (pathOr (hv i) (followingIn (u .step) (sp i) ++ followingIn (w .step) (sq i))) ++ without (one (gq .cycle i)) 0 (gq .list i)
-
-    pub joined-asks : {n m : ℕ} → Takes n m (uncutResult (sheetOf d) e (twoFaces (useAt e u) (useAt e w)))
-        → Merging (d .cycles) (d .steps) p (u .step) q (w .step) v × RoomFor n m (mergedList (d .cycles) (d .steps) p (u .step) q (w .step) v)
-    joined-asks {n} {m} t =
-        let r = subst (RoomFor n m) (sym joined-is) (apart-room d z ix e u w (c .sound) (c .index) two joined-list t) in (
-          record {
-            first = gp .lies;
-            second = gq .lies;
-            here = step-in d z ix e (c .sound) (c .index) (two .edge) u (two .first) p gp;
-            there = step-in d z ix e (c .sound) (c .index) (two .edge) w (two .second) q gq;
-            room = few-of _ r;
-          },
-          r,
-        )
-
-    pub joined-built : {counts : List ℕ} {t : Taken} {steps : List ℕ} → Built (mergedList (d .cycles) (d .steps) p (u .step) q (w .step) v) counts t steps → Built joined-list counts t steps
-    joined-built {counts} {t} {steps} = built-as joined-is
-
-  module _ {counts : List ℕ} {t : Taken} {steps : List ℕ} (b : Built joined-list counts t steps) where
-    pub joined-going : Going d ix e (w .face) (u .face) counts t steps
-    joined-going = apart-going d z ix e u w (c .sound) (c .index) two joined-list (c .room) b
-
-    pub joined-result : (s : Sheet) → s ≡ rebuild (neither e (w .face)) (replaced (u .face) (face (built counts t steps))) [] (sheetOf d) → s ≡ uncutResult (sheetOf d) e (twoFaces (useAt e u) (useAt e w))
-    joined-result s q = q ∙ apart-with d z ix e u w (c .sound) (c .index) two joined-list (c .room) b
-
--- ---- an open edge with both steps in one cycle
-module _ (d : Drawing) (z : Sizes d) (ix : Index) (e : ℕ) (u w : Use) (c : Case d ix e (oneCycle (useAt e u) (useAt e w))) where
-  one-of : Together (sheetOf d) e (useAt e u) (useAt e w)
-  one-of = told (sheetOf d) (sound-in d (c .sound)) e (oneCycle (useAt e u) (useAt e w)) (c .holds) refl
-
-  abbrev parted-list : List Cycle
-  parted-list = partedCycles (cellAt (sheetOf d)) (useAt e u) (useAt e w)
-
-  pub parted-rows : IndexRows ix (d .count)
-  parted-rows = rows-in d z (c .sound) ix (c .index)
-
-  pub parted-has : Has d ix (u .face) (u .cycle)
-  parted-has = has d z ix e (c .sound) (c .index) (one-of .edge) u (one-of .first)
-
-  alone-stays : neither e e (u .face) ≡ true
-  alone-stays = stays-alone (sheetOf d) e (one-of .edge) (useAt e u) (one-of .first)
-
-  -- the edge goes, named twice or once
-  once : (f : ℕ → Figure → Figure) → rebuild (neither e e) f [] (sheetOf d) ≡ rebuild (others e) f [] (sheetOf d)
-  once f = ap (λ (p : ℕ → Bool). rebuild p f [] (sheetOf d)) (λ i k. same-twice (others e k) i)
-    where
-      same-twice : (b : Bool) → b && b ≡ b
-      same-twice true = refl
-      same-twice false = refl
-
-  module _ (p : Place) (gp : CycleFound d (u .face) (u .cycle) p) (v x : ℕ) (ev : v ≡ headBy ix (d .count) e (u .back)) (ex : x ≡ headBy ix (d .count) e (w .back)) where
-    parted-is : partedList (d .cycles) (d .steps) p (u .step) (w .step) v x ≡ parted-list
-    parted-is =
-        let hv = head-is (looks d z ix (c .index) (c .sound)) e (u .back) v ev in
-        let hx = head-is (looks d z ix (c .index) (c .sound)) e (w .back) x ex in
-        let sp = found-steps d (u .face) (u .cycle) p gp in
-        let sw = sp ∙ ap₂ (λ (f n : ℕ). stepsOf (getD (cyclesOf (cellAt (sheetOf d) f)) n noCycle)) (one-of .face) (one-of .cycle) in
-        λ i. set (gp .list i) (gp .cycle i) (pathOr (hv i) (stretch (suc (u .step)) (w .step) (sp i))) ++ one (pathOr (hx i) (stretch (suc (w .step)) (u .step) (sw i)))
-
-    pub parted-asks : {n m : ℕ} → Takes n m (uncutResult (sheetOf d) e (oneCycle (useAt e u) (useAt e w)))
-        → Parting (d .cycles) (d .steps) p (u .step) (w .step) v x × RoomFor n m (partedList (d .cycles) (d .steps) p (u .step) (w .step) v x)
-    parted-asks {n} {m} t =
-        let gw : CycleFound d (w .face) (w .cycle) p = record {
-          lies = gp .lies;
-          cycle = gp .cycle ∙ one-of .cycle;
-          list = gp .list ∙ ap (λ (f : ℕ). cyclesOf (cellAt (sheetOf d) f)) (one-of .face);
-        } in
-        let r =
-        subst (RoomFor n m) (sym parted-is)
-        (room-in (neither e e) (u .face) parted-list (sheetOf d) alone-stays (face (cyclesOf (cellAt (sheetOf d) (u .face)))) (one-of .first .0)
-        (subst (Takes n m) (sym (once (replaced (u .face) (face parted-list)))) t)) in (
-          record {
-            first = gp .lies;
-            here = step-in d z ix e (c .sound) (c .index) (one-of .edge) u (one-of .first) p gp;
-            there = step-in d z ix e (c .sound) (c .index) (one-of .edge) w (one-of .second) p gw;
-            room = few-of _ r;
-          },
-          r,
-        )
-
-    pub parted-built : {counts : List ℕ} {t : Taken} {steps : List ℕ} → Built (partedList (d .cycles) (d .steps) p (u .step) (w .step) v x) counts t steps → Built parted-list counts t steps
-    parted-built {counts} {t} {steps} = built-as parted-is
-
-  module _ {counts : List ℕ} {t : Taken} {steps : List ℕ} (b : Built parted-list counts t steps) where
-    parted-with : rebuild (neither e e) (replaced (u .face) (face (built counts t steps))) [] (sheetOf d) ≡ uncutResult (sheetOf d) e (oneCycle (useAt e u) (useAt e w))
-    parted-with = once (replaced (u .face) (face (built counts t steps))) ∙ ap (λ (ks : List Cycle). rebuild (others e) (replaced (u .face) (face ks)) [] (sheetOf d)) (b .list)
-
-    pub parted-going : Going d ix e e (u .face) counts t steps
-    parted-going =
+    pub left-going : Going d ix e j (u .face) counts t steps
+    left-going =
         record {
           sound = c .sound;
           index = c .index;
-          first = edge-in (sheetOf d) e (one-of .edge);
-          second = edge-in (sheetOf d) e (one-of .edge);
+          first = edge-in (sheetOf d) e (pair .edge);
+          second = subst (λ (i : ℕ). isLive (cellAt (sheetOf d) i) ≡ true) (sym ej) (pair .goes);
           building = b .building;
-          stays = alone-stays;
-          room = subst Roomy (sym parted-with) (c .room);
-          face = face-of (sheetOf d) e (one-of .edge) (useAt e u) (one-of .first);
+          stays = subst (λ (i : ℕ). neither e i (u .face) ≡ true) (sym ej) stays;
+          room = subst Roomy (sym left-result) (c .room);
+          face = face-of (sheetOf d) e (pair .edge) (useAt e u) (pair .first);
         }
 
-    pub parted-result : (s : Sheet) → s ≡ rebuild (neither e e) (replaced (u .face) (face (built counts t steps))) [] (sheetOf d) → s ≡ uncutResult (sheetOf d) e (oneCycle (useAt e u) (useAt e w))
-    parted-result s q = q ∙ parted-with
+-- ---- the cycles of both uses stand at p and q, and their steps end at v and x
+pub record Stands (d : Drawing) (ix : Index) (e : ℕ) (k : Between) (u w : Use) (p q : Place) (v x : ℕ) : Type 0 where
+  pub sizes : Sizes d
+  pub is : Case d ix e (caseOf k (useAt e u) (useAt e w))
+  pub first : CycleFound d (u .face) (u .cycle) p
+  pub second : CycleFound d (w .face) (w .cycle) q
+  pub firstHead : v ≡ headBy ix (d .count) e (u .back)
+  pub secondHead : x ≡ headBy ix (d .count) e (w .back)
 
--- ---- a closed edge between two faces
-module _ (d : Drawing) (z : Sizes d) (ix : Index) (e : ℕ) (u w : Use) (c : Case d ix e (rings (useAt e u) (useAt e w))) where
-  ring : Apart (sheetOf d) e (useAt e u) (useAt e w)
-  ring = told (sheetOf d) (sound-in d (c .sound)) e (rings (useAt e u) (useAt e w)) (c .holds) refl
+module _ {d : Drawing} {ix : Index} {e : ℕ} {k : Between} {u w : Use} {p q : Place} {v x : ℕ} (f : Stands d ix e k u w p q v x) where
+  abbrev c : Case d ix e (caseOf k (useAt e u) (useAt e w))
+  c = f .is
 
-  abbrev ringless-list : List Cycle
-  ringless-list = ringlessCycles (cellAt (sheetOf d)) (useAt e u) (useAt e w)
+  abbrev gp : CycleFound d (u .face) (u .cycle) p
+  gp = f .first
 
-  pub ringless-first : Has d ix (u .face) (u .cycle)
-  ringless-first = has-first d z ix e u w (c .sound) (c .index) ring
+  abbrev gq : CycleFound d (w .face) (w .cycle) q
+  gq = f .second
 
-  pub ringless-second : Has d ix (w .face) (w .cycle)
-  ringless-second = has-second d z ix e u w (c .sound) (c .index) ring
+  abbrev used : Pair (sheetOf d) e k (useAt e u) (useAt e w)
+  used = pair d (f .sizes) ix e k u w (f .is)
 
-  module _ (p q : Place) (gp : CycleFound d (u .face) (u .cycle) p) (gq : CycleFound d (w .face) (w .cycle) q) where
-    ringless-is : ringedList (d .cycles) (d .steps) p q ≡ ringless-list
-    ringless-is = λ i. without (one (gp .cycle i)) 0 (gp .list i) ++ without (one (gq .cycle i)) 0 (gq .list i)
+  abbrev ks-left : List Cycle
+  ks-left = leftCycles k (cellAt (sheetOf d)) (useAt e u) (useAt e w)
 
-    pub ringless-asks : {n m : ℕ} → Takes n m (uncutResult (sheetOf d) e (rings (useAt e u) (useAt e w)))
-        → Ringing (d .cycles) (d .steps) p q × RoomFor n m (ringedList (d .cycles) (d .steps) p q)
-    ringless-asks {n} {m} t =
-        let r = subst (RoomFor n m) (sym ringless-is) (apart-room d z ix e u w (c .sound) (c .index) ring ringless-list t) in
-        (record { first = gp .lies; second = gq .lies; room = few-of _ r }, r)
+  hv : v ≡ headOf (cellAt (sheetOf d)) (record { edge = e; backward = u .back })
+  hv = head-is (looks d (f .sizes) ix (c .index) (c .sound)) e (u .back) v (f .firstHead)
 
-    pub ringless-built : {counts : List ℕ} {t : Taken} {steps : List ℕ} → Built (ringedList (d .cycles) (d .steps) p q) counts t steps → Built ringless-list counts t steps
-    ringless-built {counts} {t} {steps} = built-as ringless-is
+  hx : x ≡ headOf (cellAt (sheetOf d)) (record { edge = e; backward = w .back })
+  hx = head-is (looks d (f .sizes) ix (c .index) (c .sound)) e (w .back) x (f .secondHead)
 
-  module _ {counts : List ℕ} {t : Taken} {steps : List ℕ} (b : Built ringless-list counts t steps) where
-    pub ringless-going : Going d ix e (w .face) (u .face) counts t steps
-    ringless-going = apart-going d z ix e u w (c .sound) (c .index) ring ringless-list (c .room) b
+  here : u .step < p .count
+  here = step-in d (f .sizes) ix e (c .sound) (c .index) (used .edge) u (used .first) p gp
 
-    pub ringless-result : (s : Sheet) → s ≡ rebuild (neither e (w .face)) (replaced (u .face) (face (built counts t steps))) [] (sheetOf d) → s ≡ uncutResult (sheetOf d) e (rings (useAt e u) (useAt e w))
-    ringless-result s q = q ∙ apart-with d z ix e u w (c .sound) (c .index) ring ringless-list (c .room) b
+  there : w .step < q .count
+  there = step-in d (f .sizes) ix e (c .sound) (c .index) (used .edge) w (used .second) q gq
+
+  -- lists of cycles as they are built
+  module _ (ks : List Cycle) (is : ks ≡ ks-left) {n m : ℕ} (t : Takes n m (uncutResult (sheetOf d) e (caseOf k (useAt e u) (useAt e w)))) where
+    room-as : RoomFor n m ks
+    room-as = subst (RoomFor n m) (sym is) (left-room d (f .sizes) ix e k u w (f .is) t)
+
+    few-as : Few ks
+    few-as = few-of ks room-as
+
+  merged-is : k ≡ TwoFaces → mergedList (d .cycles) (d .steps) p (u .step) q (w .step) v ≡ ks-left
+  merged-is ek =
+      let sp = found-steps d (u .face) (u .cycle) p gp in
+      let sq = found-steps d (w .face) (w .cycle) q gq in
+      (λ i. set (gp .list i) (gp .cycle i) (pathOr (hv i) (followingIn (u .step) (sp i) ++ followingIn (w .step) (sq i))) ++ without (one (gq .cycle i)) 0 (gq .list i))
+      ∙ ap (λ (j : Between). leftCycles j (cellAt (sheetOf d)) (useAt e u) (useAt e w)) (sym ek)
+
+  pub merged-asks : k ≡ TwoFaces → {n m : ℕ} → Takes n m (uncutResult (sheetOf d) e (caseOf k (useAt e u) (useAt e w)))
+      → Merging (d .cycles) (d .steps) p (u .step) q (w .step) v × RoomFor n m (mergedList (d .cycles) (d .steps) p (u .step) q (w .step) v)
+  merged-asks ek t =
+      (record { first = gp .lies; second = gq .lies; here = here; there = there; room = few-as _ (merged-is ek) t }, room-as _ (merged-is ek) t)
+
+  pub merged-built : k ≡ TwoFaces → {counts : List ℕ} {t : Taken} {steps : List ℕ}
+      → Built (mergedList (d .cycles) (d .steps) p (u .step) q (w .step) v) counts t steps → Built ks-left counts t steps
+  merged-built ek = built-as (merged-is ek)
+
+  alike : k ≡ OneCycle → (u .face ≡ w .face) × (u .cycle ≡ w .cycle)
+  alike ek = subst (λ (j : Between). Alike j (useAt e u) (useAt e w)) ek (used .alike)
+
+  -- the second step stands in the first's cycle
+  there-too : k ≡ OneCycle → w .step < p .count
+  there-too ek =
+      step-in d (f .sizes) ix e (c .sound) (c .index) (used .edge) w (used .second) p
+      (record {
+        lies = gp .lies;
+        cycle = gp .cycle ∙ alike ek .1;
+        list = gp .list ∙ ap (λ (g : ℕ). cyclesOf (cellAt (sheetOf d) g)) (alike ek .0);
+      })
+
+  parted-is : k ≡ OneCycle → partedList (d .cycles) (d .steps) p (u .step) (w .step) v x ≡ ks-left
+  parted-is ek =
+      let sp = found-steps d (u .face) (u .cycle) p gp in
+      let sw = sp ∙ ap₂ (λ (g n : ℕ). stepsOf (getD (cyclesOf (cellAt (sheetOf d) g)) n noCycle)) (alike ek .0) (alike ek .1) in
+      (λ i. set (gp .list i) (gp .cycle i) (pathOr (hv i) (stretch (suc (u .step)) (w .step) (sp i))) ++ one (pathOr (hx i) (stretch (suc (w .step)) (u .step) (sw i))))
+      ∙ ap (λ (j : Between). leftCycles j (cellAt (sheetOf d)) (useAt e u) (useAt e w)) (sym ek)
+
+  pub parted-asks : k ≡ OneCycle → {n m : ℕ} → Takes n m (uncutResult (sheetOf d) e (caseOf k (useAt e u) (useAt e w)))
+      → Parting (d .cycles) (d .steps) p (u .step) (w .step) v x × RoomFor n m (partedList (d .cycles) (d .steps) p (u .step) (w .step) v x)
+  parted-asks ek t =
+      (record { first = gp .lies; here = here; there = there-too ek; room = few-as _ (parted-is ek) t }, room-as _ (parted-is ek) t)
+
+  pub parted-built : k ≡ OneCycle → {counts : List ℕ} {t : Taken} {steps : List ℕ}
+      → Built (partedList (d .cycles) (d .steps) p (u .step) (w .step) v x) counts t steps → Built ks-left counts t steps
+  parted-built ek = built-as (parted-is ek)
+
+  ringed-is : k ≡ Rings → ringedList (d .cycles) (d .steps) p q ≡ ks-left
+  ringed-is ek =
+      (λ i. without (one (gp .cycle i)) 0 (gp .list i) ++ without (one (gq .cycle i)) 0 (gq .list i))
+      ∙ ap (λ (j : Between). leftCycles j (cellAt (sheetOf d)) (useAt e u) (useAt e w)) (sym ek)
+
+  pub ringed-asks : k ≡ Rings → {n m : ℕ} → Takes n m (uncutResult (sheetOf d) e (caseOf k (useAt e u) (useAt e w)))
+      → Ringing (d .cycles) (d .steps) p q × RoomFor n m (ringedList (d .cycles) (d .steps) p q)
+  ringed-asks ek t = (record { first = gp .lies; second = gq .lies; room = few-as _ (ringed-is ek) t }, room-as _ (ringed-is ek) t)
+
+  pub ringed-built : k ≡ Rings → {counts : List ℕ} {t : Taken} {steps : List ℕ}
+      → Built (ringedList (d .cycles) (d .steps) p q) counts t steps → Built ks-left counts t steps
+  ringed-built ek = built-as (ringed-is ek)

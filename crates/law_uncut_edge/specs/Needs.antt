@@ -15,32 +15,42 @@ use Rattle.complex.specs.Uncut.{Uncut, uncutCase, uncutResult, faceCycles, left
 use Rattle.store.specs.declared.Drawing.{Drawing}
 use Rattle.store.specs.declared.Index.{Index}
 use Rattle.store.specs.Index.{Indexes, valueAt}
-use Rattle.store.specs.Sizes.{Sizes}
 use Rattle.store.specs.View.{sheetOf}
 use Rattle.sound.specs.Soundness.{soundDrawing}
 use Rattle.rows_spans.specs.declared.Used.{Used as Taken}
 use Rattle.rows_spans.specs.Building.{Building, built}
 use Rattle.rows_corners.specs.Faces.{Named, Roomy}
+use Rattle.answer.specs.declared.Totals.{Totals}
 use Rattle.rows_stretches.specs.declared.Place.{Place}
 use Rattle.rows_stretches.specs.Paths.{Lies, listAt}
+use Rattle.ask_uncut_uses.specs.declared.Between.{Between}
+use Rattle.ask_uncut_uses.specs.declared.Between.the-variants.{TwoFaces, OneCycle, Rings}
 
 -- where a step of e ends, by n rows of an index: at the start of e if it is backward
 abbrev pub headBy : Index → ℕ → ℕ → Bool → ℕ
 headBy ix n e back = cond back (valueAt 0 (take n (ix .ids)) (take n (ix .starts)) e) (valueAt 0 (take n (ix .ids)) (take n (ix .ends)) e)
 
--- ---- the cycles of the face that stays
-abbrev pub joinedCycles : Look → Used → Used → List Cycle
-joinedCycles look u w =
+-- ---- the cycles of the face of the first use, which stays
+abbrev pub leftCycles : Between → Look → Used → Used → List Cycle
+leftCycles TwoFaces look u w =
     cycleReplaced (u .cycle) (leftAfter look u (following look u ++ following look w)) (faceCycles look u)
     ++ withoutCycle (w .cycle) (faceCycles look w)
-
-abbrev pub partedCycles : Look → Used → Used → List Cycle
-partedCycles look u w =
+leftCycles OneCycle look u w =
     cycleReplaced (u .cycle) (leftAfter look u (followingTo look u w)) (faceCycles look u)
     ++ one (leftAfter look w (followingTo look w u))
+leftCycles Rings look u w = withoutCycle (u .cycle) (faceCycles look u) ++ withoutCycle (w .cycle) (faceCycles look w)
 
-abbrev pub ringlessCycles : Look → Used → Used → List Cycle
-ringlessCycles look u w = withoutCycle (u .cycle) (faceCycles look u) ++ withoutCycle (w .cycle) (faceCycles look w)
+-- the cell that goes with the edge e: the other face, or none but e
+abbrev pub goneWith : Between → ℕ → ℕ → ℕ
+goneWith TwoFaces e g = g
+goneWith OneCycle e g = e
+goneWith Rings e g = g
+
+-- by how many the cycles can become more
+abbrev pub moreCycles : Between → ℕ
+moreCycles TwoFaces = 0
+moreCycles OneCycle = 1
+moreCycles Rings = 0
 
 -- ---- what is needed
 -- the case of e in a sound drawing is k, and there is room for its result
@@ -57,6 +67,10 @@ pub record Takes (n m : ℕ) (s : Sheet) : Type 0 where
   pub cycles : over cyclesIn (s .cells) ≤ n
   pub steps : over stepsIn (s .cells) ≤ m
 
+-- arrays with room for the cycles and the steps of sums t, and a cycle more, have room for the cycles of s
+pub record TakesBy (t : Totals) (s : Sheet) : Type 0 where
+  pub takes : (n m : ℕ) → n ≤ 512 → m ≤ 2048 → t .cycles < n → t .steps ≤ m → Takes n m s
+
 -- the face f has a cycle c, with steps
 pub record Has (d : Drawing) (ix : Index) (f c : ℕ) : Type 0 where
   pub named : Named d ix f
@@ -68,18 +82,6 @@ pub record CycleFound (d : Drawing) (f c : ℕ) (p : Place) : Type 0 where
   pub lies : Lies (d .cycles) (d .steps) p
   pub cycle : p .cycle ≡ c
   pub list : listAt (d .cycles) (d .steps) p ≡ cyclesOf (cellAt (sheetOf d) f)
-
--- the face f has a cycle c in a drawing with these cycles and n cells
-pub record HasIn (cycles : List ℕ) (n : ℕ) (ix : Index) (f c : ℕ) : Type 0 where
-  pub drawing : Drawing
-  pub sizes : Sizes drawing
-  pub has : Has drawing ix f c
-  pub sameCycles : drawing .cycles ≡ cycles
-  pub sameCount : drawing .count ≡ n
-
--- it stands at p in every drawing with these cycles and n cells
-pub record FoundIn (cycles : List ℕ) (n : ℕ) (ix : Index) (f c : ℕ) (p : Place) : Type 0 where
-  pub every : (d : Drawing) → Sizes d → Has d ix f c → d .cycles ≡ cycles → d .count ≡ n → CycleFound d f c p
 
 -- the cells i and j go; the face f stays, and there is room for the cycles of a list
 pub record Going (d : Drawing) (ix : Index) (i j f : ℕ) (counts : List ℕ) (u : Taken) (steps : List ℕ) : Type 0 where

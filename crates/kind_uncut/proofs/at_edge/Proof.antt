@@ -25,29 +25,11 @@ line-of-requires c κs = search needs
 enum-known-c : tie.Need-enum-known-c
 enum-known-c c = search needs
 
-two-faces-requires : tie.Need-two-faces-requires
-two-faces-requires c κs =
+uncut-edge-requires : tie.Need-uncut-edge-requires
+uncut-edge-requires c κs =
     let k = c .before .before .before .before .before .before .before .before .before .before .before .before .before .before .before in
     let s = k .before .before in
     (s .pre .0, asked-case (sheetOf (heldBy (arrays s))) (s .args .e) (sym (ap (edgeSays (s .args .e)) (k .c .given .1)) ∙ s .pre .1))
-
-enum-known-c-2 : tie.Need-enum-known-c-2
-enum-known-c-2 c = search needs
-
-one-cycle-requires : tie.Need-one-cycle-requires
-one-cycle-requires c κs =
-    let k = c .before .before .before .before .before .before .before .before .before .before .before .before .before .before .before in
-    let s = k .before .before in
-    (s .pre .0, asked-case (sheetOf (heldBy (arrays s))) (s .args .e) (sym (ap (edgeSays (s .args .e)) (k .c2 .given .1)) ∙ s .pre .1))
-
-enum-known-c-3 : tie.Need-enum-known-c-3
-enum-known-c-3 c = search needs
-
-rings-requires : tie.Need-rings-requires
-rings-requires c κs =
-    let k = c .before .before .before .before .before .before .before .before .before .before .before .before .before .before .before in
-    let s = k .before .before in
-    (s .pre .0, asked-case (sheetOf (heldBy (arrays s))) (s .args .e) (sym (ap (edgeSays (s .args .e)) (k .c3 .given .1)) ∙ s .pre .1))
 
 returns : tie.Need-returns
 returns c =
@@ -56,27 +38,7 @@ returns c =
     obeyed-6 (arrays s) (s .args .t) (s .pre .0) (s .args .e) (sym (ap (edgeSays (s .args .e)) (k .enum-told .given .1)) ∙ s .pre .1) _ (c .line-of .ensures)
 
 returns-2 : tie.Need-returns-2
-returns-2 c = c .two-faces .ensures
-
-returns-3 : tie.Need-returns-3
-returns-3 c = c .one-cycle .ensures
-
-returns-4 : tie.Need-returns-4
-returns-4 c = c .rings .ensures
+returns-2 c = c .uncut-edge .ensures
 
 pub at-edge-spec : {M : Type 1} → statement M
-at-edge-spec =
-    tie.close
-    (tie.spec
-    enum-told
-    line-of-requires
-    enum-known-c
-    two-faces-requires
-    enum-known-c-2
-    one-cycle-requires
-    enum-known-c-3
-    rings-requires
-    returns
-    returns-2
-    returns-3
-    returns-4)
+at-edge-spec = tie.close (tie.spec enum-told line-of-requires enum-known-c uncut-edge-requires returns returns-2)
