@@ -18,11 +18,11 @@ nothing [] e = refl
 nothing (b ∷ s) e = absurd (omega arith)
 
 -- the fields of kind k
-pub kind : (s : List ℕ) (k : ℕ) (r : Decoded) → (length s ≡ 0 → ⊥) → getD s 0 0 ≡ k → Decodes s 1 (getD kinds k unreadable (drop 1 s)) r
+pub kind : {s : List ℕ} (k : ℕ) {r : Decoded} → Decodes s 1 (getD kinds k unreadable (drop 1 s)) r → (length s ≡ 0 → ⊥) → getD s 0 0 ≡ k
     → (decodedSays s r ≡ foundOr 2 (decode s)) × DecodedEnd s 1 r
 unfolding decode
-kind [] k r some e d = absurd (some refl)
-kind (b ∷ s) k r some e d = (d .answer ∙ ap (λ (i : ℕ). foundOr 2 (getD kinds i unreadable s)) (sym e), d .ends)
+kind {s = []} k d some e = absurd (some refl)
+kind {s = b ∷ s} k d some e = (d .answer ∙ ap (λ (i : ℕ). foundOr 2 (getD kinds i unreadable s)) (sym e), d .ends)
 
 -- ---- a byte that is no kind
 pub above : (n : ℕ) {k : ℕ} → n ≤ k → (k ≡ n → ⊥) → suc n ≤ k
@@ -34,4 +34,4 @@ no-kind k h = ⊎-elim (λ e. ap (λ (i : ℕ). getD kinds i unreadable) e) (λ 
 pub unknown : (s : List ℕ) (k : ℕ) → (length s ≡ 0 → ⊥) → getD s 0 0 ≡ k → (k ≡ 0) ⊎ (15 ≤ k) → (no 2 ≡ foundOr 2 (decode s)) × Unit {0}
 unknown s k some e h =
     let f : (t : List ℕ) → getD kinds k unreadable t ≡ bad = λ t. ap (λ (r : List ℕ → Read Meaning). r t) (no-kind k h) in
-    kind s k Malformed some e (record { answer = ap (foundOr 2) (sym (f (drop 1 s))); ends = tt })
+    kind k {r = Malformed} (record { answer = ap (foundOr 2) (sym (f (drop 1 s))); ends = tt }) some e

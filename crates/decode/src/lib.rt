@@ -9,6 +9,9 @@ ghost use Rattle.decode_command.specs.View.{decodedSays, Decodes, DecodedEnd};
 use bends::BendList;
 use decode_command::Command;
 use decode_command::Decoded;
+use decode_fields::CutLists;
+use decode_fields::Three;
+use decode_fields::Two;
 use decode_parts::Skip;
 use number::Number;
 
@@ -16,10 +19,7 @@ use number::Number;
 fn decode_open(script: &[u8], at: usize) -> Decoded
     ensures { λ r. ⌜ Decodes (now (script .entry)) at (readCreate readOpenEdge (drop at (now (script .entry)))) r ⌝ }
 {
-    let Number::Value(start, second) = number::read_number(script, at) else {
-        return Decoded::Malformed;
-    };
-    let Number::Value(end, list) = number::read_number(script, second) else {
+    let Two::Numbers(start, end, list) = decode_fields::two_numbers(script, at) else {
         return Decoded::Malformed;
     };
     let BendList::Listed(bends, first, next) = decode_parts::bends_at(script, list) else {
@@ -64,28 +64,14 @@ fn decode_face(script: &[u8], at: usize) -> Decoded
 fn decode_cut_face_open(script: &[u8], at: usize) -> Decoded
     ensures { λ r. ⌜ Decodes (now (script .entry)) at (readCutFaceOpen (drop at (now (script .entry)))) r ⌝ }
 {
-    let Number::Value(face, at1) = number::read_number(script, at) else {
+    let Three::Numbers(face, c1, s1, second) = decode_fields::three_numbers(script, at) else {
         return Decoded::Malformed;
     };
-    let Number::Value(c1, at2) = number::read_number(script, at1) else {
+    let Two::Numbers(c2, s2, list) = decode_fields::two_numbers(script, second) else {
         return Decoded::Malformed;
     };
-    let Number::Value(s1, at3) = number::read_number(script, at2) else {
-        return Decoded::Malformed;
-    };
-    let Number::Value(c2, at4) = number::read_number(script, at3) else {
-        return Decoded::Malformed;
-    };
-    let Number::Value(s2, at5) = number::read_number(script, at4) else {
-        return Decoded::Malformed;
-    };
-    let BendList::Listed(bends, first, list) = decode_parts::bends_at(script, at5) else {
-        return Decoded::Malformed;
-    };
-    let Number::Value(moved, place) = number::read_number(script, list) else {
-        return Decoded::Malformed;
-    };
-    let Skip::To(next) = decode_parts::skip_numbers(script, place, moved) else {
+    let CutLists::Listed(bends, first, moved, place, next) = decode_fields::cut_lists(script, list)
+    else {
         return Decoded::Malformed;
     };
     Decoded::Whole(
@@ -108,16 +94,11 @@ fn decode_cut_face_open(script: &[u8], at: usize) -> Decoded
 fn decode_cut_face_closed(script: &[u8], at: usize) -> Decoded
     ensures { λ r. ⌜ Decodes (now (script .entry)) at (readCutFaceClosed (drop at (now (script .entry)))) r ⌝ }
 {
-    let Number::Value(face, at1) = number::read_number(script, at) else {
+    let Number::Value(face, list) = number::read_number(script, at) else {
         return Decoded::Malformed;
     };
-    let BendList::Listed(bends, first, list) = decode_parts::bends_at(script, at1) else {
-        return Decoded::Malformed;
-    };
-    let Number::Value(moved, place) = number::read_number(script, list) else {
-        return Decoded::Malformed;
-    };
-    let Skip::To(next) = decode_parts::skip_numbers(script, place, moved) else {
+    let CutLists::Listed(bends, first, moved, place, next) = decode_fields::cut_lists(script, list)
+    else {
         return Decoded::Malformed;
     };
     Decoded::Whole(
@@ -145,13 +126,13 @@ pub fn decode(script: &[u8]) -> Decoded
         2 => decode_open(script, 1),
         3 => decode_closed(script, 1),
         4 => decode_face(script, 1),
-        5 => decode_command::decode_move(script, 1),
+        5 => decode_command::decode_place(script, 1, false),
         6 => decode_command::decode_delete(script, 1),
         7 => decode_command::decode_glue_vertices(script, 1),
         8 => decode_command::decode_glue_edges(script, 1),
         9 => decode_command::decode_unglue(script, 1),
         10 => decode_command::decode_cut_edge(script, 1),
-        11 => decode_command::decode_cut_face_vertex(script, 1),
+        11 => decode_command::decode_place(script, 1, true),
         12 => decode_cut_face_open(script, 1),
         13 => decode_cut_face_closed(script, 1),
         14 => decode_command::decode_uncut(script, 1),

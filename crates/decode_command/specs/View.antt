@@ -1,11 +1,13 @@
 -- What a decoded command says, read with the script that its lists stay in. Definitions only.
 use Prim.Native.Nat.{ℕ, _+_, _*_, _≤_}
 use mathlib.Core.Path.{_≡_}
+use mathlib.Core.Bool.{Bool, true, false}
 use mathlib.Core.List.{List}
 use lib.ListN.{length, drop}
 use Rattle.number.specs.Readers.{Read}
 use Rattle.number.specs.Said.{Said, done, no, foundOr}
 use Rattle.number.specs.Numbers.{readNumber}
+use Rattle.coordinate.specs.declared.Position.{Position}
 use Rattle.bends.specs.Bends.{positionsAt}
 use Rattle.complex.specs.Cells.{vertex, openEdge, closedEdge, face}
 use Rattle.complex.specs.Decode as bytes
@@ -68,3 +70,8 @@ DecodedEnd s at Malformed = Unit {0}
 pub record Decodes (s : List ℕ) (at : ℕ) (read : Read bytes.Command) (r : Decoded) : Type 0 where
   pub answer : decodedSays s r ≡ foundOr 2 read
   pub ends : DecodedEnd s at r
+
+-- the two kinds that are a cell and a position: 0B, a face; or 05
+abbrev pub placeKind : Bool → ℕ → Position → bytes.Command
+placeKind true = bytes.cutFaceVertex
+placeKind false = bytes.move

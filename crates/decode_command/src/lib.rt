@@ -2,8 +2,10 @@
 ghost use lib.ListN.{drop};
 ghost use Rattle.complex.specs.Decode.{readVertex, readCreate, readCellOnly, readTwo, readPlace, readGlueEdges};
 ghost use Rattle.complex.specs.Decode as bytes;
-ghost use Rattle.decode_command.specs.View.{Decodes};
+ghost use Rattle.decode_command.specs.View.{Decodes, placeKind};
 use coordinate::Located;
+use decode_fields::Three;
+use decode_fields::Two;
 use number::Number;
 
 pub enum Command {
@@ -66,19 +68,6 @@ pub fn decode_vertex(script: &[u8], at: usize) -> Decoded
     Decoded::Whole(Command::Vertex(p.x, p.y), next)
 }
 
-// 05: vertex, position
-pub fn decode_move(script: &[u8], at: usize) -> Decoded
-    ensures { λ r. ⌜ Decodes (now (script .entry)) at (readPlace bytes.move (drop at (now (script .entry)))) r ⌝ }
-{
-    let Number::Value(vertex, place) = number::read_number(script, at) else {
-        return Decoded::Malformed;
-    };
-    let Located::At(p, next) = coordinate::read_position(script, place) else {
-        return Decoded::Malformed;
-    };
-    Decoded::Whole(Command::Move(vertex, p.x, p.y), next)
-}
-
 // 06: any cell
 pub fn decode_delete(script: &[u8], at: usize) -> Decoded
     ensures { λ r. ⌜ Decodes (now (script .entry)) at (readCellOnly bytes.delete (drop at (now (script .entry)))) r ⌝ }
@@ -87,35 +76,6 @@ pub fn decode_delete(script: &[u8], at: usize) -> Decoded
         return Decoded::Malformed;
     };
     Decoded::Whole(Command::Delete(cell), next)
-}
-
-// 07: a, b
-pub fn decode_glue_vertices(script: &[u8], at: usize) -> Decoded
-    ensures { λ r. ⌜ Decodes (now (script .entry)) at (readTwo bytes.glueVertices (drop at (now (script .entry)))) r ⌝ }
-{
-    let Number::Value(a, second) = number::read_number(script, at) else {
-        return Decoded::Malformed;
-    };
-    let Number::Value(b, next) = number::read_number(script, second) else {
-        return Decoded::Malformed;
-    };
-    Decoded::Whole(Command::GlueVertices(a, b), next)
-}
-
-// 08: a, b, flag
-pub fn decode_glue_edges(script: &[u8], at: usize) -> Decoded
-    ensures { λ r. ⌜ Decodes (now (script .entry)) at (readGlueEdges (drop at (now (script .entry)))) r ⌝ }
-{
-    let Number::Value(a, second) = number::read_number(script, at) else {
-        return Decoded::Malformed;
-    };
-    let Number::Value(b, third) = number::read_number(script, second) else {
-        return Decoded::Malformed;
-    };
-    let Number::Value(flag, next) = number::read_number(script, third) else {
-        return Decoded::Malformed;
-    };
-    Decoded::Whole(Command::GlueEdges(a, b, flag), next)
 }
 
 // 09: vertex or edge
@@ -128,32 +88,6 @@ pub fn decode_unglue(script: &[u8], at: usize) -> Decoded
     Decoded::Whole(Command::Unglue(cell), next)
 }
 
-// 0A: edge, place
-pub fn decode_cut_edge(script: &[u8], at: usize) -> Decoded
-    ensures { λ r. ⌜ Decodes (now (script .entry)) at (readTwo bytes.cutEdge (drop at (now (script .entry)))) r ⌝ }
-{
-    let Number::Value(edge, second) = number::read_number(script, at) else {
-        return Decoded::Malformed;
-    };
-    let Number::Value(q, next) = number::read_number(script, second) else {
-        return Decoded::Malformed;
-    };
-    Decoded::Whole(Command::CutEdge(edge, q), next)
-}
-
-// 0B: face, position
-pub fn decode_cut_face_vertex(script: &[u8], at: usize) -> Decoded
-    ensures { λ r. ⌜ Decodes (now (script .entry)) at (readPlace bytes.cutFaceVertex (drop at (now (script .entry)))) r ⌝ }
-{
-    let Number::Value(face, place) = number::read_number(script, at) else {
-        return Decoded::Malformed;
-    };
-    let Located::At(p, next) = coordinate::read_position(script, place) else {
-        return Decoded::Malformed;
-    };
-    Decoded::Whole(Command::CutFaceVertex(face, p.x, p.y), next)
-}
-
 // 0E: vertex or edge
 pub fn decode_uncut(script: &[u8], at: usize) -> Decoded
     ensures { λ r. ⌜ Decodes (now (script .entry)) at (readCellOnly bytes.uncut (drop at (now (script .entry)))) r ⌝ }
@@ -162,4 +96,50 @@ pub fn decode_uncut(script: &[u8], at: usize) -> Decoded
         return Decoded::Malformed;
     };
     Decoded::Whole(Command::Uncut(cell), next)
+}
+
+// 07: a, b
+pub fn decode_glue_vertices(script: &[u8], at: usize) -> Decoded
+    ensures { λ r. ⌜ Decodes (now (script .entry)) at (readTwo bytes.glueVertices (drop at (now (script .entry)))) r ⌝ }
+{
+    let Two::Numbers(a, b, next) = decode_fields::two_numbers(script, at) else {
+        return Decoded::Malformed;
+    };
+    Decoded::Whole(Command::GlueVertices(a, b), next)
+}
+
+// 0A: edge, place
+pub fn decode_cut_edge(script: &[u8], at: usize) -> Decoded
+    ensures { λ r. ⌜ Decodes (now (script .entry)) at (readTwo bytes.cutEdge (drop at (now (script .entry)))) r ⌝ }
+{
+    let Two::Numbers(edge, q, next) = decode_fields::two_numbers(script, at) else {
+        return Decoded::Malformed;
+    };
+    Decoded::Whole(Command::CutEdge(edge, q), next)
+}
+
+// 08: a, b, flag
+pub fn decode_glue_edges(script: &[u8], at: usize) -> Decoded
+    ensures { λ r. ⌜ Decodes (now (script .entry)) at (readGlueEdges (drop at (now (script .entry)))) r ⌝ }
+{
+    let Three::Numbers(a, b, flag, next) = decode_fields::three_numbers(script, at) else {
+        return Decoded::Malformed;
+    };
+    Decoded::Whole(Command::GlueEdges(a, b, flag), next)
+}
+
+// 05: vertex, position; 0B: face, position
+pub fn decode_place(script: &[u8], at: usize, face: bool) -> Decoded
+    ensures { λ r. ⌜ Decodes (now (script .entry)) at (readPlace (placeKind face) (drop at (now (script .entry)))) r ⌝ }
+{
+    let Number::Value(cell, place) = number::read_number(script, at) else {
+        return Decoded::Malformed;
+    };
+    let Located::At(p, next) = coordinate::read_position(script, place) else {
+        return Decoded::Malformed;
+    };
+    if face {
+        return Decoded::Whole(Command::CutFaceVertex(cell, p.x, p.y), next);
+    }
+    Decoded::Whole(Command::Move(cell, p.x, p.y), next)
 }

@@ -1,45 +1,22 @@
 -- `decode::decode_closed` meets its contract: it reads a bend list. Assumes nothing.
-use Prim.Native.Nat.{ℕ}
-use mathlib.Core.List.{List}
+use mathlib.Core.Path.{refl}
 use borrow.Author.Needs.{needs}
-use denote.Ref.{now}
-use Rattle.decode_parts.proofs.Fields.{ListAt, list-at, list-none}
+use Rattle.bends.specs.Bends.{readBends}
+use Rattle.complex.specs.Cells.{closedEdge}
+use Rattle.decode_parts.proofs.Fields.{list-at}
+use Rattle.decode_fields.proofs.Pairs.{list-found, no-list}
+use Rattle.decode_command.proofs.Decides.{unread, whole, of-create}
 use Rattle.decode.proofs.decode_closed.Statement.{statement}
 use Rattle.decode.proofs.decode_closed.Tie as tie
 
-abbrev script : tie.After-known-told → List ℕ
-script c = now (c .before .before .before .before .before .args .script)
-
--- the field that was read
-field : (c : tie.After-known-told) → ListAt (script c) (c .before .before .before .before .before .args .at) (c .before .bends .given .0 .0)
-    (c .before .bends .given .0 .1 .0) (c .before .bends .given .0 .1 .1 .0)
-field c = list-at (c .before .before .before .bends-at .ensures) (c .before .bends .given .1)
-
-bends-at-requires : tie.Need-bends-at-requires
-bends-at-requires c κs = search needs
-
-enum-known-bends : tie.Need-enum-known-bends
-enum-known-bends c = search needs
-
-enum-told : tie.Need-enum-told
-enum-told c = search needs
-
 returns : tie.Need-returns
-returns c =
-    let e = list-none (c .before .before .bends-at .ensures) (c .enum-told .given .1) in
-    record { answer = rw e; ends = tt }
+returns c = of-create readBends closedEdge (unread _ (no-list (c .before .before .bends-at .ensures) (c .enum-told .given .1)))
 
 returns-2 : tie.Need-returns-2
 returns-2 c =
-    let f1 = field c in
-    record { answer = rw (f1 .read); ends = record { after = f1 .after; fits = f1 .fits; lists = f1 .lies } }
+    let h = c .before .before .before .bends-at .ensures in
+    let e = c .before .bends .given .1 in
+    of-create readBends closedEdge (whole _ (list-found h e) _ refl (list-at h e .lies))
 
 pub decode-closed-spec : {M : Type 1} → statement M
-decode-closed-spec =
-    tie.close
-    (tie.spec
-    bends-at-requires
-    enum-known-bends
-    enum-told
-    returns
-    returns-2)
+decode-closed-spec = tie.close (tie.spec (λ c κs. search needs) (λ c. search needs) (λ c. search needs) returns returns-2)

@@ -1,105 +1,44 @@
 -- `decode::decode_open` meets its contract: it reads start, end, bend list. Assumes nothing.
-use Prim.Native.Nat.{ℕ}
-use mathlib.Core.List.{List}
+use mathlib.Core.Path.{refl}
 use borrow.Author.Needs.{needs}
-use native.Mathlib.Omega.{arith}
-use denote.Ref.{now}
-use Rattle.decode_parts.proofs.Fields.{NumberAt, number-at, number-none, ListAt, list-at, list-none}
+use Rattle.number.specs.Said.{done}
+use Rattle.bends.specs.Bends.{readBends}
+use Rattle.decode_parts.proofs.Fields.{list-at}
+use Rattle.decode_fields.specs.Fields.{readTwoNumbers, Found, twoSays}
+use Rattle.decode_fields.proofs.Pairs.{heard, list-found, no-list, pair-none, pair-half, pair-both}
+use Rattle.decode_command.proofs.Decides.{unread, whole}
+use Rattle.decode.proofs.Heads.{of-open}
 use Rattle.decode.proofs.decode_open.Statement.{statement}
 use Rattle.decode.proofs.decode_open.Tie as tie
 
-abbrev script : tie.After-known-told → List ℕ
-script c = now (c .before .before .before .before .before .args .script)
-
--- from a field that was read to the one before it
-abbrev back2 : tie.After-known-told2 → tie.After-known-told
-back2 c = c .before .before .before .before
-
-abbrev back3 : tie.After-known-told3 → tie.After-known-told2
-back3 c = c .before .before .before .before
-
--- the fields that were read
-first : (c : tie.After-known-told) → NumberAt (script c) (c .before .before .before .before .before .args .at) (c .before .start .given .0 .0)
-    (c .before .start .given .0 .1 .0)
-first c = number-at _ _ (c .before .before .before .read-number .ensures) (c .before .start .given .1)
-
-second : (c : tie.After-known-told2) → NumberAt (script (back2 c)) (back2 c .before .start .given .0 .1 .0) (c .before .end .given .0 .0)
-    (c .before .end .given .0 .1 .0)
-second c = number-at _ _ (c .before .before .before .read-number2 .ensures) (c .before .end .given .1)
-
-third : (c : tie.After-known-told3) → ListAt (script (back2 (back3 c))) (back3 c .before .end .given .0 .1 .0) (c .before .bends .given .0 .0)
-    (c .before .bends .given .0 .1 .0) (c .before .bends .given .0 .1 .1 .0)
-third c = list-at (c .before .before .before .bends-at .ensures) (c .before .bends .given .1)
-
-read-number-requires : tie.Need-read-number-requires
-read-number-requires c κs = search needs
-
-enum-known-start : tie.Need-enum-known-start
-enum-known-start c = search needs
-
-enum-told : tie.Need-enum-told
-enum-told c = search needs
+-- start and end
+ends : (c : tie.After-known-told) → let a = c .before .before .before .before .before .args in Found readTwoNumbers (a .script .now) (a .at)
+    (done ((c .before .start .given .0 .0, c .before .start .given .0 .1 .0), c .before .start .given .0 .1 .1 .0))
+ends c = heard twoSays (c .before .before .before .two-numbers .ensures) (c .before .start .given .1)
 
 returns : tie.Need-returns
-returns c =
-    let a = c .before .before .before .before .args in
-    let e = number-none (now (a .script)) (a .at) (c .before .before .read-number .ensures) (c .enum-told .given .1) in
-    record { answer = rw e; ends = tt }
-
-read-number-requires-2 : tie.Need-read-number-requires-2
-read-number-requires-2 c κs = search needs
-
-enum-known-end : tie.Need-enum-known-end
-enum-known-end c = search needs
-
-enum-told-2 : tie.Need-enum-told-2
-enum-told-2 c = search needs
+returns c = of-open (unread _ (pair-none readBends (heard twoSays (c .before .before .two-numbers .ensures) (c .enum-told .given .1))))
 
 returns-2 : tie.Need-returns-2
 returns-2 c =
-    let d = c .before .before .before in
-    let e = number-none (script d) (d .before .start .given .0 .1 .0) (c .before .before .read-number2 .ensures) (c .enum-told2 .given .1) in
-    record { answer = rw (first d .read, e); ends = tt }
-
-bends-at-requires : tie.Need-bends-at-requires
-bends-at-requires c κs = second c .fits
-
-enum-known-bends : tie.Need-enum-known-bends
-enum-known-bends c = search needs
-
-enum-told-3 : tie.Need-enum-told-3
-enum-told-3 c = search needs
+    of-open (unread _ (pair-half (ends (c .before .before .before)) (no-list (c .before .before .bends-at .ensures) (c .enum-told2 .given .1))))
 
 returns-3 : tie.Need-returns-3
 returns-3 c =
-    let d = c .before .before .before in
-    let e = list-none (c .before .before .bends-at .ensures) (c .enum-told3 .given .1) in
-    record { answer = rw (first (back2 d) .read, second d .read, e); ends = tt }
-
-returns-4 : tie.Need-returns-4
-returns-4 c =
-    let f1 = first (back2 (back3 c)) in
-    let f2 = second (back3 c) in
-    let f3 = third c in
-    let l1 = f1 .after in
-    let l2 = f2 .after in
-    let l3 = f3 .after in
-    record { answer = rw (f1 .read, f2 .read, f3 .read); ends = record { after = omega arith; fits = f3 .fits; lists = f3 .lies } }
+    let h = c .before .before .before .bends-at .ensures in
+    let e = c .before .bends .given .1 in
+    of-open (whole _ (pair-both (ends (c .before .before .before .before)) (list-found h e)) _ refl (list-at h e .lies))
 
 pub decode-open-spec : {M : Type 1} → statement M
 decode-open-spec =
     tie.close
     (tie.spec
-    read-number-requires
-    enum-known-start
-    enum-told
+    (λ c κs. search needs)
+    (λ c. search needs)
+    (λ c. search needs)
     returns
-    read-number-requires-2
-    enum-known-end
-    enum-told-2
+    (λ c κs. ends c .is .fits)
+    (λ c. search needs)
+    (λ c. search needs)
     returns-2
-    bends-at-requires
-    enum-known-bends
-    enum-told-3
-    returns-3
-    returns-4)
+    returns-3)

@@ -1,77 +1,18 @@
 -- `decode_command::decode_glue_vertices` meets its contract: it reads a, b. Assumes nothing.
-use Prim.Native.Nat.{ℕ}
-use mathlib.Core.List.{List}
+use mathlib.Core.Path.{refl}
 use borrow.Author.Needs.{needs}
-use native.Mathlib.Omega.{arith}
-use denote.Ref.{now}
-use Rattle.decode_parts.proofs.Fields.{NumberAt, number-at, number-none}
+use Rattle.complex.specs.Decode as bytes
+use Rattle.decode_fields.specs.Fields.{twoSays}
+use Rattle.decode_fields.proofs.Pairs.{heard}
+use Rattle.decode_command.proofs.Decides.{unread, whole, of-two}
 use Rattle.decode_command.proofs.decode_glue_vertices.Statement.{statement}
 use Rattle.decode_command.proofs.decode_glue_vertices.Tie as tie
 
-abbrev script : tie.After-known-told → List ℕ
-script c = now (c .before .before .before .before .before .args .script)
-
--- from a field that was read to the one before it
-abbrev back2 : tie.After-known-told2 → tie.After-known-told
-back2 c = c .before .before .before .before
-
--- the fields that were read
-first : (c : tie.After-known-told) → NumberAt (script c) (c .before .before .before .before .before .args .at) (c .before .a .given .0 .0)
-    (c .before .a .given .0 .1 .0)
-first c = number-at _ _ (c .before .before .before .read-number .ensures) (c .before .a .given .1)
-
-second : (c : tie.After-known-told2) → NumberAt (script (back2 c)) (back2 c .before .a .given .0 .1 .0) (c .before .b .given .0 .0)
-    (c .before .b .given .0 .1 .0)
-second c = number-at _ _ (c .before .before .before .read-number2 .ensures) (c .before .b .given .1)
-
-read-number-requires : tie.Need-read-number-requires
-read-number-requires c κs = search needs
-
-enum-known-a : tie.Need-enum-known-a
-enum-known-a c = search needs
-
-enum-told : tie.Need-enum-told
-enum-told c = search needs
-
 returns : tie.Need-returns
-returns c =
-    let a = c .before .before .before .before .args in
-    let e = number-none (now (a .script)) (a .at) (c .before .before .read-number .ensures) (c .enum-told .given .1) in
-    record { answer = rw e; ends = tt }
-
-read-number-requires-2 : tie.Need-read-number-requires-2
-read-number-requires-2 c κs = search needs
-
-enum-known-b : tie.Need-enum-known-b
-enum-known-b c = search needs
-
-enum-told-2 : tie.Need-enum-told-2
-enum-told-2 c = search needs
+returns c = of-two bytes.glueVertices (unread _ (heard twoSays (c .before .before .two-numbers .ensures) (c .enum-told .given .1)))
 
 returns-2 : tie.Need-returns-2
-returns-2 c =
-    let d = c .before .before .before in
-    let e = number-none (script d) (d .before .a .given .0 .1 .0) (c .before .before .read-number2 .ensures) (c .enum-told2 .given .1) in
-    record { answer = rw (first d .read, e); ends = tt }
-
-returns-3 : tie.Need-returns-3
-returns-3 c =
-    let f1 = first (back2 c) in
-    let f2 = second c in
-    let l1 = f1 .after in
-    let l2 = f2 .after in
-    record { answer = rw (f1 .read, f2 .read); ends = record { after = omega arith; fits = f2 .fits; lists = tt } }
+returns-2 c = of-two bytes.glueVertices (whole _ (heard twoSays (c .before .before .before .two-numbers .ensures) (c .before .a .given .1)) _ refl tt)
 
 pub decode-glue-vertices-spec : {M : Type 1} → statement M
-decode-glue-vertices-spec =
-    tie.close
-    (tie.spec
-    read-number-requires
-    enum-known-a
-    enum-told
-    returns
-    read-number-requires-2
-    enum-known-b
-    enum-told-2
-    returns-2
-    returns-3)
+decode-glue-vertices-spec = tie.close (tie.spec (λ c κs. search needs) (λ c. search needs) (λ c. search needs) returns returns-2)
