@@ -33,8 +33,7 @@ fn slide_rows(
     rows_slide::slide_numbers(ends, from, n, to);
     rows_slide::slide_numbers(bends, from, n, to);
     rows_slide::slide_numbers(counts, from, n, to);
-    rows_slide::slide_coordinates(px, from, n, to);
-    rows_slide::slide_coordinates(py, from, n, to);
+    rows_slide::slide_points(px, py, from, n, to);
 }
 
 // The first n rows that are not dead, moved to the front, and how many they are.

@@ -102,6 +102,22 @@ module _ (is : List ℕ) (at : List Bool) where
   pub put-few : (ts : List Passage) (used : ℕ) (xs ys : List ℕ) (r : ℕ) (xs′ ys′ : List ℕ) → LinksPut is at ts used xs ys r xs′ ys′ → r ≤ used + length ts
   put-few ts used xs ys r xs′ ys′ p = let c = p .count in let f = filter-few ts in omega arith
 
+  -- at most n links so far, in arrays that are as long as before
+  pub record Linking (ts : List Passage) (used : ℕ) (xs ys : List ℕ) (n k : ℕ) (xs′ ys′ : List ℕ) : Type 0 where
+    pub lefts : length xs′ ≡ length xs
+    pub rights : length ys′ ≡ length ys
+    pub few : k ≤ n
+    pub put : LinksPut is at ts used xs ys k xs′ ys′
+
+  pub linking-none : (used : ℕ) (xs ys : List ℕ) (n : ℕ) → used ≤ n → Linking [] used xs ys n used xs ys
+  linking-none used xs ys n h = record { lefts = refl; rights = refl; few = h; put = put-none used xs ys }
+
+  -- m more at most
+  pub linking-on : {ts us : List Passage} {used : ℕ} {xs ys : List ℕ} {n k : ℕ} {xs′ ys′ : List ℕ} {r : ℕ} {xs″ ys″ : List ℕ} (m o : ℕ) → n + m ≤ o
+      → Linking ts used xs ys n k xs′ ys′ → length xs″ ≡ length xs′ → length ys″ ≡ length ys′ → LinksPut is at us used xs ys r xs″ ys″ × (r ≤ k + m)
+      → Linking us used xs ys o r xs″ ys″
+  linking-on m o h l a b w = let f = l .few in let g = w .1 in record { lefts = a ∙ l .lefts; rights = b ∙ l .rights; few = omega arith; put = w .0 }
+
   -- a pair of steps
   module _ (h k x y : ℕ) (ex : x ≡ rowOf (h / 2) is * 2 + (1 - h % 2)) (ey : y ≡ rowOf (k / 2) is * 2 + k % 2) where
     abbrev turn : Passage

@@ -14,7 +14,7 @@ use Rattle.store.specs.Sheet.{real, allReal}
 use Rattle.store.specs.View.{sheetOf, Fits, cycleCount, bendCount, cycleTotal, bendTotal, stepTotal}
 use Rattle.complex.specs.Lists.{total}
 use Rattle.complex.proofs.Bools.{both-true}
-use Rattle.store.specs.Edits.{kept, placesOf, spreadFlags, Compacted, PlacesKept, CyclesKept, withEntries, withBends}
+use Rattle.store.specs.Edits.{kept, placesOf, spreadFlags, Compacted, PlacesKept, CyclesKept, withEntries}
 use Rattle.store.specs.Places.{shapeOf, entryCell, figureCycles, figureBends, entryCycles, entryBends, numOf, cycleWords, word}
 use Rattle.number.specs.Readers.{spread}
 use Rattle.store.proofs.Stands.{Begins, begins-take, Stands, stands, viewed, fitting, cycle-total, bend-total, step-total}
@@ -130,9 +130,6 @@ module _ (d r : Drawing) (z : Sizes d) (f : Fits d) (ms cm bm sm : List Bool)
   pub kept-is : Sizes r → r .next ≡ d .next → r .count ≤ 256 → (sheetOf r ≡ withEntries (sheetOf d) (kept ms (sheetOf d .cells))) × Fits r
   kept-is zr n h =
       (sheet-is r (withEntries (sheetOf d) (kept ms (sheetOf d .cells))) (n ∙ sym (next-is d)) (viewed r _ kept-stands), fitting r _ kept-stands zr h)
-
-pub bends-alone : (d out out′ : Drawing) (l : List Position) → out ≡ withBends d (out .bends) → out′ ≡ withBends out l → out′ ≡ withBends d (out′ .bends)
-bends-alone d out out′ l e f = f ∙ ap (λ (q : Drawing). withBends q l) e ∙ ap (λ (q : Drawing). withBends d (q .bends)) (sym f)
 
 -- r has the cells that stay, and their bends, cycles and steps
 module _ (d r : Drawing) (z : Sizes d) (f : Fits d) (dead : List Bool) (bends cycles : List ℕ)

@@ -7,6 +7,7 @@ use mathlib.Core.List.{List, [], _∷_, _++_}
 use lib.ListN.{length, take, drop, replicate, length-append, length-replicate, length-drop, take-append-drop, replicate-append-replicate}
 use lib.Seq.{take-add, length-take-le, take-at, drop-at, take-all}
 use Rattle.complex.specs.Lists.{total}
+use Rattle.complex.specs.Sound.{cellsMost}
 use Rattle.store.specs.Edits.{placesOf, spreadFlags, Compacted, PlacesKept}
 use Rattle.store.proofs.Lists.{Packing, packing-start, packing-end, spread-append, sum-append, sum-le}
 use Rattle.rows_spans.proofs.Splicing.{run-take}
@@ -136,13 +137,16 @@ module _ {A : Type 0} (z : ℕ) (flags : List Bool) (counts : List ℕ) (h : len
             subst₂ (λ (a : List Bool) (n : ℕ). Compacted a (take n l₀) l) (take-all at (spreadFlags z flags counts) (omega arith)) e k;
       }
 
--- ---- of flags and counts the first n
-module _ (flags : List Bool) (counts : List ℕ) (n : ℕ) (hf : n ≤ length flags) (hc : n ≤ length counts) where
+-- ---- of flags and counts the first n, of arrays with a place for every cell
+module _ (flags : List Bool) (counts : List ℕ) (n : ℕ) (hn : n ≤ cellsMost) (lf : length flags ≡ cellsMost) (lc : length counts ≡ cellsMost) where
+  hc : n ≤ length counts
+  hc = omega arith
+
   pub both-first : length (take n flags) ≡ length (take n counts)
-  both-first = length-take-le n flags hf ∙ sym (length-take-le n counts hc)
+  both-first = length-take-le n flags (omega arith) ∙ sym (length-take-le n counts hc)
 
   -- a stretch of dead rows and of the living ones after them
-  module _ {A : Type 0} (l₀ : List A) (hl : total (placesOf 0) (take n counts) ≤ length l₀) (i at to : ℕ) (l : List A)
+  module _ {A : Type 0} (l₀ : List A) (most : ℕ) (ht : total (placesOf 0) (take n counts) ≤ most) (ll : length l₀ ≡ most) (i at to : ℕ) (l : List A)
       (p : Places 0 (take n flags) (take n counts) l₀ i at to l)
       (s : Stretch) (q : StretchAt flags counts n i s) where
     to-mid : s .mid ≡ i + (s .mid - i)
@@ -171,11 +175,11 @@ module _ (flags : List Bool) (counts : List ℕ) (n : ℕ) (hf : n ≤ length fl
 
     pub stretch-turn : Turned 0 (take n flags) (take n counts) l₀ at to l (s .next) (s .gone) (s .stay)
     stretch-turn =
-        places-turn 0 (take n flags) (take n counts) both-first l₀ hl i at to l p (s .mid - i) (s .next - s .mid) (s .mid) (s .next) to-mid to-next next-in
+        places-turn 0 (take n flags) (take n counts) both-first l₀ (omega arith) i at to l p (s .mid - i) (s .next - s .mid) (s .mid) (s .next) to-mid to-next next-in
         dead-run living-run (s .gone) (s .stay) gone-is stay-is
 
-  pub stretch-end : {A : Type 0} (l₀ : List A) → total (placesOf 0) (take n counts) ≤ length l₀ → (i at to : ℕ) (l : List A) → i ≡ n
+  pub stretch-end : {A : Type 0} (l₀ : List A) (most : ℕ) → total (placesOf 0) (take n counts) ≤ most → length l₀ ≡ most → (i at to : ℕ) (l : List A) → i ≡ n
       → Places 0 (take n flags) (take n counts) l₀ i at to l → PlacesKept 0 (take n flags) (take n counts) l₀ l
-  stretch-end l₀ hl i at to l e p =
-      places-end 0 (take n flags) (take n counts) both-first l₀ hl at to l
+  stretch-end l₀ most ht ll i at to l e p =
+      places-end 0 (take n flags) (take n counts) both-first l₀ (omega arith) at to l
       (subst (λ (k : ℕ). Places 0 (take n flags) (take n counts) l₀ k at to l) (e ∙ sym (length-take-le n counts hc)) p)

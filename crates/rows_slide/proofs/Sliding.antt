@@ -60,23 +60,28 @@ module _ {A : Type 0} where
         rest = drop-set-lt (to + k) l p v (omega arith) ∙ drop-more p (to + k) l old (omega arith) q;
       }
 
-  -- four more go
-  pub slid-four : (old : List A) (from n to : ℕ) (l : List A) (z : A) → to ≤ from → from + n + 3 < length old → Slid old from n to l
-      → Slid old from (n + 4) to
-      (set (set (set (set l (to + n) (getD l (from + n) z)) (to + n + 1) (getD l (from + n + 1) z)) (to + n + 2) (getD l (from + n + 2) z)) (to + n + 3)
-      (getD l (from + n + 3) z))
-  slid-four old from n to l z h g s =
-      let e1 : from + n + 1 ≡ from + (n + 1) = omega arith in
-      let e2 : from + n + 2 ≡ from + (n + 2) = omega arith in
-      let e3 : from + n + 3 ≡ from + (n + 3) = omega arith in
-      let v0 = slid-read old from n to l z h s (from + n) (omega arith) in
-      let v1 = slid-read old from n to l z h s (from + n + 1) (omega arith) ∙ ap (λ (i : ℕ). getD old i z) e1 in
-      let v2 = slid-read old from n to l z h s (from + n + 2) (omega arith) ∙ ap (λ (i : ℕ). getD old i z) e2 in
-      let v3 = slid-read old from n to l z h s (from + n + 3) (omega arith) ∙ ap (λ (i : ℕ). getD old i z) e3 in
-      let s1 = slid-turn old from n to l z _ (to + n) (n + 1) h (omega arith) s v0 refl refl in
-      let s2 = slid-turn old from (n + 1) to _ z _ (to + n + 1) (n + 2) h (omega arith) s1 v1 (omega arith) (omega arith) in
-      let s3 = slid-turn old from (n + 2) to _ z _ (to + n + 2) (n + 3) h (omega arith) s2 v2 (omega arith) (omega arith) in
-      slid-turn old from (n + 3) to _ z _ (to + n + 3) (n + 4) h (omega arith) s3 v3 (omega arith) (omega arith)
+  -- two more go, and four
+  module _ (old : List A) (from n to : ℕ) (l : List A) (z : A) (h : to ≤ from) (s : Slid old from n to l) where
+    ahead : (k m : ℕ) → from + n + k ≡ from + m → getD l (from + n + k) z ≡ getD old (from + m) z
+    ahead k m e = slid-read old from n to l z h s (from + n + k) (omega arith) ∙ ap (λ (i : ℕ). getD old i z) e
+
+    pub slid-one : from + n < length old → Slid old from (n + 1) to (set l (to + n) (getD l (from + n) z))
+    slid-one g = slid-turn old from n to l z _ (to + n) (n + 1) h g s (slid-read old from n to l z h s (from + n) (omega arith)) refl refl
+
+    pub slid-two : from + n + 1 < length old → Slid old from (n + 2) to (set (set l (to + n) (getD l (from + n) z)) (to + n + 1) (getD l (from + n + 1) z))
+    slid-two g =
+        slid-turn old from (n + 1) to _ z _ (to + n + 1) (n + 2) h (omega arith) (slid-one (omega arith)) (ahead 1 (n + 1) (omega arith)) (omega arith)
+        (omega arith)
+
+    pub slid-four : from + n + 3 < length old
+        → Slid old from (n + 4) to
+        (set (set (set (set l (to + n) (getD l (from + n) z)) (to + n + 1) (getD l (from + n + 1) z)) (to + n + 2) (getD l (from + n + 2) z)) (to + n + 3)
+        (getD l (from + n + 3) z))
+    slid-four g =
+        let s3 =
+        slid-turn old from (n + 2) to _ z _ (to + n + 2) (n + 3) h (omega arith) (slid-two (omega arith)) (ahead 2 (n + 2) (omega arith)) (omega arith)
+        (omega arith) in
+        slid-turn old from (n + 3) to _ z _ (to + n + 3) (n + 4) h (omega arith) s3 (ahead 3 (n + 3) (omega arith)) (omega arith) (omega arith)
 
   -- one run goes on where another ended
   pub slid-join : (old mid out : List A) (from a b to n : ℕ) → to ≤ from → n ≡ a + b → Slid old from a to mid → Slid mid (from + a) b (to + a) out
@@ -101,6 +106,10 @@ module _ {A : Type 0} where
       let e : from + i ≡ from + a + (i - a) = omega arith in
       slid-turn old (from + a) (i - a) (to + a) l z (getD l (from + i) z) (to + i) (i + 1 - a) (omega arith) (omega arith) s
       (slid-read old (from + a) (i - a) (to + a) l z (omega arith) s (from + i) (omega arith) ∙ ap (λ (x : ℕ). getD old x z) e) (omega arith) (omega arith)
+
+  -- all have gone
+  pub slid-end : (old : List A) (from i n to : ℕ) (l : List A) → i ≡ n → Slid old from i to l → Slid old from n to l
+  slid-end old from i n to l e s = subst (λ (k : ℕ). Slid old from k to l) e s
 
   -- ---- what stays of a run
   pub kept-dead : (g : ℕ) (xs : List A) → kept (replicate g true) xs ≡ []

@@ -46,41 +46,30 @@ pub fn slide_numbers(l: &mut [u32], from: usize, n: usize, to: usize)
     }
 }
 
-// n coordinates go to an earlier place of the same array, four at a time; how many have gone.
-fn slide_coordinates_fours(l: &mut [f64], from: usize, n: usize, to: usize) -> usize
+// n points go to an earlier place of the same two arrays, two at a time, the first ones first.
+pub fn slide_points(xs: &mut [f64], ys: &mut [f64], from: usize, n: usize, to: usize)
     requires { ⌜ to ≤ from ⌝ }
-    requires { ⌜ from + n ≤ length (now l) ⌝ }
-    ensures { λ r. ⌜ r ≤ n ⌝ }
-    ensures { λ r. ⌜ Slid (now (l .entry)) from r to (now (l .exit)) ⌝ }
-{
-    let mut i: usize = 0;
-    while i + 4 <= n {
-        let a = l[from + i];
-        let b = l[from + i + 1];
-        let c = l[from + i + 2];
-        let d = l[from + i + 3];
-        l[to + i] = a;
-        l[to + i + 1] = b;
-        l[to + i + 2] = c;
-        l[to + i + 3] = d;
-        i = i + 4;
-    }
-    i
-}
-
-// n coordinates go to an earlier place of the same array, the first one first.
-pub fn slide_coordinates(l: &mut [f64], from: usize, n: usize, to: usize)
-    requires { ⌜ to ≤ from ⌝ }
-    requires { ⌜ from + n ≤ length (now l) ⌝ }
-    ensures { λ _. ⌜ Slid (now (l .entry)) from n to (now (l .exit)) ⌝ }
+    requires { ⌜ (from + n ≤ length (now xs)) × (from + n ≤ length (now ys)) ⌝ }
+    ensures { λ _. ⌜ (Slid (now (xs .entry)) from n to (now (xs .exit))) × (Slid (now (ys .entry)) from n to (now (ys .exit))) ⌝ }
 {
     if from == to {
         return;
     }
-    let mut i = slide_coordinates_fours(l, from, n, to);
-    while i < n {
-        l[to + i] = l[from + i];
-        i = i + 1;
+    let mut i: usize = 0;
+    while i + 2 <= n {
+        let a = xs[from + i];
+        let b = xs[from + i + 1];
+        let c = ys[from + i];
+        let d = ys[from + i + 1];
+        xs[to + i] = a;
+        xs[to + i + 1] = b;
+        ys[to + i] = c;
+        ys[to + i + 1] = d;
+        i = i + 2;
+    }
+    if i < n {
+        xs[to + i] = xs[from + i];
+        ys[to + i] = ys[from + i];
     }
 }
 
@@ -182,8 +171,7 @@ pub fn drop_bends(
         let s = next_stretch(dead, counts, n, i);
         let from = at + s.gone;
         let m = s.stay;
-        slide_coordinates(bx, from, m, to);
-        slide_coordinates(by, from, m, to);
+        slide_points(bx, by, from, m, to);
         at = from + m;
         to = to + m;
         i = s.next;

@@ -3,7 +3,7 @@ use borrow.Author.Needs.{needs}
 use Prim.Native.Nat.{ℕ, _+_, _*_, _-_, _≤_}
 use native.Mathlib.Omega.{arith}
 use mathlib.Core.Path.{_≡_, refl, subst, _∙_}
-use lib.ListN.{length, set, length-set}
+use lib.ListN.{length, length-set}
 use Rattle.rows_ends.specs.Ends.{EndMarks}
 use Rattle.rows_ends.proofs.Ends.{marks-turn}
 use Rattle.rows_ends.proofs.mark_ends.Statement.{statement}
@@ -19,166 +19,46 @@ loop-holds : tie.Need-loop-holds Inv-loop μ-loop
 loop-holds c = (omega arith, refl, c .before .before .before .before .pre .1 .1 .1 .1)
 
 mul-k : tie.Need-mul-k Inv-loop μ-loop
-mul-k c =
-    let q = c in
-    let st = q .before .before .before .before .before .before in
-    let a = st .args in
-    let t = q .loop-test .taken in
-    let hk = st .pre .0 in
-    let hs = st .pre .1 .0 in
-    let he = st .pre .1 .1 .0 in
-    let ha = st .pre .1 .1 .1 .0 in
-    let z = q .before .loop .inv .1 in
-    record { fits = omega (arith, q .before .before .before .before .before .shared-slice-known .given 0) }
+mul-k c = search needs
 
 shared-slice-read-k : tie.Need-shared-slice-read-k Inv-loop μ-loop
-shared-slice-read-k c =
-    let q = c .before in
-    let st = q .before .before .before .before .before .before in
-    let a = st .args in
-    let t = q .loop-test .taken in
-    let hk = st .pre .0 in
-    let hs = st .pre .1 .0 in
-    let he = st .pre .1 .1 .0 in
-    let ha = st .pre .1 .1 .1 .0 in
-    let z = q .before .loop .inv .1 in
-    omega arith
+shared-slice-read-k c = search needs
 
 mul-is-end : tie.Need-mul-is-end Inv-loop μ-loop
-mul-is-end c =
-    let q = c .before in
-    let st = q .before .before .before .before .before .before in
-    let a = st .args in
-    let t = q .loop-test .taken in
-    let hk = st .pre .0 in
-    let hs = st .pre .1 .0 in
-    let he = st .pre .1 .1 .0 in
-    let ha = st .pre .1 .1 .1 .0 in
-    let z = q .before .loop .inv .1 in
-    record { fits = omega (arith, q .before .before .before .before .shared-slice-known2 .given 0) }
+mul-is-end c = search needs
 
 shared-slice-read-is-end : tie.Need-shared-slice-read-is-end Inv-loop μ-loop
-shared-slice-read-is-end c =
-    let q = c .before .before in
-    let st = q .before .before .before .before .before .before in
-    let a = st .args in
-    let t = q .loop-test .taken in
-    let hk = st .pre .0 in
-    let hs = st .pre .1 .0 in
-    let he = st .pre .1 .1 .0 in
-    let ha = st .pre .1 .1 .1 .0 in
-    let z = q .before .loop .inv .1 in
-    omega arith
+shared-slice-read-is-end c = search needs
 
 is-end-requires : tie.Need-is-end-requires Inv-loop μ-loop
 is-end-requires c κs = search needs
 
 mul-at : tie.Need-mul-at Inv-loop μ-loop
-mul-at c =
-    let q = c .before .before .before in
-    let st = q .before .before .before .before .before .before in
-    let a = st .args in
-    let t = q .loop-test .taken in
-    let hk = st .pre .0 in
-    let hs = st .pre .1 .0 in
-    let he = st .pre .1 .1 .0 in
-    let ha = st .pre .1 .1 .1 .0 in
-    let z = q .before .loop .inv .1 in
-    record { fits = omega (arith, q .before .before .before .before .before .shared-slice-known .given 0) }
+mul-at c = search needs
 
 slice-write-at : tie.Need-slice-write-at Inv-loop μ-loop
-slice-write-at c =
-    let q = c .before .before .before in
-    let st = q .before .before .before .before .before .before in
-    let a = st .args in
-    let t = q .loop-test .taken in
-    let hk = st .pre .0 in
-    let hs = st .pre .1 .0 in
-    let he = st .pre .1 .1 .0 in
-    let ha = st .pre .1 .1 .1 .0 in
-    let z = q .before .loop .inv .1 in
-    omega arith
+slice-write-at c = search needs
 
 mul-is-end-2 : tie.Need-mul-is-end-2 Inv-loop μ-loop
-mul-is-end-2 c =
-    let q = c .before .before .before in
-    let st = q .before .before .before .before .before .before in
-    let a = st .args in
-    let t = q .loop-test .taken in
-    let hk = st .pre .0 in
-    let hs = st .pre .1 .0 in
-    let he = st .pre .1 .1 .0 in
-    let ha = st .pre .1 .1 .1 .0 in
-    let z = q .before .loop .inv .1 in
-    record { fits = omega (arith, q .before .before .before .shared-slice-known3 .given 0) }
+mul-is-end-2 c = search needs
 
 shared-slice-read-is-end-2 : tie.Need-shared-slice-read-is-end-2 Inv-loop μ-loop
-shared-slice-read-is-end-2 c =
-    let q = c .before .before .before .before in
-    let st = q .before .before .before .before .before .before in
-    let a = st .args in
-    let t = q .loop-test .taken in
-    let hk = st .pre .0 in
-    let hs = st .pre .1 .0 in
-    let he = st .pre .1 .1 .0 in
-    let ha = st .pre .1 .1 .1 .0 in
-    let z = q .before .loop .inv .1 in
-    omega arith
+shared-slice-read-is-end-2 c = search needs
 
 is-end-requires-2 : tie.Need-is-end-requires-2 Inv-loop μ-loop
 is-end-requires-2 c κs = search needs
 
 mul-at-2 : tie.Need-mul-at-2 Inv-loop μ-loop
-mul-at-2 c =
-    let q = c .before .before .before .before .before in
-    let st = q .before .before .before .before .before .before in
-    let a = st .args in
-    let t = q .loop-test .taken in
-    let hk = st .pre .0 in
-    let hs = st .pre .1 .0 in
-    let he = st .pre .1 .1 .0 in
-    let ha = st .pre .1 .1 .1 .0 in
-    let z = q .before .loop .inv .1 in
-    record { fits = omega (arith, q .before .before .before .before .before .shared-slice-known .given 0) }
+mul-at-2 c = search needs
 
 add-at : tie.Need-add-at Inv-loop μ-loop
-add-at c =
-    let q = c .before .before .before .before .before in
-    let st = q .before .before .before .before .before .before in
-    let a = st .args in
-    let t = q .loop-test .taken in
-    let hk = st .pre .0 in
-    let hs = st .pre .1 .0 in
-    let he = st .pre .1 .1 .0 in
-    let ha = st .pre .1 .1 .1 .0 in
-    let z = q .before .loop .inv .1 in
-    record { fits = omega (arith, q .before .before .before .before .before .shared-slice-known .given 0) }
+add-at c = search needs
 
 slice-write-at-2 : tie.Need-slice-write-at-2 Inv-loop μ-loop
-slice-write-at-2 c =
-    let q = c .before .before .before .before .before in
-    let st = q .before .before .before .before .before .before in
-    let a = st .args in
-    let t = q .loop-test .taken in
-    let hk = st .pre .0 in
-    let hs = st .pre .1 .0 in
-    let he = st .pre .1 .1 .0 in
-    let ha = st .pre .1 .1 .1 .0 in
-    let z = q .before .loop .inv .1 in
-    let y = length-set (q .before .loop .at) (q .before .loop .j * 2) (c .before .before .is-end .result) in omega arith
+slice-write-at-2 c = simp length-set (omega arith)
 
 add-j : tie.Need-add-j Inv-loop μ-loop
-add-j c =
-    let q = c .before .before .before .before .before in
-    let st = q .before .before .before .before .before .before in
-    let a = st .args in
-    let t = q .loop-test .taken in
-    let hk = st .pre .0 in
-    let hs = st .pre .1 .0 in
-    let he = st .pre .1 .1 .0 in
-    let ha = st .pre .1 .1 .1 .0 in
-    let z = q .before .loop .inv .1 in
-    record { fits = omega (arith, q .before .before .before .before .before .shared-slice-known .given 0) }
+add-j c = search needs
 
 loop-less : tie.Need-loop-less Inv-loop μ-loop
 loop-less c = search needs
@@ -186,20 +66,11 @@ loop-less c = search needs
 loop-again : tie.Need-loop-again Inv-loop μ-loop
 loop-again c =
     let q = c .before .before .before .before .before in
-    let st = q .before .before .before .before .before .before in
-    let a = st .args in
-    let t = q .loop-test .taken in
-    let hk = st .pre .0 in
-    let hs = st .pre .1 .0 in
-    let he = st .pre .1 .1 .0 in
-    let ha = st .pre .1 .1 .1 .0 in
-    let z = q .before .loop .inv .1 in
-    let l = q .before .loop in (
+    let l = q .before .loop in
+    let st = q .before .before .before .before .before .before in (
       omega arith,
-      length-set (set (l .at) (l .j * 2) (c .before .before .is-end .result)) (l .j * 2 + 1) (c .is-end2 .result)
-          ∙ length-set (l .at) (l .j * 2) (c .before .before .is-end .result) ∙ l .inv .1,
-      marks-turn (a .kinds .now) (a .starts .now) (a .ends .now) (a .v) (l .j) (l .at) (l .inv .2) (omega arith) (c .before .before .is-end .result)
-          (c .is-end2 .result) (c .before .before .is-end .ensures) (c .is-end2 .ensures),
+      simp length-set (l .inv .1),
+      marks-turn _ _ _ _ (l .j) (l .at) (l .inv .2) (omega (arith, st .pre .1 .1 .1 .0, l .inv .1)) _ _ (c .before .before .is-end .ensures) (c .is-end2 .ensures),
     )
 
 same-length : tie.Need-same-length Inv-loop μ-loop

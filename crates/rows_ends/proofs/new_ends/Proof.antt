@@ -18,180 +18,37 @@ loop-holds : tie.Need-loop-holds Inv-loop μ-loop
 loop-holds c = let a = c .before .before .before .args in (omega arith, ends-start (a .side) (a .at .now) (a .groups .now) (a .v) (a .next) (a .ends .now))
 
 mul-p : tie.Need-mul-p Inv-loop μ-loop
-mul-p c =
-    let q = c in
-    let st = q .before .before .before .before .before in
-    let a = st .args in
-    let t = q .loop-test .taken in
-    let h = st .pre in
-    let l = q .before .loop in
-    let s = h .oneSide in
-    let hm = h .marks in
-    let hg = h .numbers in
-    let hr = h .rows in
-    let f = h .few in
-    let z = l .inv .1 .size in
-    record { fits = omega arith }
+mul-p c = search needs
 
 add-p : tie.Need-add-p Inv-loop μ-loop
-add-p c =
-    let q = c in
-    let st = q .before .before .before .before .before in
-    let a = st .args in
-    let t = q .loop-test .taken in
-    let h = st .pre in
-    let l = q .before .loop in
-    let s = h .oneSide in
-    let hm = h .marks in
-    let hg = h .numbers in
-    let hr = h .rows in
-    let f = h .few in
-    let z = l .inv .1 .size in
-    record { fits = omega arith }
+add-p c = search needs
 
 shared-slice-read-new-end : tie.Need-shared-slice-read-new-end Inv-loop μ-loop
-shared-slice-read-new-end c =
-    let q = c .before in
-    let st = q .before .before .before .before .before in
-    let a = st .args in
-    let t = q .loop-test .taken in
-    let h = st .pre in
-    let l = q .before .loop in
-    let s = h .oneSide in
-    let hm = h .marks in
-    let hg = h .numbers in
-    let hr = h .rows in
-    let f = h .few in
-    let z = l .inv .1 .size in
-    omega arith
+shared-slice-read-new-end c = search needs
 
 mul-new-end : tie.Need-mul-new-end Inv-loop μ-loop
-mul-new-end c =
-    let q = c .before in
-    let st = q .before .before .before .before .before in
-    let a = st .args in
-    let t = q .loop-test .taken in
-    let h = st .pre in
-    let l = q .before .loop in
-    let s = h .oneSide in
-    let hm = h .marks in
-    let hg = h .numbers in
-    let hr = h .rows in
-    let f = h .few in
-    let z = l .inv .1 .size in
-    record { fits = omega arith }
+mul-new-end c = search needs
 
 shared-slice-read-new-end-2 : tie.Need-shared-slice-read-new-end-2 Inv-loop μ-loop
-shared-slice-read-new-end-2 c =
-    let q = c .before .before in
-    let st = q .before .before .before .before .before in
-    let a = st .args in
-    let t = q .loop-test .taken in
-    let h = st .pre in
-    let l = q .before .loop in
-    let s = h .oneSide in
-    let hm = h .marks in
-    let hg = h .numbers in
-    let hr = h .rows in
-    let f = h .few in
-    let z = l .inv .1 .size in
-    omega arith
+shared-slice-read-new-end-2 c = search needs
 
 mul-new-end-2 : tie.Need-mul-new-end-2 Inv-loop μ-loop
-mul-new-end-2 c =
-    let q = c .before .before in
-    let st = q .before .before .before .before .before in
-    let a = st .args in
-    let t = q .loop-test .taken in
-    let h = st .pre in
-    let l = q .before .loop in
-    let s = h .oneSide in
-    let hm = h .marks in
-    let hg = h .numbers in
-    let hr = h .rows in
-    let f = h .few in
-    let z = l .inv .1 .size in
-    record { fits = omega arith }
+mul-new-end-2 c = search needs
 
 slice-read-new-end : tie.Need-slice-read-new-end Inv-loop μ-loop
-slice-read-new-end c =
-    let q = c .before .before .before in
-    let st = q .before .before .before .before .before in
-    let a = st .args in
-    let t = q .loop-test .taken in
-    let h = st .pre in
-    let l = q .before .loop in
-    let s = h .oneSide in
-    let hm = h .marks in
-    let hg = h .numbers in
-    let hr = h .rows in
-    let f = h .few in
-    let z = l .inv .1 .size in
-    omega arith
+slice-read-new-end c = search needs
 
 new-end-requires : tie.Need-new-end-requires Inv-loop μ-loop
-new-end-requires c κs =
-    let q = c .before .before .before in
-    let st = q .before .before .before .before .before in
-    let a = st .args in
-    let t = q .loop-test .taken in
-    let h = st .pre in
-    let l = q .before .loop in
-    let s = h .oneSide in
-    let hm = h .marks in
-    let hg = h .numbers in
-    let hr = h .rows in
-    let f = h .few in
-    let z = l .inv .1 .size in
-    (h .small (l .j * 2 + a .side), h .ids)
+new-end-requires c κs = let h = c .before .before .before .before .before .before .before .before .pre in (h .small _, h .ids)
 
 mul-ends : tie.Need-mul-ends Inv-loop μ-loop
-mul-ends c =
-    let q = c .before .before .before .before in
-    let st = q .before .before .before .before .before in
-    let a = st .args in
-    let t = q .loop-test .taken in
-    let h = st .pre in
-    let l = q .before .loop in
-    let s = h .oneSide in
-    let hm = h .marks in
-    let hg = h .numbers in
-    let hr = h .rows in
-    let f = h .few in
-    let z = l .inv .1 .size in
-    record { fits = omega arith }
+mul-ends c = search needs
 
 slice-write-ends : tie.Need-slice-write-ends Inv-loop μ-loop
-slice-write-ends c =
-    let q = c .before .before .before .before in
-    let st = q .before .before .before .before .before in
-    let a = st .args in
-    let t = q .loop-test .taken in
-    let h = st .pre in
-    let l = q .before .loop in
-    let s = h .oneSide in
-    let hm = h .marks in
-    let hg = h .numbers in
-    let hr = h .rows in
-    let f = h .few in
-    let z = l .inv .1 .size in
-    omega arith
+slice-write-ends c = search needs
 
 add-j : tie.Need-add-j Inv-loop μ-loop
-add-j c =
-    let q = c .before .before .before .before in
-    let st = q .before .before .before .before .before in
-    let a = st .args in
-    let t = q .loop-test .taken in
-    let h = st .pre in
-    let l = q .before .loop in
-    let s = h .oneSide in
-    let hm = h .marks in
-    let hg = h .numbers in
-    let hr = h .rows in
-    let f = h .few in
-    let z = l .inv .1 .size in
-    record { fits = omega arith }
+add-j c = search needs
 
 loop-less : tie.Need-loop-less Inv-loop μ-loop
 loop-less c = search needs
@@ -200,20 +57,7 @@ loop-again : tie.Need-loop-again Inv-loop μ-loop
 loop-again c =
     let q = c .before .before .before .before in
     let st = q .before .before .before .before .before in
-    let a = st .args in
-    let t = q .loop-test .taken in
-    let h = st .pre in
-    let l = q .before .loop in
-    let s = h .oneSide in
-    let hm = h .marks in
-    let hg = h .numbers in
-    let hr = h .rows in
-    let f = h .few in
-    let z = l .inv .1 .size in (
-      omega arith,
-      ends-turn (a .side) (a .at .now) (a .groups .now) (a .v) (a .next) (l .j) (a .ends .now) (l .ends) (l .inv .1) (omega arith)
-          (c .new-end .result) (c .new-end .ensures),
-    )
+    (omega arith, ends-turn _ _ _ _ _ (q .before .loop .j) _ _ (q .before .loop .inv .1) (omega (arith, st .pre .rows, q .before .loop .inv .1 .size)) _ (c .new-end .ensures))
 
 same-length : tie.Need-same-length Inv-loop μ-loop
 same-length c = c .before .loop .inv .1 .size

@@ -16,118 +16,48 @@ shared-slice-read-if1 c = search needs
 
 returns : tie.Need-returns
 returns c =
-    let st = c .before .before .before .before .before .before in
-    let a = st .args in
-    sorting-skip (a .at .now) (a .xs .now) (a .ys .now) (a .m) (a .p) (a .g) (a .groups .now) (st .pre .1 .1)
+    sorting-skip _ _ _ _ _ _ _ (c .before .before .before .before .before .before .pre .1 .1)
     (λ e. absurd (true≢false (sym e ∙ not-true _ (c .if1 .taken))))
 
 mul-if2 : tie.Need-mul-if2
-mul-if2 c =
-    let st = c .before .before .before .before .before .before in
-    let a = st .args in
-    let f = st .pre .0 .few in
-    let k = st .pre .0 .marks in
-    let h = st .pre .1 .0 in
-    let s = st .pre .1 .1 .few in
-    record { fits = omega arith }
+mul-if2 c = search needs
 
 slice-read-if2 : tie.Need-slice-read-if2
-slice-read-if2 c =
-    let st = c .before .before .before .before .before .before .before in
-    let a = st .args in
-    let f = st .pre .0 .few in
-    let k = st .pre .0 .marks in
-    let h = st .pre .1 .0 in
-    let s = st .pre .1 .1 .few in
-    omega arith
+slice-read-if2 c = search needs
 
 returns-2 : tie.Need-returns-2
-returns-2 c =
-    let st = c .before .before .before .before .before .before .before .before in
-    let a = st .args in
-    sorting-skip (a .at .now) (a .xs .now) (a .ys .now) (a .m) (a .p) (a .g) (a .groups .now) (st .pre .1 .1) (λ e. c .if2 .taken)
+returns-2 c = sorting-skip _ _ _ _ _ _ _ (c .before .before .before .before .before .before .before .before .pre .1 .1) (λ e. c .if2 .taken)
 
 add-groups : tie.Need-add-groups
-add-groups c =
-    let st = c .before .before .before .before .before .before .before .before in
-    let a = st .args in
-    let f = st .pre .0 .few in
-    let k = st .pre .0 .marks in
-    let h = st .pre .1 .0 in
-    let s = st .pre .1 .1 .few in
-    record { fits = omega arith }
+add-groups c = search needs
 
 mul-groups : tie.Need-mul-groups
-mul-groups c =
-    let st = c .before .before .before .before .before .before .before .before in
-    let a = st .args in
-    let f = st .pre .0 .few in
-    let k = st .pre .0 .marks in
-    let h = st .pre .1 .0 in
-    let s = st .pre .1 .1 .few in
-    record { fits = omega arith }
+mul-groups c = search needs
 
 slice-write-groups : tie.Need-slice-write-groups
-slice-write-groups c =
-    let st = c .before .before .before .before .before .before .before .before in
-    let a = st .args in
-    let f = st .pre .0 .few in
-    let k = st .pre .0 .marks in
-    let h = st .pre .1 .0 in
-    let s = st .pre .1 .1 .few in
-    omega arith
+slice-write-groups c = search needs
 
 add-reach : tie.Need-add-reach
-add-reach c =
-    let st = c .before .before .before .before .before .before .before .before .before in
-    let a = st .args in
-    let f = st .pre .0 .few in
-    let k = st .pre .0 .marks in
-    let h = st .pre .1 .0 in
-    let s = st .pre .1 .1 .few in
-    record { fits = omega arith }
+add-reach c = search needs
 
 reach-requires : tie.Need-reach-requires
 reach-requires c κs =
     let st = c .before .before .before .before .before .before .before .before .before in
     let a = st .args in
-    let f = st .pre .0 .few in
-    let k = st .pre .0 .marks in
-    let h = st .pre .1 .0 in
-    let s = st .pre .1 .1 .few in
     subst (λ (n : ℕ). Links n (a .xs .now) (a .ys .now) (a .m)) (sym (length-set (a .groups .now) (a .p) (a .g + 1))) (st .pre .0 .links)
 
 add-result : tie.Need-add-result
-add-result c =
-    let st = c .before .before .before .before .before .before .before .before .before .before .before .before in
-    let a = st .args in
-    let f = st .pre .0 .few in
-    let k = st .pre .0 .marks in
-    let h = st .pre .1 .0 in
-    let s = st .pre .1 .1 .few in
-    record { fits = omega arith }
+add-result c = search needs
 
 same-length : tie.Need-same-length
-same-length c =
-    let st = c .before .before .before .before .before .before .before .before .before .before .before .before in
-    let a = st .args in
-    let f = st .pre .0 .few in
-    let k = st .pre .0 .marks in
-    let h = st .pre .1 .0 in
-    let s = st .pre .1 .1 .few in
-    c .before .before .reach .kept .0 ∙ length-set (a .groups .now) (a .p) (a .g + 1)
+same-length c = c .before .before .reach .kept .0 ∙ simp length-set
 
 returns-3 : tie.Need-returns-3
 returns-3 c =
-    let st = c .before .before .before .before .before .before .before .before .before .before .before .before in
-    let a = st .args in
-    let f = st .pre .0 .few in
-    let k = st .pre .0 .marks in
-    let h = st .pre .1 .0 in
-    let s = st .pre .1 .1 .few in
     let q = c .before .before .before .before in
-    sorting-new (a .at .now) (a .xs .now) (a .ys .now) (a .m) (a .p) (a .g) (a .groups .now) (st .pre .1 .1) (not-false _ (q .before .before .if1 .left))
-    (q .if2 .left) (omega arith) _ (c .before .before .reach .ensures)
+    let p = q .before .before .before .before .before .before .before .before .pre in
+    sorting-new _ _ _ _ _ _ _ (p .1 .1) (not-false _ (q .before .before .if1 .left)) (q .if2 .left) (omega (arith, p .0 .marks, p .1 .0)) _
+    (c .before .before .reach .ensures)
 
 pub start-group-spec : {M : Type 1} → statement M
 start-group-spec =

@@ -1,6 +1,6 @@
 -- `place` meets its contract. Assumes nothing.
 use borrow.Author.Needs.{needs}
-use Prim.Native.Nat.{_-_}
+use Prim.Native.Nat.{_≤_}
 use native.Mathlib.Omega.{arith}
 use lib.ListN.{take}
 use lib.Seq.{length-take-le}
@@ -11,38 +11,23 @@ use Rattle.rows_links.proofs.place.Tie as tie
 find-requires : tie.Need-find-requires
 find-requires c κs = let p = c .pre .0 in (p .few, (p .size, p .rising))
 
-cast-result : tie.Need-cast-result
-cast-result c =
+-- the row is one of those in use, or the next
+few : (c : tie.After-find) → c .find .result ≤ 256
+few c =
     let a = c .before .args in
     let p = c .before .pre .0 in
-    let e = c .find .ensures in
-    let r = row-le (a .e) (take (a .n) (a .ids .now)) in
-    let l = length-take-le (a .n) (a .ids .now) (let s = p .size in let f = p .few in omega arith) in
     let f = p .few in
-    let s = c .before .pre .1 in
-    record { fits = omega arith }
+    let l = length-take-le (a .n) (a .ids .now) (omega (arith, p .size)) in
+    omega (arith, c .find .ensures, row-le (a .e) (take (a .n) (a .ids .now)))
+
+cast-result : tie.Need-cast-result
+cast-result c = record { fits = omega (arith, few c) }
 
 mul-result : tie.Need-mul-result
-mul-result c =
-    let a = c .before .args in
-    let p = c .before .pre .0 in
-    let e = c .find .ensures in
-    let r = row-le (a .e) (take (a .n) (a .ids .now)) in
-    let l = length-take-le (a .n) (a .ids .now) (let s = p .size in let f = p .few in omega arith) in
-    let f = p .few in
-    let s = c .before .pre .1 in
-    record { fits = omega arith }
+mul-result c = record { fits = omega (arith, few c) }
 
 add-result : tie.Need-add-result
-add-result c =
-    let a = c .before .args in
-    let p = c .before .pre .0 in
-    let e = c .find .ensures in
-    let r = row-le (a .e) (take (a .n) (a .ids .now)) in
-    let l = length-take-le (a .n) (a .ids .now) (let s = p .size in let f = p .few in omega arith) in
-    let f = p .few in
-    let s = c .before .pre .1 in
-    record { fits = omega arith }
+add-result c = record { fits = omega (arith, few c) }
 
 returns : tie.Need-returns
 returns c = search needs

@@ -3,9 +3,7 @@ use borrow.Author.Needs.{needs}
 use Prim.Native.Nat.{_≤_, _-_}
 use native.Mathlib.Omega.{arith}
 use mathlib.Core.Path.{_≡_}
-use lib.ListN.{length, take}
-use Rattle.complex.specs.Lists.{total}
-use Rattle.store.specs.Edits.{placesOf}
+use lib.ListN.{take}
 use Rattle.rows_slide.proofs.Runs.{Places, Turned, none-gone, stretch-turn, stretch-end}
 use Rattle.rows_slide.proofs.drop_bends.Statement.{statement}
 use Rattle.rows_slide.proofs.drop_bends.Tie as tie
@@ -17,28 +15,23 @@ Inv-loop dead counts n bx₀ by₀ i₀ at₀ to₀ bx by i at to =
 abbrev μ-loop : tie.MeasureT-loop
 μ-loop dead counts n bx₀ by₀ i₀ at₀ to₀ bx by i at to = n - i
 
-known : (s : tie.Start Inv-loop μ-loop) → (s .args .n ≤ length (s .args .dead .now)) × (s .args .n ≤ length (s .args .counts .now))
-    × (total (placesOf 0) (take (s .args .n) (s .args .counts .now)) ≤ length (s .args .bx .now))
-    × (total (placesOf 0) (take (s .args .n) (s .args .counts .now)) ≤ length (s .args .by .now))
-known s =
-    let n = s .pre .0 in
-    let t = s .pre .1 .0 in
-    let l = s .pre .1 .1 in
-    (omega (arith, l .0), omega (arith, l .1), omega (arith, l .2), omega (arith, l .3))
+abbrev turn : tie.After-next-stretch Inv-loop μ-loop → tie.At-loop Inv-loop μ-loop
+turn c = c .before .before .before .before
+
+abbrev found : tie.After-slide-points Inv-loop μ-loop → tie.After-next-stretch Inv-loop μ-loop
+found c = c .before .before .before .before
 
 -- what the stretch that was found gives, in each array
-along : (c : tie.After-next-stretch Inv-loop μ-loop) → let v = c .before .before .before .before .loop in let s = c .next-stretch .result in
-    let a = c .before .before .before .before .before .args in
+along : (c : tie.After-next-stretch Inv-loop μ-loop) → let a = turn c .before .args in let v = turn c .loop in let s = c .next-stretch .result in
     Turned 0 (take (a .n) (a .dead .now)) (take (a .n) (a .counts .now)) (a .bx .now) (v .at) (v .to) (v .bx) (s .next) (s .gone) (s .stay)
     × Turned 0 (take (a .n) (a .dead .now)) (take (a .n) (a .counts .now)) (a .by .now) (v .at) (v .to) (v .by) (s .next) (s .gone) (s .stay)
 along c =
-    let v = c .before .before .before .before .loop in
-    let s = c .before .before .before .before .before in
-    let a = s .args in
-    let k = known s in
-    let r = c .next-stretch in (
-      stretch-turn (a .dead .now) (a .counts .now) (a .n) (k .0) (k .1) (a .bx .now) (k .2) (v .i) (v .at) (v .to) (v .bx) (v .inv .1) (r .result) (r .ensures),
-      stretch-turn (a .dead .now) (a .counts .now) (a .n) (k .0) (k .1) (a .by .now) (k .3) (v .i) (v .at) (v .to) (v .by) (v .inv .2) (r .result) (r .ensures),
+    let p = turn c .before .pre in
+    let l = p .1 .1 in
+    let v = turn c .loop .inv in
+    let r = c .next-stretch .ensures in (
+      stretch-turn _ _ _ (p .0) (l .0) (l .1) _ _ (p .1 .0) (l .2) _ _ _ _ (v .1) _ r,
+      stretch-turn _ _ _ (p .0) (l .0) (l .1) _ _ (p .1 .0) (l .3) _ _ _ _ (v .2) _ r,
     )
 
 loop-holds : tie.Need-loop-holds Inv-loop μ-loop
@@ -48,51 +41,40 @@ next-stretch-requires : tie.Need-next-stretch-requires Inv-loop μ-loop
 next-stretch-requires c κs = search needs
 
 add-from : tie.Need-add-from Inv-loop μ-loop
-add-from c = let s = c .before .before .before .before .before .before in omega (arith, along (c .before) .0 .within, s .pre .1 .0)
+add-from c = omega (arith, along (c .before) .0 .within, turn (c .before) .before .pre .1 .0)
 
-slide-coordinates-requires : tie.Need-slide-coordinates-requires Inv-loop μ-loop
-slide-coordinates-requires c κs =
-    let v = c .before .before .before .before .before .before in
-    let t = along (c .before .before) .0 in
-    (omega (arith, t .below), omega (arith, t .within, known (v .before) .2, v .loop .inv .1 .packing .size))
-
-slide-coordinates-requires-2 : tie.Need-slide-coordinates-requires-2 Inv-loop μ-loop
-slide-coordinates-requires-2 c κs =
-    let v = c .before .before .before .before .before .before .before .before in
-    let t = along (c .before .before .before .before) .1 in
-    (omega (arith, t .below), omega (arith, t .within, known (v .before) .3, v .loop .inv .2 .packing .size))
+slide-points-requires : tie.Need-slide-points-requires Inv-loop μ-loop
+slide-points-requires c κs =
+    let q = c .before .before .before in
+    let p = turn q .before .pre .1 in
+    let v = turn q .loop .inv in
+    let t = along q .0 in
+    (omega (arith, t .below), (omega (arith, t .within, p .0, p .1 .2, v .1 .packing .size), omega (arith, t .within, p .0, p .1 .3, v .2 .packing .size)))
 
 add-at : tie.Need-add-at Inv-loop μ-loop
-add-at c =
-    let s = c .before .before .before .before .before .before .before .before .before .before in
-    omega (arith, along (c .before .before .before .before .before) .0 .within, s .pre .1 .0)
+add-at c = omega (arith, along (found c) .0 .within, turn (found c) .before .pre .1 .0)
 
 add-to : tie.Need-add-to Inv-loop μ-loop
-add-to c =
-    let s = c .before .before .before .before .before .before .before .before .before .before in
-    let t = along (c .before .before .before .before .before) .0 in
-    omega (arith, t .below, t .within, s .pre .1 .0)
+add-to c = let t = along (found c) .0 in omega (arith, t .below, t .within, turn (found c) .before .pre .1 .0)
 
 loop-less : tie.Need-loop-less Inv-loop μ-loop
-loop-less c =
-    let q = c .before .before .before .before .before .next-stretch .ensures in
-    omega (arith, q .more, q .living .within)
+loop-less c = let q = found c .next-stretch .ensures in omega (arith, q .more, q .living .within)
 
 loop-again : tie.Need-loop-again Inv-loop μ-loop
 loop-again c =
-    let q = c .before .before .before .before .before in
-    let t = along q in
-    (q .next-stretch .ensures .living .within, t .0 .again _ (c .before .before .slide-coordinates .ensures), t .1 .again _ (c .slide-coordinates2 .ensures))
+    let t = along (found c) in
+    let s = c .slide-points .ensures in
+    (found c .next-stretch .ensures .living .within, t .0 .again _ (s .0), t .1 .again _ (s .1))
 
 returns : tie.Need-returns Inv-loop μ-loop
 returns c =
-    let v = c .before .loop in
-    let a = c .before .before .args in
-    let k = known (c .before .before) in
-    let e : v .i ≡ a .n = omega (arith, v .inv .0) in
+    let v = c .before .loop .inv in
+    let p = c .before .before .pre in
+    let l = p .1 .1 in
+    let e : c .before .loop .i ≡ c .before .before .args .n = omega (arith, v .0) in
     record {
-      xs = stretch-end (a .dead .now) (a .counts .now) (a .n) (k .0) (k .1) (a .bx .now) (k .2) (v .i) (v .at) (v .to) (v .bx) e (v .inv .1);
-      ys = stretch-end (a .dead .now) (a .counts .now) (a .n) (k .0) (k .1) (a .by .now) (k .3) (v .i) (v .at) (v .to) (v .by) e (v .inv .2);
+      xs = stretch-end _ _ _ (p .0) (l .0) (l .1) _ _ (p .1 .0) (l .2) _ _ _ _ e (v .1);
+      ys = stretch-end _ _ _ (p .0) (l .0) (l .1) _ _ (p .1 .0) (l .3) _ _ _ _ e (v .2);
     }
 
 pub drop-bends-spec : {M : Type 1} → statement M
@@ -104,8 +86,7 @@ drop-bends-spec =
     loop-holds
     next-stretch-requires
     add-from
-    slide-coordinates-requires
-    slide-coordinates-requires-2
+    slide-points-requires
     add-at
     add-to
     loop-less

@@ -121,7 +121,7 @@ loop-again c =
     let at = c .before .before .before .before .before in
     let st = at .before in
     let a = st .args in
-    (omega arith, slid-four (a .l .now) (a .from) (at .loop .i) (a .to) (at .loop .l) 0 (st .pre .0) (omega (arith, st .pre .1)) (at .loop .inv .1))
+    (omega arith, slid-four (a .l .now) (a .from) (at .loop .i) (a .to) (at .loop .l) 0 (st .pre .0) (at .loop .inv .1) (omega (arith, st .pre .1)))
 
 same-length : tie.Need-same-length Inv-loop μ-loop
 same-length c = c .before .loop .inv .1 .size
