@@ -75,6 +75,13 @@ module _ (ns : List ℕ) (from n i sum : ℕ) (r : from + n ≤ length ns) (h : 
       let u : widthSum (take n (runOf from n ns)) ≡ widthSum (runOf from n ns) = ap widthSum (take-all n (runOf from n ns) (omega arith)) in
       omega arith
 
+-- the i-th of a run of cycles, whose steps begin at step
+pub record NextRing (ns : List ℕ) (from n : ℕ) (st : List ℕ) (first i step : ℕ) : Type 0 where
+  pub is : getD (cyclesFrom (runOf from n ns) (drop first st)) i (lone 0) ≡ cycleOf (getD ns (from + i) 0) (drop step st)
+  pub after : step + width (getD ns (from + i) 0) ≡ first + widthSum (take (i + 1) (runOf from n ns))
+  pub within : step + width (getD ns (from + i) 0) ≤ 2048
+  pub spelled : T (cycleSpells (cycleOf (getD ns (from + i) 0) (drop step st)))
+
 module _ (ns : List ℕ) (from n : ℕ) (st : List ℕ) (first : ℕ) (r : Rings ns from n st first) where
   rings-room : from + n ≤ length ns
   rings-room = let a = r .room in let b = r .sizes .0 in omega arith
@@ -82,21 +89,21 @@ module _ (ns : List ℕ) (from n : ℕ) (st : List ℕ) (first : ℕ) (r : Rings
   pub rings-size : length (cyclesFrom (runOf from n ns) (drop first st)) ≡ n
   rings-size = length-cycles (runOf from n ns) (drop first st) ∙ run-length from n ns rings-room
 
-  -- the i-th cycle, whose steps begin at step
   module _ (i step : ℕ) (h : i < n) (e : step ≡ first + widthSum (take i (runOf from n ns))) where
-    pub ring-at : getD (cyclesFrom (runOf from n ns) (drop first st)) i (lone 0) ≡ cycleOf (getD ns (from + i) 0) (drop step st)
+    ring-at : getD (cyclesFrom (runOf from n ns) (drop first st)) i (lone 0) ≡ cycleOf (getD ns (from + i) 0) (drop step st)
     ring-at =
         let k = run-length from n ns rings-room in
         cycle-at (runOf from n ns) (drop first st) i (lone 0) (omega arith)
         ∙ ap₂ cycleOf (run-get from n ns i 0 h) (drop-drop (widthSum (take i (runOf from n ns))) first st ∙ ap (λ (m : ℕ). drop m st) (sym e))
 
-    pub ring-next : step + width (getD ns (from + i) 0) ≡ first + widthSum (take (i + 1) (runOf from n ns))
-    ring-next = let m = steps-more ns from n i (widthSum (take i (runOf from n ns))) rings-room h refl in omega arith
-
-    pub ring-within : step + width (getD ns (from + i) 0) ≤ 2048
-    ring-within = let m = steps-within ns from n i (widthSum (take i (runOf from n ns))) rings-room h refl in let p = r .places in omega arith
-
-    pub ring-spells : T (cycleSpells (cycleOf (getD ns (from + i) 0) (drop step st)))
-    ring-spells =
-        let k = rings-size in
-        subst (λ (c : Cycle). T (cycleSpells c)) ring-at (all-get cycleSpells (cyclesFrom (runOf from n ns) (drop first st)) i (lone 0) (r .spelled) (omega arith))
+    pub next-ring : NextRing ns from n st first i step
+    next-ring =
+        record {
+          is = ring-at;
+          after = let m = steps-more ns from n i (widthSum (take i (runOf from n ns))) rings-room h refl in omega arith;
+          within = let m = steps-within ns from n i (widthSum (take i (runOf from n ns))) rings-room h refl in let p = r .places in omega arith;
+          spelled =
+              let k = rings-size in
+              subst (λ (c : Cycle). T (cycleSpells c)) ring-at
+              (all-get cycleSpells (cyclesFrom (runOf from n ns) (drop first st)) i (lone 0) (r .spelled) (omega arith));
+        }

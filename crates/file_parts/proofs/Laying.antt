@@ -52,8 +52,19 @@ room-then {m} {p} l at xs ys a h =
     let v = put-size a in
     omega arith
 
-pub room-joined : (l xs ys zs : List ℕ) → length (xs ++ (ys ++ zs)) ≤ length l → 0 + length ((xs ++ ys) ++ zs) ≤ length l
-room-joined l xs ys zs h = let e = ap length (append-assoc xs ys zs) in omega arith
+-- a head of two parts and what follows it, from the first place on
+module _ (l xs ys zs : List ℕ) (h : length (xs ++ (ys ++ zs)) ≤ length l) where
+  joined : 0 + length ((xs ++ ys) ++ zs) ≤ length l
+  joined = let e = ap length (append-assoc xs ys zs) in omega arith
+
+  pub room-head : 0 + length (xs ++ ys) ≤ length l
+  room-head = room-first l 0 (xs ++ ys) zs joined
+
+  pub room-tail : {m : List ℕ} {p : ℕ} → BytesPut l 0 (xs ++ ys) m p → p + length zs ≤ length m
+  room-tail a = room-then l 0 (xs ++ ys) zs a joined
+
+  pub put-tail : {m n : List ℕ} {p q : ℕ} → BytesPut l 0 (xs ++ ys) m p → BytesPut m p zs n q → BytesPut l 0 (xs ++ (ys ++ zs)) n q
+  put-tail a b = put-as (append-assoc xs ys zs) (put-then (xs ++ ys) zs a b)
 
 -- ---- one element more of a list
 module _ {A : Type 0} (f : A → List ℕ) (l : List A) where

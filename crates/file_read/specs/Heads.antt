@@ -1,6 +1,7 @@
 -- The fields of a cell in a file up to its bends and cycles, of which a shape has the counts. Definitions only.
 use Prim.Native.Nat.{ℕ, _≤_}
 use mathlib.Core.Path.{_≡_}
+use mathlib.Core.Bool.{Bool, true, false, cond}
 use mathlib.Core.List.{List, [], _∷_}
 use lib.ListN.{length, getD, drop}
 use Rattle.number.specs.Readers.{Read, got, bad, andThen}
@@ -10,10 +11,16 @@ use Rattle.coordinate.specs.Positions.{readPosition}
 use Rattle.store.specs.declared.Shape.{Shape}
 use Rattle.store.specs.declared.Shape.the-variants.{Vertex, Open, Closed, Face}
 use Rattle.store.specs.declared.Cell.{Cell}
+use Rattle.file_read.specs.declared.Two.{Two}
+use Rattle.file_read.specs.declared.Two.the-variants.{Both, NotBoth}
 use Rattle.file_read.specs.declared.ShapeFound.{ShapeFound}
 use Rattle.file_read.specs.declared.ShapeFound.the-variants.{Shaped, NoShape}
 use Rattle.file_read.specs.declared.CellFound.{CellFound}
 use Rattle.file_read.specs.declared.CellFound.the-variants.{Begun, NoCell}
+
+-- two numbers, one after another
+abbrev pub readTwo : List ℕ → Read (ℕ × ℕ)
+readTwo s = andThen (readNumber s) λ a t. andThen (readNumber t) λ b u. got (a, b) u
 
 abbrev pub vertexShape : List ℕ → Read Shape
 vertexShape s = andThen (readPosition s) λ p t. got (Vertex p) t
@@ -22,18 +29,15 @@ vertexShape s = andThen (readPosition s) λ p t. got (Vertex p) t
 abbrev pub openShape : List ℕ → Read Shape
 openShape s = andThen (readNumber s) λ a t. andThen (readNumber t) λ b u. andThen (readNumber u) λ n v. got (Open a b n) v
 
-abbrev pub closedShape : List ℕ → Read Shape
-closedShape s = andThen (readNumber s) λ n t. got (Closed n) t
-
--- the count of the cycles
-abbrev pub faceShape : List ℕ → Read Shape
-faceShape s = andThen (readNumber s) λ k t. got (Face k) t
+-- the count of the cycles of a face, or of the bends of a closed edge
+abbrev pub countedShape : Bool → List ℕ → Read Shape
+countedShape isFace s = andThen (readNumber s) λ n t. got (cond isFace (Face n) (Closed n)) t
 
 abbrev pub anyShape : List ℕ → Read Shape
 anyShape s = bad
 
 abbrev pub shapeReaders : List (List ℕ → Read Shape)
-shapeReaders = vertexShape ∷ openShape ∷ closedShape ∷ faceShape ∷ []
+shapeReaders = vertexShape ∷ openShape ∷ countedShape false ∷ countedShape true ∷ []
 
 abbrev pub readShape : ℕ → List ℕ → Read Shape
 readShape k = getD shapeReaders k anyShape
@@ -45,6 +49,14 @@ readHead s = andThen (readNumber s) λ i t. andThen (readNumber t) λ k u. andTh
 pub record ReadAt {A : Type 0} (q : Read A) (s : List ℕ) (x : A) (next : ℕ) : Type 0 where
   pub read : q ≡ got x (drop next s)
   pub inside : next ≤ length s
+
+-- the cases of `Two`: 0 with two numbers and the place after them, or 10
+abbrev pub twoSays : Two → Said ((ℕ × ℕ) × ℕ)
+twoSays (Both a b next) = done ((a, b), next)
+twoSays NotBoth = no 10
+
+abbrev pub TwoRead : List ℕ → ℕ → Two → Type 0
+TwoRead s at f = Says 10 (λ v. ReadAt (readTwo (drop at s)) s (v .0) (v .1)) (readTwo (drop at s) ≡ bad) (twoSays f)
 
 -- the cases of `ShapeFound`: 0 with a shape and the place after it, or 10
 abbrev pub shapeSays : ShapeFound → Said (Shape × ℕ)

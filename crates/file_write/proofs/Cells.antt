@@ -14,6 +14,7 @@ use Rattle.number.specs.Numbers.{numbersEnd}
 use Rattle.coordinate.specs.declared.Position.{Position}
 use Rattle.coordinate.specs.Bounds.{within}
 use Rattle.complex.specs.Cells.{Cycle, vertex, openEdge, closedEdge, face, LiveCell}
+use Rattle.complex.specs.File.{cellBytes}
 use Rattle.store.specs.declared.Shape.{Shape}
 use Rattle.store.specs.declared.Shape.the-variants.{Vertex, Open, Closed, Face}
 use Rattle.store.specs.declared.Cell.{Cell}
@@ -26,7 +27,7 @@ use Rattle.file_write.specs.Places.{figureSpells, cellSpells, cellIn, pl
 use Rattle.file_parts.proofs.Laying.{all-get}
 
 -- ---- a cell by its shape
-module _ (c : Cell) (at : Place) (xs ys : List Float) (ns st : List ℕ) where
+module _ {c : Cell} {at : Place} {xs ys : List Float} {ns st : List ℕ} (r : CellReady c at xs ys ns st) where
   abbrev cell : Shape → LiveCell
   cell s = record { id = c .id; figure = figureOf s (cyclesFrom (drop (at .cycles) ns) (drop (at .steps) st)) (drop (at .bends) (positionsFrom xs ys)) }
 
@@ -45,48 +46,66 @@ module _ (c : Cell) (at : Place) (xs ys : List Float) (ns st : List ℕ) where
       (positionsFrom xs ys) ≡ record { id = c .id; figure = face (cyclesFrom (runOf (at .cycles) k ns) (drop (at .steps) st)) }
   face-is k e = ap cell e ∙ ap (λ (ks : List Cycle). record { id = c .id; figure = face ks }) (take-cycles k (drop (at .cycles) ns) (drop (at .steps) st))
 
-  module _ (r : CellReady c at xs ys ns st) where
-    pub id-spells : c .id < numbersEnd
-    id-spells = ltb→lt (c .id) numbersEnd (and-l (spells (c .id)) (figureSpells (cellIn c at ns st (positionsFrom xs ys) .figure)) (r .spelled))
+  id-spells : c .id < numbersEnd
+  id-spells = ltb→lt (c .id) numbersEnd (and-l (spells (c .id)) (figureSpells (cellIn c at ns st (positionsFrom xs ys) .figure)) (r .spelled))
 
-    figure-spells : (x : LiveCell) → cellIn c at ns st (positionsFrom xs ys) ≡ x → T (figureSpells (x .figure))
-    figure-spells x e = and-r (spells (x .id)) (figureSpells (x .figure)) (subst (λ (y : LiveCell). T (cellSpells y)) e (r .spelled))
+  figure-spells : (x : LiveCell) → cellIn c at ns st (positionsFrom xs ys) ≡ x → T (figureSpells (x .figure))
+  figure-spells x e = and-r (spells (x .id)) (figureSpells (x .figure)) (subst (λ (y : LiveCell). T (cellSpells y)) e (r .spelled))
 
-    pub vertex-within : (p : Position) → c .shape ≡ Vertex p → T (within p)
-    vertex-within p e = figure-spells (record { id = c .id; figure = vertex p }) (vertex-is p e)
+  bends-of : (n : ℕ) → bendCount (c .shape) ≡ n → T (all within (runOf (at .bends) n (positionsFrom xs ys))) → Bends xs ys (at .bends) n
+  bends-of n e t = record { room = subst (λ (m : ℕ). at .bends + m ≤ 2048) e (r .bends); sizes = (r .sizes .first, r .sizes .second); bounds = t }
 
-    bends-of : (n : ℕ) → bendCount (c .shape) ≡ n → T (all within (runOf (at .bends) n (positionsFrom xs ys))) → Bends xs ys (at .bends) n
-    bends-of n e t = record { room = subst (λ (m : ℕ). at .bends + m ≤ 2048) e (r .bends); sizes = (r .sizes .first, r .sizes .second); bounds = t }
+  open-ends : (a b n : ℕ) → c .shape ≡ Open a b n → (a < numbersEnd) × (b < numbersEnd)
+  open-ends a b n e =
+      let t = figure-spells (record { id = c .id; figure = openEdge a b (runOf (at .bends) n (positionsFrom xs ys)) }) (open-is a b n e) in
+      let u = and-r (spells a) (spells b && all within (runOf (at .bends) n (positionsFrom xs ys))) t in (
+        ltb→lt a numbersEnd (and-l (spells a) (spells b && all within (runOf (at .bends) n (positionsFrom xs ys))) t),
+        ltb→lt b numbersEnd (and-l (spells b) (all within (runOf (at .bends) n (positionsFrom xs ys))) u),
+      )
 
-    pub open-ends : (a b n : ℕ) → c .shape ≡ Open a b n → (a < numbersEnd) × (b < numbersEnd)
-    open-ends a b n e =
-        let t = figure-spells (record { id = c .id; figure = openEdge a b (runOf (at .bends) n (positionsFrom xs ys)) }) (open-is a b n e) in
-        let u = and-r (spells a) (spells b && all within (runOf (at .bends) n (positionsFrom xs ys))) t in (
-          ltb→lt a numbersEnd (and-l (spells a) (spells b && all within (runOf (at .bends) n (positionsFrom xs ys))) t),
-          ltb→lt b numbersEnd (and-l (spells b) (all within (runOf (at .bends) n (positionsFrom xs ys))) u),
-        )
+  open-bends : (a b n : ℕ) → c .shape ≡ Open a b n → Bends xs ys (at .bends) n
+  open-bends a b n e =
+      let t = figure-spells (record { id = c .id; figure = openEdge a b (runOf (at .bends) n (positionsFrom xs ys)) }) (open-is a b n e) in
+      let u = and-r (spells a) (spells b && all within (runOf (at .bends) n (positionsFrom xs ys))) t in
+      bends-of n (ap bendCount e) (and-r (spells b) (all within (runOf (at .bends) n (positionsFrom xs ys))) u)
 
-    pub open-bends : (a b n : ℕ) → c .shape ≡ Open a b n → Bends xs ys (at .bends) n
-    open-bends a b n e =
-        let t = figure-spells (record { id = c .id; figure = openEdge a b (runOf (at .bends) n (positionsFrom xs ys)) }) (open-is a b n e) in
-        let u = and-r (spells a) (spells b && all within (runOf (at .bends) n (positionsFrom xs ys))) t in
-        bends-of n (ap bendCount e) (and-r (spells b) (all within (runOf (at .bends) n (positionsFrom xs ys))) u)
+  closed-bends : (n : ℕ) → c .shape ≡ Closed n → Bends xs ys (at .bends) n
+  closed-bends n e =
+      bends-of n (ap bendCount e) (figure-spells (record { id = c .id; figure = closedEdge (runOf (at .bends) n (positionsFrom xs ys)) }) (closed-is n e))
 
-    pub closed-bends : (n : ℕ) → c .shape ≡ Closed n → Bends xs ys (at .bends) n
-    closed-bends n e =
-        bends-of n (ap bendCount e) (figure-spells (record { id = c .id; figure = closedEdge (runOf (at .bends) n (positionsFrom xs ys)) }) (closed-is n e))
+  face-rings : (k : ℕ) → c .shape ≡ Face k → Rings ns (at .cycles) k st (at .steps)
+  face-rings k e =
+      record {
+        room = subst (λ (m : ℕ). at .cycles + m ≤ 512) (ap cycleCount e) (r .cycles);
+        places = subst (λ (m : ℕ). at .steps + widthSum (runOf (at .cycles) m ns) ≤ 2048) (ap cycleCount e) (r .steps);
+        sizes = (r .sizes .cycles, r .sizes .steps);
+        spelled = figure-spells (record { id = c .id; figure = face (cyclesFrom (runOf (at .cycles) k ns) (drop (at .steps) st)) }) (face-is k e);
+      }
 
-    pub face-rings : (k : ℕ) → c .shape ≡ Face k → Rings ns (at .cycles) k st (at .steps)
-    face-rings k e =
-        record {
-          room = subst (λ (m : ℕ). at .cycles + m ≤ 512) (ap cycleCount e) (r .cycles);
-          places = subst (λ (m : ℕ). at .steps + widthSum (runOf (at .cycles) m ns) ≤ 2048) (ap cycleCount e) (r .steps);
-          sizes = (r .sizes .cycles, r .sizes .steps);
-          spelled = figure-spells (record { id = c .id; figure = face (cyclesFrom (runOf (at .cycles) k ns) (drop (at .steps) st)) }) (face-is k e);
-        }
+  -- what each way to put a cell requires, where there are n bytes for it
+  module _ (n : ℕ) (h : length (cellBytes (cellIn c at ns st (positionsFrom xs ys))) ≤ n) where
+    room : {x : LiveCell} → cellIn c at ns st (positionsFrom xs ys) ≡ x → length (cellBytes x) ≤ n
+    room e = subst (λ (y : LiveCell). length (cellBytes y) ≤ n) e h
 
-    pub place-fits : PlaceFits (c .shape) ns at
-    place-fits = record { size = r .sizes .cycles; bends = r .bends; cycles = r .cycles; steps = r .steps }
+    pub vertex-needs : (p : Position) → c .shape ≡ Vertex p → (c .id < numbersEnd)
+        × (T (within p) × (length (cellBytes (record { id = c .id; figure = vertex p })) ≤ n))
+    vertex-needs p e = (id-spells, (figure-spells (record { id = c .id; figure = vertex p }) (vertex-is p e), room (vertex-is p e)))
+
+    pub open-needs : (a b m : ℕ) → c .shape ≡ Open a b m → ((c .id < numbersEnd) × (a < numbersEnd) × (b < numbersEnd))
+        × (Bends xs ys (at .bends) m × (length (cellBytes (record { id = c .id; figure = openEdge a b (runOf (at .bends) m (positionsFrom xs ys)) })) ≤ n))
+    open-needs a b m e = let z = open-ends a b m e in ((id-spells, z .0, z .1), (open-bends a b m e, room (open-is a b m e)))
+
+    pub closed-needs : (m : ℕ) → c .shape ≡ Closed m → (c .id < numbersEnd)
+        × (Bends xs ys (at .bends) m × (length (cellBytes (record { id = c .id; figure = closedEdge (runOf (at .bends) m (positionsFrom xs ys)) })) ≤ n))
+    closed-needs m e = (id-spells, (closed-bends m e, room (closed-is m e)))
+
+    pub face-needs : (k : ℕ) → c .shape ≡ Face k → (c .id < numbersEnd)
+        × (Rings ns (at .cycles) k st (at .steps)
+        × (length (cellBytes (record { id = c .id; figure = face (cyclesFrom (runOf (at .cycles) k ns) (drop (at .steps) st)) })) ≤ n))
+    face-needs k e = (id-spells, (face-rings k e, room (face-is k e)))
+
+  pub place-fits : PlaceFits (c .shape) ns at
+  place-fits = record { size = r .sizes .cycles; bends = r .bends; cycles = r .cycles; steps = r .steps }
 
 -- ---- the i-th cell
 drop-cycles : (m : ℕ) (ns st : List ℕ) → drop m (cyclesFrom ns st) ≡ cyclesFrom (drop m ns) (drop (widthSum (take m ns)) st)

@@ -1,6 +1,6 @@
 -- `heads` meets its contract. The loop's invariant: the sum is that of the first i cells. Assumes nothing.
 use borrow.Author.Needs.{needs}
-use Prim.Native.Nat.{ℕ, _+_, _-_, _≤_}
+use Prim.Native.Nat.{ℕ, _+_, _-_, _<_, _≤_}
 use mathlib.Core.Path.{_≡_, refl, ap, sym, _∙_, subst}
 use mathlib.Core.List.{List}
 use native.Mathlib.Omega.{arith}
@@ -37,46 +37,42 @@ cell-at-requires c κs =
     let f = s .pre .few in
     (omega (arith, c .loop-test .taken), sym (cells-length _ (s .args .ids .now)) ∙ s .pre .cells)
 
+inside : (w : tie.In-loop Inv-loop μ-loop) → w .before .loop .i < length (cells (w .before .before))
+inside w =
+    let h = w .loop-test .taken in
+    let f = w .before .before .pre .few in
+    let z = w .before .before .pre .cells in
+    omega arith
+
 head-length-requires : tie.Need-head-length-requires Inv-loop μ-loop
 head-length-requires c κs =
     let w = c .before in
     let l = w .before .loop in
     let s = w .before .before in
-    let cs = cells s in
     let n = s .args .n in
-    let k : length (take n cs) ≡ n = length-take-le n cs (let f = s .pre .few in let z = s .pre .cells in omega arith) in
-    subst (λ (x : Cell). T (headSpells x)) (getD-take n cs (l .i) pastCell (w .loop-test .taken) ∙ sym (c .cell-at .ensures)) (all-get headSpells (take n cs) (l .i) pastCell (s .pre .spelled) (omega arith))
+    let k : length (take n (cells s)) ≡ n = length-take-le n (cells s) (let f = s .pre .few in let z = s .pre .cells in omega arith) in
+    subst (λ (x : Cell). T (headSpells x)) (getD-take n (cells s) (l .i) pastCell (w .loop-test .taken) ∙ sym (c .cell-at .ensures))
+    (all-get headSpells (take n (cells s)) (l .i) pastCell (s .pre .spelled) (omega arith))
 
 add-sum : tie.Need-add-sum Inv-loop μ-loop
 add-sum c =
     let w = c .before .before in
     let l = w .before .loop in
-    let s = w .before .before in
-    let cs = cells s in
-    let f = s .pre .few in
-    let z = s .pre .cells in
+    let cs = cells (w .before .before) in
+    let h = inside w in
+    let z = w .before .before .pre .cells in
     let m = total-most headWidth 20 head-most (take (l .i) cs) in
     let k = length-take-le (l .i) cs (omega arith) in
     let v = head-most (c .before .cell-at .result) in
     let e = c .head-length .ensures in
     record { fits = omega arith }
 
-add-i : tie.Need-add-i Inv-loop μ-loop
-add-i c = search needs
-
-loop-less : tie.Need-loop-less Inv-loop μ-loop
-loop-less c = omega arith
-
 loop-again : tie.Need-loop-again Inv-loop μ-loop
 loop-again c =
     let w = c .before .before in
     let l = w .before .loop in
-    let s = w .before .before in
-    let cs = cells s in
-    let f = s .pre .few in
-    let z = s .pre .cells in
     let e = c .head-length .ensures ∙ ap headWidth (c .before .cell-at .ensures) in
-    (omega arith, (λ i. l .inv .1 i + e i) ∙ sym (sum-more headWidth cs (l .i) pastCell (omega arith)))
+    (omega (arith, w .loop-test .taken), (λ i. l .inv .1 i + e i) ∙ sym (sum-more headWidth (cells (w .before .before)) (l .i) pastCell (inside w)))
 
 returns : tie.Need-returns Inv-loop μ-loop
 returns c =
@@ -88,4 +84,4 @@ returns c =
 pub heads-spec : {M : Type 1} → statement M
 heads-spec =
     tie.close
-    (tie.spec Inv-loop μ-loop loop-holds cell-at-requires head-length-requires add-sum add-i loop-less loop-again returns)
+    (tie.spec Inv-loop μ-loop loop-holds cell-at-requires head-length-requires add-sum (λ c. search needs) (λ c. omega arith) loop-again returns)

@@ -96,9 +96,6 @@ sub-put-cell c = let r = room (c .before) in omega arith
 part-put-cell-start : tie.Need-part-put-cell-start Inv-loop μ-loop
 part-put-cell-start c = let r = room (c .before) in omega arith
 
-part-put-cell-end : tie.Need-part-put-cell-end Inv-loop μ-loop
-part-put-cell-end c = omega arith
-
 put-cell-requires : tie.Need-put-cell-requires Inv-loop μ-loop
 put-cell-requires c κs =
     let w = c .before .before in
@@ -138,13 +135,7 @@ place-after-requires c κs =
     let l = w .before .loop in
     let s = w .before .before .before in
     subst (λ (x : Cell). PlaceFits (x .shape) (s .args .cycles .now) (l .place)) (sym (c .before .before .before .before .cell-at .ensures))
-    (place-fits (cell w) (l .place) (s .args .bx .now) (s .args .by .now) (s .args .cycles .now) (s .args .steps .now) (is-ready w))
-
-add-i : tie.Need-add-i Inv-loop μ-loop
-add-i c = search needs
-
-loop-less : tie.Need-loop-less Inv-loop μ-loop
-loop-less c = omega arith
+    (place-fits (is-ready w))
 
 loop-again : tie.Need-loop-again Inv-loop μ-loop
 loop-again c =
@@ -183,12 +174,12 @@ put-cells-spec =
     cell-at-requires
     sub-put-cell
     part-put-cell-start
-    part-put-cell-end
+    (λ c. omega arith)
     put-cell-requires
     add-at
     place-after-requires
-    add-i
-    loop-less
+    (λ c. search needs)
+    (λ c. omega arith)
     loop-again
     same-length
     returns)

@@ -1,5 +1,5 @@
 -- `file_length::shape_length` meets its contract. Assumes nothing.
-use Prim.Native.Nat.{ℕ, _+_}
+use Prim.Native.Nat.{ℕ, _+_, _≤_}
 use mathlib.Core.Path.{_≡_, ap, sym, _∙_, subst}
 use mathlib.Core.Bool.{_&&_}
 use native.Mathlib.Omega.{arith}
@@ -21,12 +21,6 @@ open-spells s a b n e t =
     let v = and-r (spells a) (spells b && spells n) u in
     (and-l (spells a) (spells b && spells n) u, and-l (spells b) (spells n) v, and-r (spells b) (spells n) v)
 
-enum-told : tie.Need-enum-told
-enum-told c = search needs
-
-enum-known-s : tie.Need-enum-known-s
-enum-known-s c = search needs
-
 number-width-requires : tie.Need-number-width-requires
 number-width-requires c κs =
     let s = c .before .before .before in
@@ -45,30 +39,20 @@ number-width-requires-3 c κs =
     let g = c .before .before .before .s .given in
     ltb→lt (g .0 .1 .1 .0) numbersEnd (open-spells (s .args .s) (g .0 .0) (g .0 .1 .0) (g .0 .1 .1 .0) (g .1) (s .pre) .2)
 
+-- a number takes at most three bytes
+small : (c : tie.After-number-width3) → (c .before .before .number-width .result ≤ 3) × (c .before .number-width2 .result ≤ 3) × (c .number-width3 .result ≤ 3)
+small c =
+    let g = c .before .before .before .before .s .given .0 in (
+      omega (arith, width-most (g .0), c .before .before .number-width .ensures),
+      omega (arith, width-most (g .1 .0), c .before .number-width2 .ensures),
+      omega (arith, width-most (g .1 .1 .0), c .number-width3 .ensures),
+    )
+
 add-result : tie.Need-add-result
-add-result c =
-    let g = c .before .before .before .before .s .given in
-    let u = width-most (g .0 .0) in
-    let v = width-most (g .0 .1 .0) in
-    let w = width-most (g .0 .1 .1 .0) in
-    let a = c .before .before .number-width .ensures in
-    let b = c .before .number-width2 .ensures in
-    let d = c .number-width3 .ensures in
-    record { fits = omega arith }
+add-result c = let k = small c in record { fits = omega arith }
 
 add-result-2 : tie.Need-add-result-2
-add-result-2 c =
-    let g = c .before .before .before .before .s .given in
-    let u = width-most (g .0 .0) in
-    let v = width-most (g .0 .1 .0) in
-    let w = width-most (g .0 .1 .1 .0) in
-    let a = c .before .before .number-width .ensures in
-    let b = c .before .number-width2 .ensures in
-    let d = c .number-width3 .ensures in
-    record { fits = omega arith }
-
-enum-known-s-2 : tie.Need-enum-known-s-2
-enum-known-s-2 c = search needs
+add-result-2 c = let k = small c in record { fits = omega arith }
 
 number-width-requires-4 : tie.Need-number-width-requires-4
 number-width-requires-4 c κs =
@@ -76,17 +60,11 @@ number-width-requires-4 c κs =
     let g = c .before .s2 .given in
     ltb→lt (g .0 .0) numbersEnd (subst (λ (t : Shape). T (shapeSpells t)) (g .1) (s .pre))
 
-enum-known-s-3 : tie.Need-enum-known-s-3
-enum-known-s-3 c = search needs
-
 number-width-requires-5 : tie.Need-number-width-requires-5
 number-width-requires-5 c κs =
     let s = c .before .before .before in
     let g = c .before .s3 .given in
     ltb→lt (g .0 .0) numbersEnd (subst (λ (t : Shape). T (shapeSpells t)) (g .1) (s .pre))
-
-returns : tie.Need-returns
-returns c = search needs
 
 returns-2 : tie.Need-returns-2
 returns-2 c =
@@ -103,18 +81,18 @@ pub shape-length-spec : {M : Type 1} → statement M
 shape-length-spec =
     tie.close
     (tie.spec
-    enum-told
-    enum-known-s
+    (λ c. search needs)
+    (λ c. search needs)
     number-width-requires
     number-width-requires-2
     number-width-requires-3
     add-result
     add-result-2
-    enum-known-s-2
+    (λ c. search needs)
     number-width-requires-4
-    enum-known-s-3
+    (λ c. search needs)
     number-width-requires-5
-    returns
+    (λ c. search needs)
     returns-2
     returns-3
     returns-4)

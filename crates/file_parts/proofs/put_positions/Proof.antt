@@ -2,6 +2,7 @@
 use borrow.Author.Needs.{needs}
 use Prim.Native.Nat.{ℕ, _+_, _-_, _<_, _≤_}
 use mathlib.Core.Path.{_≡_, ap, sym, _∙_, subst}
+use mathlib.Core.List.{List}
 use native.Mathlib.Omega.{arith}
 use lib.Dec.{T}
 use lib.Ieee.{nan}
@@ -26,80 +27,50 @@ abbrev μ-loop : tie.MeasureT-loop
 loop-holds : tie.Need-loop-holds Inv-loop μ-loop
 loop-holds c = (omega arith, put-none _ _)
 
-add-k : tie.Need-add-k Inv-loop μ-loop
-add-k c = search needs
+-- the positions to write, and the next of them
+module _ (s : tie.Start Inv-loop μ-loop) where
+  abbrev points : List Position
+  points = runOf (s .args .from) (s .args .n) (positionsFrom (s .args .xs .now) (s .args .ys .now))
 
-mul-t12 : tie.Need-mul-t12 Inv-loop μ-loop
-mul-t12 c = search needs
+  points-size : length points ≡ s .args .n
+  points-size = bends-size (s .args .xs .now) (s .args .ys .now) (s .args .from) (s .args .n) (s .pre .0)
 
-element-copy-out-t15 : tie.Need-element-copy-out-t15 Inv-loop μ-loop
-element-copy-out-t15 c = search needs
+module _ (w : tie.In-loop Inv-loop μ-loop) where
+  abbrev start : tie.Start Inv-loop μ-loop
+  start = w .before .before .before
 
-mul-t16 : tie.Need-mul-t16 Inv-loop μ-loop
-mul-t16 c = search needs
+  abbrev next : Position
+  next = let k = start .args .from + w .before .loop .i in record { x = getD (start .args .xs .now) k nan; y = getD (start .args .ys .now) k nan }
 
-element-copy-out-t19 : tie.Need-element-copy-out-t19 Inv-loop μ-loop
-element-copy-out-t19 c = search needs
+  next-is : getD (points start) (w .before .loop .i) origin ≡ next
+  next-is = let a = start .args in bend-at (a .xs .now) (a .ys .now) (a .from) (a .n) (start .pre .0) (w .before .loop .i) (w .loop-test .taken)
+
+  inside : w .before .loop .i < length (points start)
+  inside = let k = points-size start in let h = w .loop-test .taken in omega arith
 
 put-position-requires : tie.Need-put-position-requires Inv-loop μ-loop
 put-position-requires c κs =
     let w = c .before .before .before in
     let l = w .before .loop in
-    let s = w .before .before .before in
-    let xs = s .args .xs .now in
-    let ys = s .args .ys .now in
-    let from = s .args .from in
-    let n = s .args .n in
-    let b = s .pre .0 in
-    let ps = runOf from n (positionsFrom xs ys) in
-    let k = bends-size xs ys from n b in
-    let h : l .i < length ps = omega arith in
-    let e = bend-at xs ys from n b (l .i) (w .loop-test .taken) in
-    let p : Position = record { x = getD xs (from + l .i) nan; y = getD ys (from + l .i) nan } in
-    let z = sixteen-bytes p in
-    let r = put-room positionBytes ps (s .args .out .now) (l .out) (s .args .at) (l .place) (l .i) h (l .inv .1) origin (positionBytes p) (ap positionBytes e)
-    (s .pre .1) in
-    (subst (λ (q : Position). T (within q)) e (all-get within ps (l .i) origin (b .bounds) h), omega arith)
-
-add-i : tie.Need-add-i Inv-loop μ-loop
-add-i c = search needs
-
-loop-less : tie.Need-loop-less Inv-loop μ-loop
-loop-less c = omega arith
+    let s = start w in
+    let z = sixteen-bytes (next w) in
+    let r = put-room positionBytes (points s) (s .args .out .now) (l .out) (s .args .at) (l .place) (l .i) (inside w) (l .inv .1) origin
+    (positionBytes (next w)) (ap positionBytes (next-is w)) (s .pre .1) in
+    (subst (λ (q : Position). T (within q)) (next-is w) (all-get within (points s) (l .i) origin (s .pre .0 .bounds) (inside w)), omega arith)
 
 loop-again : tie.Need-loop-again Inv-loop μ-loop
 loop-again c =
     let f = c .before .before .put-position in
     let w = c .before .before .before .before .before .before in
     let l = w .before .loop in
-    let s = w .before .before .before in
-    let xs = s .args .xs .now in
-    let ys = s .args .ys .now in
-    let from = s .args .from in
-    let n = s .args .n in
-    let b = s .pre .0 in
-    let ps = runOf from n (positionsFrom xs ys) in
-    let k = bends-size xs ys from n b in
-    let h : l .i < length ps = omega arith in
-    let e = bend-at xs ys from n b (l .i) (w .loop-test .taken) in
-    let p : Position = record { x = getD xs (from + l .i) nan; y = getD ys (from + l .i) nan } in
-    let z : 16 ≡ length (positionBytes p) = sym (sixteen-bytes p) in (
+    let s = start w in
+    let h = w .loop-test .taken in
+    let z : 16 ≡ length (positionBytes (next w)) = sym (sixteen-bytes (next w)) in (
       omega arith,
-      put-turn positionBytes ps (s .args .out .now) (l .out) (s .args .at) (l .place) (l .i) h (l .inv .1) origin (positionBytes p) (ap positionBytes e)
-          (put-of (positionBytes p) (f .ensures .0 ∙ ap (λ (m : ℕ). l .place + m) z) (f .ensures .1)),
+      put-turn positionBytes (points s) (s .args .out .now) (l .out) (s .args .at) (l .place) (l .i) (inside w) (l .inv .1) origin
+          (positionBytes (next w)) (ap positionBytes (next-is w))
+          (put-of (positionBytes (next w)) (f .ensures .0 ∙ ap (λ (m : ℕ). l .place + m) z) (f .ensures .1)),
     )
-
-same-length : tie.Need-same-length Inv-loop μ-loop
-same-length c = put-size (c .before .loop .inv .1)
-
-returns : tie.Need-returns Inv-loop μ-loop
-returns c =
-    let l = c .before .loop in
-    let s = c .before .before .before in
-    let xs = s .args .xs .now in
-    let ys = s .args .ys .now in
-    let k = bends-size xs ys (s .args .from) (s .args .n) (s .pre .0) in
-    put-all positionBytes (runOf (s .args .from) (s .args .n) (positionsFrom xs ys)) (l .i) (omega arith) (l .inv .1)
 
 pub put-positions-spec : {M : Type 1} → statement M
 put-positions-spec =
@@ -108,14 +79,14 @@ put-positions-spec =
     Inv-loop
     μ-loop
     loop-holds
-    add-k
-    mul-t12
-    element-copy-out-t15
-    mul-t16
-    element-copy-out-t19
+    (λ c. search needs)
+    (λ c. search needs)
+    (λ c. search needs)
+    (λ c. search needs)
+    (λ c. search needs)
     put-position-requires
-    add-i
-    loop-less
+    (λ c. search needs)
+    (λ c. omega arith)
     loop-again
-    same-length
-    returns)
+    (λ c. put-size (c .before .loop .inv .1))
+    (λ c. let s = c .before .before .before in put-all positionBytes (points s) (c .before .loop .i) (omega (arith, points-size s)) (c .before .loop .inv .1)))

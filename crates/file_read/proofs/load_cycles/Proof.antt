@@ -40,12 +40,6 @@ load-cycle-requires c κs =
     let z = loading-sizes _ _ _ _ _ _ _ _ _ _ _ L (c .before .before .loop-test .taken) (omega (arith, p .1 .0, at .before .if1 .left)) in
     (L .counted .size ∙ p .1 .0, (L .stepped .size ∙ p .1 .1 .0, (omega (arith, z .0, p .1 .0), omega (arith, z .1, p .1 .1 .0))))
 
-enum-known-next : tie.Need-enum-known-next Inv-loop μ-loop
-enum-known-next c = search needs
-
-enum-told : tie.Need-enum-told Inv-loop μ-loop
-enum-told c = search needs
-
 same-length : tie.Need-same-length Inv-loop μ-loop
 same-length c =
     let l = c .before .before .before .before .before .before in
@@ -66,12 +60,6 @@ returns-2 c =
       loading-over _ _ _ _ _ _ _ _ _ _ _ L (l .before .before .before .loop-test .taken)
           (subst (CyclesLoaded (times readCycle 1 (drop (at .loop .p) (now (a .s)))) (now (a .s)) (at .loop .cycles) (at .loop .steps) (at .loop .u) _ _) (c .enum-told .given .1) (l .load-cycle .ensures) .1),
     )
-
-add-i : tie.Need-add-i Inv-loop μ-loop
-add-i c = search needs
-
-loop-less : tie.Need-loop-less Inv-loop μ-loop
-loop-less c = search needs
 
 loop-again : tie.Need-loop-again Inv-loop μ-loop
 loop-again c =
@@ -103,13 +91,13 @@ load-cycles-spec =
     returns
     loop-holds
     load-cycle-requires
-    enum-known-next
-    enum-told
+    (λ c. search needs)
+    (λ c. search needs)
     same-length
     same-length-2
     returns-2
-    add-i
-    loop-less
+    (λ c. search needs)
+    (λ c. search needs)
     loop-again
     same-length-3
     same-length-4

@@ -10,9 +10,10 @@ use Rattle.file_read.specs.Heads.{readShape, ShapeRead}
 use Rattle.file_read.proofs.shape_at.Statement.{statement}
 use Rattle.file_read.proofs.shape_at.Tie as tie
 
--- the reader of another number
-of-kind : (s : List ℕ) (at : ℕ) (r : ShapeFound) (k n : ℕ) → n ≡ k → ShapeRead (readShape k) s at r → ShapeRead (readShape n) s at r
-of-kind s at r k n e h = subst (λ (m : ℕ). ShapeRead (readShape m) s at r) (sym e) h
+-- what the reader of a kind says, where the kind is that
+of-kind : (s : tie.Start) (r : ShapeFound) (k : ℕ) → s .args .kind ≡ k → ShapeRead (readShape k) (now (s .args .s)) (s .args .at) r
+    → ShapeRead (readShape (s .args .kind)) (now (s .args .s)) (s .args .at) r
+of-kind s r k e h = subst (λ (m : ℕ). ShapeRead (readShape m) (now (s .args .s)) (s .args .at) r) (sym e) h
 
 no-kind : (n : ℕ) (s : List ℕ) → (n ≡ 0 → ⊥) → (n ≡ 1 → ⊥) → (n ≡ 2 → ⊥) → (n ≡ 3 → ⊥) → readShape n s ≡ bad
 no-kind zero s a b c d = absurd (a refl)
@@ -21,29 +22,17 @@ no-kind (suc (suc zero)) s a b c d = absurd (c refl)
 no-kind (suc (suc (suc zero))) s a b c d = absurd (d refl)
 no-kind (suc (suc (suc (suc n)))) s a b c d = refl
 
-vertex-at-requires : tie.Need-vertex-at-requires
-vertex-at-requires c κs = search needs
-
-open-at-requires : tie.Need-open-at-requires
-open-at-requires c κs = search needs
-
-closed-at-requires : tie.Need-closed-at-requires
-closed-at-requires c κs = search needs
-
-face-at-requires : tie.Need-face-at-requires
-face-at-requires c κs = search needs
-
 returns : tie.Need-returns
-returns c = let a = c .before .before .before .args in of-kind (now (a .s)) (a .at) (c .vertex-at .result) 0 (a .kind) (c .before .match .keys1) (c .vertex-at .ensures)
+returns c = of-kind (c .before .before .before) (c .vertex-at .result) 0 (c .before .match .keys1) (c .vertex-at .ensures)
 
 returns-2 : tie.Need-returns-2
-returns-2 c = let a = c .before .before .before .args in of-kind (now (a .s)) (a .at) (c .open-at .result) 1 (a .kind) (c .before .match .keys2) (c .open-at .ensures)
+returns-2 c = of-kind (c .before .before .before) (c .open-at .result) 1 (c .before .match .keys2) (c .open-at .ensures)
 
 returns-3 : tie.Need-returns-3
-returns-3 c = let a = c .before .before .before .args in of-kind (now (a .s)) (a .at) (c .closed-at .result) 2 (a .kind) (c .before .match .keys3) (c .closed-at .ensures)
+returns-3 c = of-kind (c .before .before .before) (c .counted-at .result) 2 (c .before .match .keys3) (c .counted-at .ensures)
 
 returns-4 : tie.Need-returns-4
-returns-4 c = let a = c .before .before .before .args in of-kind (now (a .s)) (a .at) (c .face-at .result) 3 (a .kind) (c .before .match .keys4) (c .face-at .ensures)
+returns-4 c = of-kind (c .before .before .before) (c .counted-at2 .result) 3 (c .before .match .keys4) (c .counted-at2 .ensures)
 
 returns-5 : tie.Need-returns-5
 returns-5 c = let r = c .match .rest in (refl, no-kind _ _ (r .0 .0 .0 .1) (r .0 .0 .1) (r .0 .1) (r .1))
@@ -52,10 +41,10 @@ pub shape-at-spec : {M : Type 1} → statement M
 shape-at-spec =
     tie.close
     (tie.spec
-    vertex-at-requires
-    open-at-requires
-    closed-at-requires
-    face-at-requires
+    (λ c κs. search needs)
+    (λ c κs. search needs)
+    (λ c κs. search needs)
+    (λ c κs. search needs)
     returns
     returns-2
     returns-3

@@ -60,9 +60,6 @@ put-rings-requires c κs =
           (room-then (s .args .out .now) 0 (head s) (k ++ spread cycleBytes (rings s)) (f .ensures) (room s)),
     )
 
-same-length : tie.Need-same-length
-same-length c = search needs
-
 returns : tie.Need-returns
 returns c =
     let s = c .before .before .before .before .before .before .before .before .before .before .before .before .before in
@@ -75,4 +72,4 @@ returns c =
 
 pub put-face-spec : {M : Type 1} → statement M
 put-face-spec =
-    tie.close (tie.spec put-two-requires put-number-requires put-rings-requires same-length returns)
+    tie.close (tie.spec put-two-requires put-number-requires put-rings-requires (λ c. search needs) returns)

@@ -63,9 +63,6 @@ put-bends-requires c κs =
           (room-then (s .args .out .now) 0 (head s) (ends s ++ list s) (f .ensures) (room s)),
     )
 
-same-length : tie.Need-same-length
-same-length c = search needs
-
 returns : tie.Need-returns
 returns c =
     let s = c .before .before .before .before .before .before .before .before .before .before .before .before .before in
@@ -76,4 +73,4 @@ returns c =
 
 pub put-open-spec : {M : Type 1} → statement M
 put-open-spec =
-    tie.close (tie.spec put-two-requires put-two-requires-2 put-bends-requires same-length returns)
+    tie.close (tie.spec put-two-requires put-two-requires-2 put-bends-requires (λ c. search needs) returns)
