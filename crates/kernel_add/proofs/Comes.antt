@@ -4,6 +4,7 @@ use native.Mathlib.Omega.{arith}
 use mathlib.Core.Path.{_≡_, refl, sym, ap, _∙_, subst}
 use mathlib.Core.Bool.{true, cond}
 use lib.Dec.{eqb}
+use lib.ListN.{set}
 use Rattle.complex.specs.Cells.{Figure}
 use Rattle.complex.specs.Sound.{cyclesIn, stepsIn, bendsIn}
 use Rattle.complex.specs.Decode.{create}
@@ -22,7 +23,32 @@ use Rattle.lent.specs.declared.Line.{Line}
 use Rattle.lent.specs.Replies.{lineOf, answerBy, Ready, Obeyed}
 use Rattle.lent.proofs.Held.{held-sizes}
 use Rattle.lent.proofs.Sums.{ready-rows, ready-drawing, ready-sizes, ready-indexes, ready-totals}
+use Rattle.lent.specs.Growing.{withRow}
 use Rattle.kernel_add.specs.Comes.{oneNew}
+
+-- o are b with the row that `add_row` says
+pub row-added : (o b : Arrays) (k s e n c : ℕ) → (o .next ≡ b .next + 1) × ((o .count ≡ b .count + 1) × ((o .ids ≡ set (b .ids) (b .count) (b .next))
+    × ((o .kinds ≡ set (b .kinds) (b .count) k) × ((o .starts ≡ set (b .starts) (b .count) s) × ((o .ends ≡ set (b .ends) (b .count) e)
+    × ((o .bends ≡ set (b .bends) (b .count) n) × (o .counts ≡ set (b .counts) (b .count) c)))))))
+    → o .cycles ≡ b .cycles → o .steps ≡ b .steps → o .bx ≡ b .bx → o .by ≡ b .by → o ≡ withRow b k s e n c (o .px) (o .py)
+row-added o b k s e n c w cs ss xs ys =
+    let y = w .1 .1 in
+    λ i. record {
+      next = w .0 i;
+      count = w .1 .0 i;
+      ids = y .0 i;
+      kinds = y .1 .0 i;
+      starts = y .1 .1 .0 i;
+      ends = y .1 .1 .1 .0 i;
+      bends = y .1 .1 .1 .1 .0 i;
+      counts = y .1 .1 .1 .1 .1 i;
+      px = o .px;
+      py = o .py;
+      cycles = cs i;
+      steps = ss i;
+      bx = xs i;
+      by = ys i;
+    }
 
 one-outcome : (next n : ℕ) (out : Drawing) → out .next ≡ next + 1 → out .count ≡ n + 1 → answerBy (oneNew next) out ≡ outcome next n out
 one-outcome next n out e f =

@@ -3,8 +3,11 @@ ghost use lib.ListN.{length};
 ghost use Rattle.bends.specs.Bends.{positionsAt};
 ghost use Rattle.complex.specs.Cells.{vertex, openEdge, closedEdge};
 ghost use Rattle.complex.specs.Decode.{create};
-ghost use Rattle.lent.specs.Arrays.{lent, entry, exit};
+ghost use Rattle.complex.proofs.Asked.{Passed};
+ghost use Rattle.store.specs.View.{sheetOf};
+ghost use Rattle.lent.specs.Arrays.{heldBy, lent, entry, exit};
 ghost use Rattle.lent.specs.Replies.{Ready, Obeyed};
+ghost use Rattle.kind_create.specs.Edges.{EdgeRow, edgeBy};
 use answer::Totals;
 use coordinate::Position;
 use lent::Line;
@@ -56,6 +59,58 @@ pub fn add_vertex(
     )
 }
 
+// Questions 7 and 8 of an edge that 3 to 6 let come, and then the k bends that the script has at `first`, and its row.
+fn add_edge(
+    next: &mut u32,
+    count: &mut usize,
+    ids: &mut [u32; 256],
+    kinds: &mut [u32; 256],
+    starts: &mut [u32; 256],
+    ends: &mut [u32; 256],
+    bends: &mut [u32; 256],
+    counts: &mut [u32; 256],
+    px: &[f64; 256],
+    py: &[f64; 256],
+    cycles: &[u32; 512],
+    steps: &[u32; 2048],
+    bx: &mut [f64; 2048],
+    by: &mut [f64; 2048],
+    t: Totals,
+    script: &[u8],
+    kind: u32,
+    start: u32,
+    end: u32,
+    k: u32,
+    first: usize,
+) -> Line
+    requires { ⌜ Ready (lent (now next) (now count) ids kinds starts ends bends counts px py cycles steps bx by) t ⌝ }
+    requires { ⌜ first + 16 * k ≤ length (now script) ⌝ }
+    requires { ⌜ EdgeRow kind start end ⌝ }
+    requires { ⌜ Passed (sheetOf (heldBy (lent (now next) (now count) ids kinds starts ends bends counts px py cycles steps bx by))) (create (edgeBy kind start end (positionsAt (now script) first k))) ⌝ }
+    ensures { λ r. ⌜ Obeyed (entry (now (next .entry)) (now (count .entry)) ids kinds starts ends bends counts px py cycles steps bx by) (create (edgeBy kind start end (positionsAt (now (script .entry)) first k))) (exit (now (next .exit)) (now (count .exit)) ids kinds starts ends bends counts px py cycles steps bx by) r ⌝ }
+{
+    let no = ask_create::cell_no(*next, t, 0, 0, store::wide(k));
+    if no != 0 {
+        return lent::line_of(no);
+    }
+    kernel_add::put_bends(script, first, k, bx, by, t.bends);
+    kernel_add::add_row(
+        next,
+        count,
+        ids,
+        kinds,
+        starts,
+        ends,
+        bends,
+        counts,
+        kind,
+        start,
+        end,
+        k,
+        0,
+    )
+}
+
 // 02: from start to end, with the k bends that the script has at `first`.
 pub fn add_open(
     next: &mut u32,
@@ -95,12 +150,7 @@ pub fn add_open(
     if b != 0 {
         return lent::line_of(4);
     }
-    let no = ask_create::cell_no(*next, t, 0, 0, store::wide(k));
-    if no != 0 {
-        return lent::line_of(no);
-    }
-    kernel_add::put_bends(script, first, k, bx, by, t.bends);
-    kernel_add::add_row(
+    add_edge(
         next,
         count,
         ids,
@@ -109,11 +159,19 @@ pub fn add_open(
         ends,
         bends,
         counts,
+        px,
+        py,
+        cycles,
+        steps,
+        bx,
+        by,
+        t,
+        script,
         1,
         start,
         end,
         k,
-        0,
+        first,
     )
 }
 
@@ -148,12 +206,7 @@ pub fn add_closed(
     if k == 0 {
         return lent::line_of(5);
     }
-    let no = ask_create::cell_no(*next, t, 0, 0, store::wide(k));
-    if no != 0 {
-        return lent::line_of(no);
-    }
-    kernel_add::put_bends(script, first, k, bx, by, t.bends);
-    kernel_add::add_row(
+    add_edge(
         next,
         count,
         ids,
@@ -162,10 +215,18 @@ pub fn add_closed(
         ends,
         bends,
         counts,
+        px,
+        py,
+        cycles,
+        steps,
+        bx,
+        by,
+        t,
+        script,
         2,
         0,
         0,
         k,
-        0,
+        first,
     )
 }

@@ -20,7 +20,7 @@ use Rattle.rows_spans.specs.Runs.{spansOf}
 use Rattle.answer.specs.declared.Totals.{Totals}
 use Rattle.decode_parts.specs.Lists.{Stand, numbersRead}
 use Rattle.rows_corners.specs.Faces.{Spanned, Within, Named}
-use Rattle.rows_corners.proofs.Rows.{live, finding, spanned}
+use Rattle.rows_corners.proofs.Rows.{live, spanned}
 use Rattle.rows_corners.proofs.Edits.{face-told, named-in}
 use Rattle.rows_split.proofs.Corners.{cycles-count}
 use Rattle.ask_cut_along.specs.Corners.{cornerOn, movedFit}
@@ -30,6 +30,7 @@ use Rattle.lent.specs.Arrays.{Arrays, heldBy, rowsBy}
 use Rattle.lent.specs.declared.Line.{Line}
 use Rattle.lent.specs.Replies.{lineOf, Ready, Obeyed}
 use Rattle.lent.proofs.Sums.{ready-sizes, ready-drawing, ready-indexes, ready-cells, ready-no}
+use Rattle.lent.proofs.Finds.{ready-finds}
 use Rattle.kernel_cycles.specs.Replacing.{RowCounted}
 use Rattle.kernel_cycles.proofs.Ready.{ready-counted}
 use Rattle.kind_cut_chord.specs.Chords.{cornersBy}
@@ -70,9 +71,6 @@ module _ (a : Arrays) (t : Totals) (y : Ready a t) (script : List ℕ) (f c1 s1 
             (face-told (heldBy a) (ready-sizes a t y) (ready-drawing a t y) (rowsBy a) (ready-indexes a t y) f (eqb kind 3) (ap (λ (n : ℕ). eqb n 3) ek) ∙
             eq-eqb kind 3 e3)
 
-        pub find-asks : (a .count ≤ 256) × ((length (a .ids) ≡ 256) × Rising (take (a .count) (a .ids)))
-        find-asks = finding (heldBy a) (ready-sizes a t y) (rowsBy a) f named
-
         module _ (row : ℕ) (er : row ≡ rowOf f (take (a .count) (a .ids))) where
           pub counted : RowCounted (a .counts) (a .cycles) row t
           counted = ready-counted a t y row (subst (λ (i : ℕ). i < a .count) (sym er) (live (heldBy a) (ready-sizes a t y) (rowsBy a) f named))
@@ -86,7 +84,7 @@ module _ (a : Arrays) (t : Totals) (y : Ready a t) (script : List ℕ) (f c1 s1 
             pub corners-ask : Stand readNumber script place moved → (a .count ≤ 256) ×
                 ((length (a .ids) ≡ 256) × ((length (a .kinds) ≡ 256) × (Rising (take (a .count) (a .ids))
                 × (Within (a .cycles) (a .steps) s × Stand readNumber script place moved))))
-            corners-ask w = let g = find-asks in (g .0, (g .1 .0, (y .long .kinds, (g .1 .1, (span .within, w)))))
+            corners-ask w = let g = ready-finds a t y in (g .0, (g .1 .0, (y .long .kinds, (g .1 .1, (span .within, w)))))
 
             -- b is what question 5 says
             module _ (b : Bool) (eb : b ≡ cornersBy (a .ids) (a .kinds) (a .count) (a .cycles) (a .steps) s c1 s1 c2 s2 (numbersRead script place moved)) where

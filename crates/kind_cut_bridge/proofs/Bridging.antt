@@ -1,19 +1,18 @@
 -- Two cycles of a face in lent arrays become one. Assumes nothing.
-use Prim.Native.Nat.{ℕ, _+_, _<_, _≤_}
-use mathlib.Core.Path.{_≡_, refl, sym, ap, ap₂, _∙_}
+use Prim.Native.Nat.{ℕ, _<_}
+use mathlib.Core.Path.{_≡_, ap₂, _∙_}
 use mathlib.Core.List.{List, [], _∷_}
+use native.Mathlib.Omega.{arith}
 use lib.ListN.{take, getD}
 use lib.Dec.{lit≤}
 use Rattle.bends.specs.Bends.{positionsAt}
-use Rattle.complex.specs.Cells.{Cycle, Figure, openEdge, face, cellAt, cyclesOf}
+use Rattle.complex.specs.Cells.{Cycle, Figure, openEdge, cellAt, cyclesOf}
 use Rattle.complex.specs.Cut.{noCycle, corner}
 use Rattle.store.specs.Index.{rowOf}
 use Rattle.store.specs.View.{sheetOf}
-use Rattle.store.specs.Edits.{appended}
 use Rattle.rows_spans.specs.declared.Spans.{Spans}
 use Rattle.rows_spans.specs.declared.Used.{Used}
-use Rattle.rows_spans.specs.Runs.{spansOf, sheetWithRow}
-use Rattle.rows_spans.specs.Building.{Built, RoomFor, built}
+use Rattle.rows_spans.specs.Building.{Built, RoomFor}
 use Rattle.answer.specs.declared.Totals.{Totals}
 use Rattle.rows_corners.specs.Faces.{Spanned, cyclesAt}
 use Rattle.rows_split.specs.declared.Place.{Place}
@@ -21,13 +20,10 @@ use Rattle.rows_split.specs.Along.{chord, bridge}
 use Rattle.rows_split.specs.Parts.{placeOf, Bridging}
 use Rattle.rows_split.proofs.Cuts as cuts
 use Rattle.lent.specs.Arrays.{Arrays, heldBy}
-use Rattle.lent.specs.Replies.{Holds}
 use Rattle.lent.proofs.Sums.{ready-sizes}
 use Rattle.kind_cut_face.specs.Cuts.{FaceCuts}
-use Rattle.kernel_part.specs.Rounds.{HoldsIn}
-use Rattle.kind_cut_chord.specs.Chords.{ChordRoom}
-use Rattle.kind_cut_bridge.specs.Cuts.{Bridges, bridgedBy}
-use Rattle.kind_cut_chord.proofs.Chords.{chord-room, chord-sheet}
+use Rattle.kind_cut_bridge.specs.Cuts.{Bridges}
+use Rattle.kind_cut_chord.proofs.Chords.{ChordFace, chord-face}
 use Rattle.kind_cut_chord.proofs.Ends as ends
 
 module _ (a : Arrays) (t : Totals) (script : List ℕ) (f : ℕ) (s : Spans) (c1 s1 c2 s2 k first : ℕ) (x : Bridges a t script f s c1 s1 c2 s2 k first) where
@@ -50,8 +46,8 @@ module _ (a : Arrays) (t : Totals) (script : List ℕ) (f : ℕ) (s : Spans) (c1
   pub large-room : RoomFor 512 2048 (bridge (a .next) c1 s1 c2 s2 (cyclesAt (a .cycles) (a .steps) s))
   large-room = cuts.joint-takes (ready-sizes a t (x .ready)) (x .asked) span
 
-  pub small-room : s .cycles .count < 32 → s .steps .count + 2 ≤ 128 → RoomFor 32 128 (bridge (a .next) c1 s1 c2 s2 (cyclesAt (a .cycles) (a .steps) s))
-  small-room = cuts.joint-few (ready-sizes a t (x .ready)) (x .asked) span (lit≤ tt) (lit≤ tt)
+  pub small-room : (s .cycles .count < 32) × (s .steps .count < 127) → RoomFor 32 128 (bridge (a .next) c1 s1 c2 s2 (cyclesAt (a .cycles) (a .steps) s))
+  small-room h = cuts.joint-few (ready-sizes a t (x .ready)) (x .asked) span (lit≤ tt) (lit≤ tt) (h .0) (omega (arith, h .1))
 
   pub lists-ask : (p q : Place) → p ≡ placeOf (a .cycles) s c1 → q ≡ placeOf (a .cycles) s c2 → Bridging (a .cycles) (a .steps) s c1 p s1 c2 q s2 (a .next)
   lists-ask p q e g = cuts.bridging (ready-sizes a t (x .ready)) (x .asked) span e g
@@ -59,26 +55,7 @@ module _ (a : Arrays) (t : Totals) (script : List ℕ) (f : ℕ) (s : Spans) (c1
   module _ (row : ℕ) (e : row ≡ rowOf f (take (a .count) (a .ids))) (v w : ℕ) (ev : v ≡ corner (cellAt (sheetOf (heldBy a))) (getD own c1 noCycle) s1)
       (ew : w ≡ corner (cellAt (sheetOf (heldBy a))) (getD own c2 noCycle) s2)
       (numbers : List ℕ) (u : Used) (places : List ℕ) (b : Built (bridge (a .next) c1 s1 c2 s2 (cyclesAt (a .cycles) (a .steps) s)) numbers u places) where
-    edge-is : openEdge v w (positionsAt script first k) ≡ edge
-    edge-is = ap₂ (λ (i j : ℕ). openEdge i j (positionsAt script first k)) ev ew
-
-    list-is : built numbers u places ≡ joint
-    list-is = b .list ∙ cuts.joint-list (ready-sizes a t (x .ready)) (x .asked) span
-
-    pub room-asks : ChordRoom a row s numbers u places (t .bends) script v w k first
-    room-asks =
-        chord-room a t f joint (edge ∷ []) cut row e numbers u places list-is s
-        (x .spans ∙ ap (λ (r : ℕ). spansOf (a .counts) (t .cells) r (a .cycles)) (sym e)) (b .building)
-        edge [] refl edge-is (x .asked .asked .bytes)
-
-    pub bridge-holds : (n m : ℕ) (o : Arrays) → HoldsIn (appended (sheetWithRow (sheetOf (heldBy a)) row (face (built numbers u places)))
-        (openEdge v w (positionsAt script first k))) n m o
-        → Holds (bridgedBy (sheetOf (heldBy a)) f c1 s1 c2 s2 (positionsAt script first k)) o
-    bridge-holds n m o h =
-        record {
-          sheet = chord-sheet a t f joint (edge ∷ []) cut row e numbers u places list-is (openEdge v w (positionsAt script first k)) edge edge-is
-              (sheetOf (heldBy o)) (h .holds .sheet);
-          fits = h .holds .fits;
-          long = h .holds .long;
-          rows = h .holds .rows;
-        }
+    pub joint-face : ChordFace a t f joint edge row s numbers u places script v w k first
+    joint-face =
+        chord-face a t f joint edge [] cut row e numbers u places (b .building) (b .list ∙ cuts.joint-list (ready-sizes a t (x .ready)) (x .asked) span) s
+        (x .spans) (ap₂ (λ (i j : ℕ). openEdge i j (positionsAt script first k)) ev ew) (x .asked .asked .bytes)

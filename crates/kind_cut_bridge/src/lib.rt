@@ -1,6 +1,6 @@
 ghost use mathlib.Core.Path.{_≡_};
 ghost use mathlib.Core.Bool.{false};
-ghost use Prim.Native.Nat.{_+_, _<_, _≤_};
+ghost use Prim.Native.Nat.{_+_};
 ghost use lib.Dec.{eqb};
 ghost use lib.ListN.{length};
 ghost use Rattle.bends.specs.Bends.{positionsAt};
@@ -103,137 +103,7 @@ fn bridge_in(
     );
 }
 
-// The same, of a face with few cycles and steps: the list gets little room.
-fn bridge_small(
-    next: &mut u32,
-    count: &mut usize,
-    ids: &mut [u32; 256],
-    kinds: &mut [u32; 256],
-    starts: &mut [u32; 256],
-    ends: &mut [u32; 256],
-    bends: &mut [u32; 256],
-    counts: &mut [u32; 256],
-    px: &[f64; 256],
-    py: &[f64; 256],
-    cycles: &mut [u32; 512],
-    steps: &mut [u32; 2048],
-    bx: &mut [f64; 2048],
-    by: &mut [f64; 2048],
-    t: Totals,
-    script: &[u8],
-    f: u32,
-    spans: Spans,
-    c1: u32,
-    s1: u32,
-    c2: u32,
-    s2: u32,
-    k: u32,
-    first: usize,
-)
-    requires { ⌜ Bridges (lent (now next) (now count) ids kinds starts ends bends counts px py cycles steps bx by) t (now script) f spans c1 s1 c2 s2 k first ⌝ }
-    requires { ⌜ spans .cycles .count < 32 ⌝ }
-    requires { ⌜ spans .steps .count + 2 ≤ 128 ⌝ }
-    ensures { λ _. ⌜ now (next .exit) ≡ now (next .entry) + 1 ⌝ }
-    ensures { λ _. ⌜ now (count .exit) ≡ now (count .entry) + 1 ⌝ }
-    ensures { λ _. ⌜ Holds (bridgedBy (sheetOf (heldBy (entry (now (next .entry)) (now (count .entry)) ids kinds starts ends bends counts px py cycles steps bx by))) f c1 s1 c2 s2 (positionsAt (now (script .entry)) first k)) (exit (now (next .exit)) (now (count .exit)) ids kinds starts ends bends counts px py cycles steps bx by) ⌝ }
-{
-    let mut numbers = [0u32; 32];
-    let mut places = [0u32; 128];
-    bridge_in(
-        next,
-        count,
-        ids,
-        kinds,
-        starts,
-        ends,
-        bends,
-        counts,
-        px,
-        py,
-        cycles,
-        steps,
-        bx,
-        by,
-        t,
-        script,
-        f,
-        spans,
-        c1,
-        s1,
-        c2,
-        s2,
-        k,
-        first,
-        &mut numbers,
-        &mut places,
-    );
-}
-
-// The same, of any face: the list gets as much room as the cycles of a drawing.
-fn bridge_large(
-    next: &mut u32,
-    count: &mut usize,
-    ids: &mut [u32; 256],
-    kinds: &mut [u32; 256],
-    starts: &mut [u32; 256],
-    ends: &mut [u32; 256],
-    bends: &mut [u32; 256],
-    counts: &mut [u32; 256],
-    px: &[f64; 256],
-    py: &[f64; 256],
-    cycles: &mut [u32; 512],
-    steps: &mut [u32; 2048],
-    bx: &mut [f64; 2048],
-    by: &mut [f64; 2048],
-    t: Totals,
-    script: &[u8],
-    f: u32,
-    spans: Spans,
-    c1: u32,
-    s1: u32,
-    c2: u32,
-    s2: u32,
-    k: u32,
-    first: usize,
-)
-    requires { ⌜ Bridges (lent (now next) (now count) ids kinds starts ends bends counts px py cycles steps bx by) t (now script) f spans c1 s1 c2 s2 k first ⌝ }
-    ensures { λ _. ⌜ now (next .exit) ≡ now (next .entry) + 1 ⌝ }
-    ensures { λ _. ⌜ now (count .exit) ≡ now (count .entry) + 1 ⌝ }
-    ensures { λ _. ⌜ Holds (bridgedBy (sheetOf (heldBy (entry (now (next .entry)) (now (count .entry)) ids kinds starts ends bends counts px py cycles steps bx by))) f c1 s1 c2 s2 (positionsAt (now (script .entry)) first k)) (exit (now (next .exit)) (now (count .exit)) ids kinds starts ends bends counts px py cycles steps bx by) ⌝ }
-{
-    let mut numbers = [0u32; 512];
-    let mut places = [0u32; 2048];
-    bridge_in(
-        next,
-        count,
-        ids,
-        kinds,
-        starts,
-        ends,
-        bends,
-        counts,
-        px,
-        py,
-        cycles,
-        steps,
-        bx,
-        by,
-        t,
-        script,
-        f,
-        spans,
-        c1,
-        s1,
-        c2,
-        s2,
-        k,
-        first,
-        &mut numbers,
-        &mut places,
-    );
-}
-
-// The same, of any face: only the room that it needs is cleared.
+// The same: the list gets as much room as the cycles of a drawing only where little room is not enough.
 fn bridge_cycles(
     next: &mut u32,
     count: &mut usize,
@@ -265,40 +135,42 @@ fn bridge_cycles(
     ensures { λ _. ⌜ now (count .exit) ≡ now (count .entry) + 1 ⌝ }
     ensures { λ _. ⌜ Holds (bridgedBy (sheetOf (heldBy (entry (now (next .entry)) (now (count .entry)) ids kinds starts ends bends counts px py cycles steps bx by))) f c1 s1 c2 s2 (positionsAt (now (script .entry)) first k)) (exit (now (next .exit)) (now (count .exit)) ids kinds starts ends bends counts px py cycles steps bx by) ⌝ }
 {
-    let c = spans.cycles;
-    let s = spans.steps;
-    if c.count < 32 {
-        if s.count < 127 {
-            bridge_small(
-                next,
-                count,
-                ids,
-                kinds,
-                starts,
-                ends,
-                bends,
-                counts,
-                px,
-                py,
-                cycles,
-                steps,
-                bx,
-                by,
-                t,
-                script,
-                f,
-                spans,
-                c1,
-                s1,
-                c2,
-                s2,
-                k,
-                first,
-            );
-            return;
-        }
+    if kind_cut_split::few(spans) {
+        let mut numbers = [0u32; 32];
+        let mut places = [0u32; 128];
+        bridge_in(
+            next,
+            count,
+            ids,
+            kinds,
+            starts,
+            ends,
+            bends,
+            counts,
+            px,
+            py,
+            cycles,
+            steps,
+            bx,
+            by,
+            t,
+            script,
+            f,
+            spans,
+            c1,
+            s1,
+            c2,
+            s2,
+            k,
+            first,
+            &mut numbers,
+            &mut places,
+        );
+        return;
     }
-    bridge_large(
+    let mut numbers = [0u32; 512];
+    let mut places = [0u32; 2048];
+    bridge_in(
         next,
         count,
         ids,
@@ -323,6 +195,8 @@ fn bridge_cycles(
         s2,
         k,
         first,
+        &mut numbers,
+        &mut places,
     );
 }
 

@@ -96,29 +96,41 @@ module _ (a : Arrays) (row : ℕ) (s : Spans) (numbers : List ℕ) (u : Used) (p
         })
 
 -- ---- of a face whose list and whose edge are those of a cut
-module _ (a : Arrays) (t : Totals) (f : ℕ) (ks : List Cycle) (new : List Figure) (c : FaceCuts a t f ks new) (row : ℕ)
+
+-- there is room for the cycles ks of f and for the edge x, and what comes is the sheet with both
+pub record ChordFace (a : Arrays) (t : Totals) (f : ℕ) (ks : List Cycle) (x : Figure) (row : ℕ) (s : Spans) (numbers : List ℕ) (u : Used)
+    (places script : List ℕ) (v w k first : ℕ) : Type 0 where
+  pub asks : ChordRoom a row s numbers u places (t .bends) script v w k first
+  pub holds : {n m : ℕ} {o : Arrays} → HoldsIn (appended (sheetWithRow (sheetOf (heldBy a)) row (face (built numbers u places)))
+      (openEdge v w (positionsAt script first k))) n m o
+      → HoldsIn (appended (recycled (sheetOf (heldBy a)) f ks) x) n m o
+
+holds-as : {q r : Sheet} {n m : ℕ} {o : Arrays} → q ≡ r → HoldsIn q n m o → HoldsIn r n m o
+holds-as {n = n} {m = m} {o = o} e h = subst (λ (s : Sheet). HoldsIn s n m o) e h
+
+module _ (a : Arrays) (t : Totals) (f : ℕ) (ks : List Cycle) (x : Figure) (others : List Figure) (c : FaceCuts a t f ks (x ∷ others)) (row : ℕ)
     (e : row ≡ rowOf f (take (a .count) (a .ids))) (numbers : List ℕ) (u : Used) (places : List ℕ)
-    (ek : built numbers u places ≡ ks) where
+    (b : Building numbers u places) (ek : built numbers u places ≡ ks) where
   row-sheet : sheetWithRow (sheetOf (heldBy a)) row (face (built numbers u places)) ≡ recycled (sheetOf (heldBy a)) f ks
   row-sheet =
-      replaced-with (heldBy a) (sizes-in a t f ks new c) (rowsBy a) f (c .named) numbers u places row e _ refl
+      replaced-with (heldBy a) (sizes-in a t f ks (x ∷ others) c) (rowsBy a) f (c .named) numbers u places row e _ refl
       ∙ ap (recycled (sheetOf (heldBy a)) f) ek
 
-  pub chord-room : (s : Spans) → s ≡ spansOf (a .counts) (t .cells) row (a .cycles) → Building numbers u places → {script : List ℕ} {v w k first : ℕ}
-      (x : Figure) (others : List Figure) → new ≡ x ∷ others
-      → openEdge v w (positionsAt script first k) ≡ x → first + 16 * k ≤ length script → ChordRoom a row s numbers u places (t .bends) script v w k first
-  chord-room s es b {script} {v} {w} {k} {first} x others en ex h =
+  pub chord-face : (s : Spans) → s ≡ spansOf (a .counts) (t .cells) (rowOf f (take (a .count) (a .ids))) (a .cycles)
+      → {script : List ℕ} {v w k first : ℕ} → openEdge v w (positionsAt script first k) ≡ x → first + 16 * k ≤ length script
+      → ChordFace a t f ks x row s numbers u places script v w k first
+  chord-face s es {script} {v} {w} {k} {first} ex h =
       record {
-        replaces = replaces a t f ks new c row e s es numbers u places b ek;
-        inUse = ap (λ (q : Totals). q .bends) (c .ready .sums);
-        bytes = h;
-        others = others;
-        room =
-            subst (λ (q : Sheet). RoomIn q (openEdge v w (positionsAt script first k) ∷ others)) (sym row-sheet)
-            (subst (RoomIn (recycled (sheetOf (heldBy a)) f ks)) (en ∙ ap (λ (y : Figure). y ∷ others) (sym ex)) (c .room));
+        asks =
+            record {
+              replaces =
+                  replaces a t f ks (x ∷ others) c row e s (es ∙ ap (λ (r : ℕ). spansOf (a .counts) (t .cells) r (a .cycles)) (sym e)) numbers u places b ek;
+              inUse = ap (λ (q : Totals). q .bends) (c .ready .sums);
+              bytes = h;
+              others = others;
+              room =
+                  subst (λ (q : Sheet). RoomIn q (openEdge v w (positionsAt script first k) ∷ others)) (sym row-sheet)
+                  (subst (λ (y : Figure). RoomIn (recycled (sheetOf (heldBy a)) f ks) (y ∷ others)) (sym ex) (c .room));
+            };
+        holds = holds-as (ap₂ appended row-sheet ex);
       }
-
-  -- the sheet with the edge
-  pub chord-sheet : (x y : Figure) → x ≡ y → (q : Sheet) → q ≡ appended (sheetWithRow (sheetOf (heldBy a)) row (face (built numbers u places))) x → q ≡ appended
-      (recycled (sheetOf (heldBy a)) f ks) y
-  chord-sheet x y ex q eq = eq ∙ ap₂ appended row-sheet ex

@@ -14,7 +14,7 @@ use Rattle.rows_spans.specs.declared.Spans.{Spans}
 use Rattle.rows_spans.specs.Runs.{spansOf}
 use Rattle.answer.specs.declared.Totals.{Totals}
 use Rattle.rows_corners.specs.Faces.{Spanned, IndexRows}
-use Rattle.rows_corners.proofs.Rows.{finding, spanned}
+use Rattle.rows_corners.proofs.Rows.{spanned}
 use Rattle.rows_split.specs.declared.Place.{Place}
 use Rattle.rows_split.specs.Along.{Along}
 use Rattle.rows_split.specs.Parts.{placeOf}
@@ -55,9 +55,6 @@ module _ (a : Arrays) (t : Totals) (y : Ready a t) (script : List ℕ) (f : ℕ)
 
   sizes : Sizes (heldBy a)
   sizes = ready-sizes a t y
-
-  pub find-asks : (a .count ≤ 256) × ((length (a .ids) ≡ 256) × Rising (take (a .count) (a .ids)))
-  find-asks = finding (heldBy a) sizes (rowsBy a) f (g .named)
 
   pub span : Spanned (heldBy a) f s
   span =

@@ -6,11 +6,11 @@ use mathlib.Core.List.{List, []}
 use native.Mathlib.Omega.{arith}
 use lib.Dec.{eqb}
 use borrow.Author.Tests.{ne-eqb}
-use lib.ListN.{length, take}
+use lib.ListN.{take}
 use Rattle.complex.specs.Cells.{Cycle, Figure, Sheet, face}
 use Rattle.store.specs.declared.Drawing.{Drawing}
 use Rattle.store.specs.Sizes.{Sizes}
-use Rattle.store.specs.Index.{rowOf, Rising}
+use Rattle.store.specs.Index.{rowOf}
 use Rattle.store.specs.View.{sheetOf}
 use Rattle.rows_spans.specs.declared.Spans.{Spans}
 use Rattle.rows_spans.specs.declared.Used.{Used}
@@ -19,7 +19,7 @@ use Rattle.rows_spans.specs.Building.{Building, Built, built}
 use Rattle.answer.specs.declared.Totals.{Totals}
 use Rattle.answer.specs.Answers.{outcome}
 use Rattle.rows_corners.specs.Faces.{Spanned, recycled}
-use Rattle.rows_corners.proofs.Rows.{live, finding, spanned, replacing, replaced-with}
+use Rattle.rows_corners.proofs.Rows.{live, spanned, replacing, replaced-with}
 use Rattle.rows_corners.proofs.Edits.{room-listed, sheet-listed}
 use Rattle.lent.specs.Arrays.{Arrays, heldBy, rowsBy, totalsOf}
 use Rattle.lent.specs.declared.Line.{Line}
@@ -43,9 +43,6 @@ new-outcome next n k out l e f =
 module _ (a : Arrays) (t : Totals) (f : ℕ) (ks : List Cycle) (new : List Figure) (w : FaceCuts a t f ks new) where
   pub sizes-in : Sizes (heldBy a)
   sizes-in = ready-sizes a t (w .ready)
-
-  pub find-asks : (a .count ≤ 256) × ((length (a .ids) ≡ 256) × Rising (take (a .count) (a .ids)))
-  find-asks = finding (heldBy a) sizes-in (rowsBy a) f (w .named)
 
   module _ (row : ℕ) (e : row ≡ rowOf f (take (a .count) (a .ids))) where
     pub in-rows : row < a .count

@@ -16,7 +16,6 @@ use Rattle.store.specs.View.{sheetOf}
 use Rattle.store.specs.Edits.{appended}
 use Rattle.rows_spans.specs.declared.Spans.{Spans}
 use Rattle.rows_spans.specs.declared.Used.{Used}
-use Rattle.rows_spans.specs.Runs.{spansOf, sheetWithRow}
 use Rattle.rows_spans.specs.Building.{Built, built}
 use Rattle.rows_new.specs.Appends.{RoomIn, CellRoom}
 use Rattle.rows_new.proofs.Appended.{appended-one, appended-next}
@@ -35,8 +34,7 @@ use Rattle.lent.proofs.Held.{held-sizes}
 use Rattle.lent.proofs.Sums.{ready-sizes}
 use Rattle.kind_cut_face.specs.Cuts.{FaceCuts}
 use Rattle.kernel_part.specs.Rounds.{HoldsIn, PartRoom}
-use Rattle.kind_cut_chord.specs.Chords.{ChordRoom}
-use Rattle.kind_cut_chord.proofs.Chords.{chord-room, chord-sheet}
+use Rattle.kind_cut_chord.proofs.Chords.{ChordFace, chord-face}
 use Rattle.kind_cut_chord.proofs.Ends as ends
 use Rattle.kind_cut_split.specs.Cuts.{Splits, SidesFit, nearBy, farBy}
 
@@ -78,11 +76,11 @@ module _ (a : Arrays) (t : Totals) (script : List ℕ) (f : ℕ) (s : Spans) (c 
       }
 
   -- where there are few cycles and steps, small lists have room for both sides
-  pub sides-small : s .cycles .count < 32 → s .steps .count < 127 → SidesFit a script s c s1 s2 moved place 32 128 32 128
-  sides-small hc hs =
+  pub sides-small : (s .cycles .count < 32) × (s .steps .count < 127) → SidesFit a script s c s1 s2 moved place 32 128 32 128
+  sides-small h =
       record {
-        near = cuts.near-few (ready-sizes a t (x .ready)) (x .asked) span (lit≤ tt) (lit≤ tt) hc (omega (arith, hs));
-        far = cuts.far-few (ready-sizes a t (x .ready)) (x .asked) span (lit≤ tt) (lit≤ tt) hc (omega (arith, hs));
+        near = cuts.near-few (ready-sizes a t (x .ready)) (x .asked) span (lit≤ tt) (lit≤ tt) (h .0) (omega (arith, h .1));
+        far = cuts.far-few (ready-sizes a t (x .ready)) (x .asked) span (lit≤ tt) (lit≤ tt) (h .0) (omega (arith, h .1));
       }
 
   -- lists of zeros
@@ -98,34 +96,11 @@ module _ (a : Arrays) (t : Totals) (script : List ℕ) (f : ℕ) (s : Spans) (c 
       (ew : w ≡ corner (cellAt (sheetOf (heldBy a))) (getD own c noCycle) s2)
       (numbers : List ℕ) (u : Used) (places : List ℕ) (b : Built (nearSide (a .next) c s1 s2 (numbersRead script place moved)
       (cyclesAt (a .cycles) (a .steps) s)) numbers u places) where
-    edge-is : openEdge v w (positionsAt script first k) ≡ edge
-    edge-is = ap₂ (λ (i j : ℕ). openEdge i j (positionsAt script first k)) ev ew
-
-    list-is : built numbers u places ≡ near
-    list-is = b .list ∙ cuts.near-list (ready-sizes a t (x .ready)) (x .asked) span
-
-    pub room-asks : ChordRoom a row s numbers u places (t .bends) script v w k first
-    room-asks =
-        chord-room a t f near (edge ∷ face far ∷ []) cut row e numbers u places list-is s
-        (x .spans ∙ ap (λ (r : ℕ). spansOf (a .counts) (t .cells) r (a .cycles)) (sym e)) (b .building)
-        edge (face far ∷ []) refl edge-is (x .asked .asked .bytes)
-
-    pub near-holds : (n m : ℕ) (o : Arrays) → HoldsIn (appended (sheetWithRow (sheetOf (heldBy a)) row (face (built numbers u places)))
-        (openEdge v w (positionsAt script first k))) n m o
-        → HoldsIn (nearBy (sheetOf (heldBy a)) f c s1 s2 (positionsAt script first k) (numbersRead script place moved)) n m o
-    near-holds n m o h =
-        record {
-          holds =
-              record {
-                sheet = chord-sheet a t f near (edge ∷ face far ∷ []) cut row e numbers u places list-is (openEdge v w (positionsAt script first k)) edge
-                    edge-is (sheetOf (heldBy o)) (h .holds .sheet);
-                fits = h .holds .fits;
-                long = h .holds .long;
-                rows = h .holds .rows;
-              };
-          cycles = h .cycles;
-          steps = h .steps;
-        }
+    pub near-face : ChordFace a t f near edge row s numbers u places script v w k first
+    near-face =
+        chord-face a t f near edge (face far ∷ []) cut row e numbers u places (b .building)
+        (b .list ∙ cuts.near-list (ready-sizes a t (x .ready)) (x .asked) span) s (x .spans)
+        (ap₂ (λ (i j : ℕ). openEdge i j (positionsAt script first k)) ev ew) (x .asked .asked .bytes)
 
   -- the far side in another list
   pub far-built : (numbers : List ℕ) (u : Used) (places : List ℕ) → Built

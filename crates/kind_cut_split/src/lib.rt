@@ -1,5 +1,5 @@
 ghost use mathlib.Core.Path.{_≡_};
-ghost use Prim.Native.Nat.{_+_, _<_};
+ghost use Prim.Native.Nat.{_+_};
 ghost use mathlib.Core.Bool.{_&&_};
 ghost use lib.Dec.{ltb};
 ghost use lib.ListN.{length};
@@ -207,80 +207,15 @@ fn split_in(
     );
 }
 
-// The face f is cut in two where it has few cycles and steps: small lists have room for a cycle and two steps more.
-fn split_small(
-    next: &mut u32,
-    count: &mut usize,
-    ids: &mut [u32; 256],
-    kinds: &mut [u32; 256],
-    starts: &mut [u32; 256],
-    ends: &mut [u32; 256],
-    bends: &mut [u32; 256],
-    counts: &mut [u32; 256],
-    px: &[f64; 256],
-    py: &[f64; 256],
-    cycles: &mut [u32; 512],
-    steps: &mut [u32; 2048],
-    bx: &mut [f64; 2048],
-    by: &mut [f64; 2048],
-    t: Totals,
-    script: &[u8],
-    f: u32,
-    spans: Spans,
-    c: u32,
-    s1: u32,
-    s2: u32,
-    k: u32,
-    first: usize,
-    moved: u32,
-    place: usize,
-)
-    requires { ⌜ Splits (lent (now next) (now count) ids kinds starts ends bends counts px py cycles steps bx by) t (now script) f spans c s1 s2 k first moved place ⌝ }
-    requires { ⌜ spans .cycles .count < 32 ⌝ }
-    requires { ⌜ spans .steps .count < 127 ⌝ }
-    ensures { λ _. ⌜ now (next .exit) ≡ now (next .entry) + 2 ⌝ }
-    ensures { λ _. ⌜ now (count .exit) ≡ now (count .entry) + 2 ⌝ }
-    ensures { λ _. ⌜ Holds (faceCutAlong (sheetOf (heldBy (entry (now (next .entry)) (now (count .entry)) ids kinds starts ends bends counts px py cycles steps bx by))) f c s1 c s2 (positionsAt (now (script .entry)) first k) (numbersRead (now (script .entry)) place moved)) (exit (now (next .exit)) (now (count .exit)) ids kinds starts ends bends counts px py cycles steps bx by) ⌝ }
+// Are there so few cycles and steps that small lists have room for a cycle and two steps more?
+pub fn few(spans: Spans) -> bool
+    ensures { λ r. ⌜ r ≡ ltb (spans .cycles .count) 32 && ltb (spans .steps .count) 127 ⌝ }
 {
-    let mut kc = [0u32; 32];
-    let mut kp = [0u32; 128];
-    let mut numbers = [0u32; 32];
-    let mut places = [0u32; 128];
-    split_in(
-        next,
-        count,
-        ids,
-        kinds,
-        starts,
-        ends,
-        bends,
-        counts,
-        px,
-        py,
-        cycles,
-        steps,
-        bx,
-        by,
-        t,
-        script,
-        f,
-        spans,
-        c,
-        s1,
-        s2,
-        k,
-        first,
-        moved,
-        place,
-        &mut kc,
-        &mut kp,
-        &mut numbers,
-        &mut places,
-    );
+    spans.cycles.count < 32 && spans.steps.count < 127
 }
 
-// The face f is cut in two, with lists as large as the drawing's own.
-fn split_large(
+// The face f is cut in two, with lists as large as the drawing's own only where small ones have no room.
+fn split_cycle(
     next: &mut u32,
     count: &mut usize,
     ids: &mut [u32; 256],
@@ -312,6 +247,44 @@ fn split_large(
     ensures { λ _. ⌜ now (count .exit) ≡ now (count .entry) + 2 ⌝ }
     ensures { λ _. ⌜ Holds (faceCutAlong (sheetOf (heldBy (entry (now (next .entry)) (now (count .entry)) ids kinds starts ends bends counts px py cycles steps bx by))) f c s1 c s2 (positionsAt (now (script .entry)) first k) (numbersRead (now (script .entry)) place moved)) (exit (now (next .exit)) (now (count .exit)) ids kinds starts ends bends counts px py cycles steps bx by) ⌝ }
 {
+    if few(spans) {
+        let mut kc = [0u32; 32];
+        let mut kp = [0u32; 128];
+        let mut numbers = [0u32; 32];
+        let mut places = [0u32; 128];
+        split_in(
+            next,
+            count,
+            ids,
+            kinds,
+            starts,
+            ends,
+            bends,
+            counts,
+            px,
+            py,
+            cycles,
+            steps,
+            bx,
+            by,
+            t,
+            script,
+            f,
+            spans,
+            c,
+            s1,
+            s2,
+            k,
+            first,
+            moved,
+            place,
+            &mut kc,
+            &mut kp,
+            &mut numbers,
+            &mut places,
+        );
+        return;
+    }
     let mut kc = [0u32; 512];
     let mut kp = [0u32; 2048];
     let mut numbers = [0u32; 512];
@@ -347,105 +320,6 @@ fn split_large(
         &mut numbers,
         &mut places,
     );
-}
-
-// Are there so few cycles and steps that small lists have room for a cycle and two steps more?
-fn few(spans: Spans) -> bool
-    ensures { λ r. ⌜ r ≡ ltb (spans .cycles .count) 32 && ltb (spans .steps .count) 127 ⌝ }
-{
-    spans.cycles.count < 32 && spans.steps.count < 127
-}
-
-// The face f is cut in two, with small lists where they have room.
-fn split_cycle(
-    next: &mut u32,
-    count: &mut usize,
-    ids: &mut [u32; 256],
-    kinds: &mut [u32; 256],
-    starts: &mut [u32; 256],
-    ends: &mut [u32; 256],
-    bends: &mut [u32; 256],
-    counts: &mut [u32; 256],
-    px: &[f64; 256],
-    py: &[f64; 256],
-    cycles: &mut [u32; 512],
-    steps: &mut [u32; 2048],
-    bx: &mut [f64; 2048],
-    by: &mut [f64; 2048],
-    t: Totals,
-    script: &[u8],
-    f: u32,
-    spans: Spans,
-    c: u32,
-    s1: u32,
-    s2: u32,
-    k: u32,
-    first: usize,
-    moved: u32,
-    place: usize,
-)
-    requires { ⌜ Splits (lent (now next) (now count) ids kinds starts ends bends counts px py cycles steps bx by) t (now script) f spans c s1 s2 k first moved place ⌝ }
-    ensures { λ _. ⌜ now (next .exit) ≡ now (next .entry) + 2 ⌝ }
-    ensures { λ _. ⌜ now (count .exit) ≡ now (count .entry) + 2 ⌝ }
-    ensures { λ _. ⌜ Holds (faceCutAlong (sheetOf (heldBy (entry (now (next .entry)) (now (count .entry)) ids kinds starts ends bends counts px py cycles steps bx by))) f c s1 c s2 (positionsAt (now (script .entry)) first k) (numbersRead (now (script .entry)) place moved)) (exit (now (next .exit)) (now (count .exit)) ids kinds starts ends bends counts px py cycles steps bx by) ⌝ }
-{
-    if few(spans) {
-        split_small(
-            next,
-            count,
-            ids,
-            kinds,
-            starts,
-            ends,
-            bends,
-            counts,
-            px,
-            py,
-            cycles,
-            steps,
-            bx,
-            by,
-            t,
-            script,
-            f,
-            spans,
-            c,
-            s1,
-            s2,
-            k,
-            first,
-            moved,
-            place,
-        );
-    } else {
-        split_large(
-            next,
-            count,
-            ids,
-            kinds,
-            starts,
-            ends,
-            bends,
-            counts,
-            px,
-            py,
-            cycles,
-            steps,
-            bx,
-            by,
-            t,
-            script,
-            f,
-            spans,
-            c,
-            s1,
-            s2,
-            k,
-            first,
-            moved,
-            place,
-        );
-    }
 }
 
 // Questions 7 and 8 and the cut, from corner s1 to corner s2 of one cycle: the face is cut in two.

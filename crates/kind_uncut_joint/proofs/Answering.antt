@@ -42,7 +42,7 @@ use Rattle.answer.specs.declared.Totals.{Totals}
 use Rattle.answer.proofs.Asked.{sound-in, next-in, Asked, answer, answers}
 use Rattle.rows_gone.proofs.Dropped.{live-below, row-only}
 use Rattle.ask_cut_edge.specs.Cuts.{vertexPlace, noCell}
-use Rattle.ask_cut_edge.proofs.Found.{find-asks, row-below, read-row, base-asks}
+use Rattle.ask_cut_edge.proofs.Found.{row-below, read-row, base-asks}
 use Rattle.ask_cut_edge.proofs.Opened.{open-figure}
 use Rattle.law_uncut.proofs.Passing.{uncut-result}
 use Rattle.ask_uncut_vertex.specs.declared.Side.{Side}
@@ -53,6 +53,7 @@ use Rattle.ask_uncut_vertex.proofs.Answering.{new-outcome, sided, at-first, at-
 use Rattle.lent.specs.Arrays.{Arrays, positionIn, positionsIn, shapeBy, shapeAt, heldBy, rowsBy}
 use Rattle.lent.proofs.Held.{held-sizes}
 use Rattle.lent.proofs.Sums.{ready-rows, ready-drawing, ready-sheet}
+use Rattle.lent.proofs.Finds.{ready-finds}
 use Rattle.lent.proofs.Sums.{ready-sizes, ready-fits, ready-indexes, ready-looks, ready-cycles, ready-steps, ready-totals, ready-small, ready-no}
 use Rattle.lent.specs.declared.Line.{Line}
 use Rattle.lent.specs.Replies.{lineOf, answerBy, Ready, Obeyed}
@@ -105,9 +106,6 @@ module _ (a : Arrays) (t : Totals) (r : Ready a t) (v x : ℕ) (back1 : Bool) (y
   pub counts : (a .next ≤ idsEnd) × (Small t × (2 ≤ 4294967296))
   counts = (next-in (heldBy a) (ready-drawing a t r), (ready-small a t r, lit≤ tt))
 
-  pub finds : (a .count ≤ 256) × ((length (a .ids) ≡ 256) × Rising (take (a .count) (a .ids)))
-  finds = find-asks (heldBy a) (ready-sizes a t r) (ready-drawing a t r) (rowsBy a) (ready-indexes a t r)
-
   tells : AtJoint (sheetOf (heldBy a)) v (leaving x back1) (leaving y back2)
   tells = joint-told (sheetOf (heldBy a)) (sound-in (heldBy a) (ready-drawing a t r)) v (leaving x back1) (leaving y back2) h
 
@@ -148,7 +146,7 @@ module _ (a : Arrays) (t : Totals) (r : Ready a t) (v x : ℕ) (back1 : Bool) (y
           × ((rowOf e (take (a .count) (a .ids)) < 256)
           × ((total (placesOf 0) (take (rowOf e (take (a .count) (a .ids))) (a .bends)) ≤ 2048) × (length (a .bends) ≡ 256)))))
       side-asks e l =
-          let f = finds in
+          let f = ready-finds a t r in
           let row = rowOf e (take (a .count) (a .ids)) in (
             f .0,
             (

@@ -9,7 +9,7 @@ use Rattle.complex.specs.Cells.{face}
 use Rattle.complex.specs.Edits.{neither, replaced, rebuild}
 use Rattle.complex.specs.Decode.{uncut}
 use Rattle.complex.specs.Uncut.{lonely, uncutCase, uncutResult}
-use Rattle.store.specs.Index.{rowOf, Rising}
+use Rattle.store.specs.Index.{rowOf}
 use Rattle.store.specs.View.{sheetOf, cyclesFrom, widthSum}
 use Rattle.store.specs.Edits.{placesOf}
 use Rattle.sound.proofs.Looking.{row-is}
@@ -42,9 +42,6 @@ module _ (a : Arrays) (t : Totals) (y : Ready a t) (v : ℕ) (e : uncutCase (she
 
   pub place-asks : (length (a .cycles) ≡ 512) × ((length (a .steps) ≡ 2048) × ((t .cycles ≤ 512) × (widthSum (take (t .cycles) (a .cycles)) ≤ 2048)))
   place-asks = seeking (heldBy a) (ready-sizes a t y) (ready-drawing a t y) v e (rowsBy a) (ready-indexes a t y) (t .cycles) sum-is
-
-  pub find-asks : (a .count ≤ 256) × ((length (a .ids) ≡ 256) × Rising (take (a .count) (a .ids)))
-  find-asks = (ready-fits a t y .cells, (y .long .ids, ready-looks a t y .rising))
 
   -- the lone cycle, and the row that holds it
   module _ (j : ℕ) (ej : j ≡ lonePlace v (cyclesFrom (take (t .cycles) (a .cycles)) (a .steps)))

@@ -1,35 +1,26 @@
--- `add_open` meets its contract: questions 3 and 4, then 7 and 8, then the bends and the row. Assumes nothing.
+-- `add_open` meets its contract: questions 3 and 4, then the edge. Assumes nothing.
 use borrow.Author.Needs.{needs}
 use borrow.Author.Tests.{not-true, not-false, eq-eqb, ne-eqb}
-use native.Mathlib.Omega.{arith}
 use Prim.Native.Nat.{ℕ}
-use mathlib.Core.Path.{_≡_, refl, sym, _∙_}
+use mathlib.Core.Path.{_≡_, sym, _∙_}
 use mathlib.Core.Bool.{true}
 use mathlib.Core.List.{List}
-use lib.Dec.{lit≤, eqb}
-use lib.ListN.{length}
+use lib.Dec.{eqb}
 use denote.Ref.{now}
 use Rattle.coordinate.specs.declared.Position.{Position}
 use Rattle.coordinate.specs.Bounds.{within}
 use Rattle.bends.specs.Bends.{positionsAt}
-use Rattle.bends.proofs.Laws.{positions-length}
 use Rattle.complex.specs.Lists.{all}
 use Rattle.complex.specs.Cells.{Figure, openEdge, cellAt, isVertex}
 use Rattle.complex.specs.Decode.{create}
 use Rattle.complex.proofs.Asked.{early-bends, out-bends, no-3, no-4, Passed}
 use Rattle.store.specs.View.{sheetOf}
 use Rattle.sound.specs.Looks.{indexValue}
-use Rattle.rows_new.specs.Appends.{CellRoom}
-use Rattle.answer.specs.Sizes.{sized, nothing, moreLess, changedBy}
-use Rattle.answer.specs.Late.{sizesBy, lateNo}
-use Rattle.answer.proofs.Asked.{next-in, kind-vertex}
-use Rattle.ask_create.proofs.Create.{no-by-bends, open-four-start, open-four-end, open-passed}
+use Rattle.answer.proofs.Asked.{kind-vertex}
+use Rattle.ask_create.proofs.Create.{open-four-start, open-four-end, open-passed}
 use Rattle.lent.specs.Arrays.{Arrays, lent, heldBy, rowsBy}
-use Rattle.lent.specs.Growing.{withOpen}
-use Rattle.lent.proofs.Grown.{open-long, open-normal}
-use Rattle.lent.proofs.Sums.{ready-rows, ready-drawing, ready-sizes, ready-fits, ready-indexes, ready-looks, ready-small, ready-bends, ready-no}
-use Rattle.kernel_add.proofs.Comes.{obeyed-full, came-room, obeyed-came}
-use Rattle.kernel_add.proofs.Put.{withPlaced, placed-long, open-grew}
+use Rattle.lent.proofs.Sums.{ready-drawing, ready-sizes, ready-fits, ready-indexes, ready-looks, ready-no}
+use Rattle.kind_create.specs.Edges.{openRow}
 use Rattle.kind_create.proofs.add_open.Statement.{statement}
 use Rattle.kind_create.proofs.add_open.Tie as tie
 
@@ -42,9 +33,6 @@ arrays c =
 -- the bends in the script
 abbrev listed : (c : tie.Start) → List Position
 listed c = positionsAt (now (c .args .script)) (c .args .first) (c .args .k)
-
-many : (c : tie.Start) → length (listed c) ≡ c .args .k
-many c = positions-length (now (c .args .script)) (c .args .first) (c .args .k)
 
 abbrev edge : (c : tie.Start) → Figure
 edge c = openEdge (c .args .start) (c .args .end) (listed c)
@@ -135,90 +123,14 @@ passed f =
     open-passed (heldBy (arrays s)) (s .args .start) (s .args .end) (listed s) (bounds (e .before)) (starts-at e)
     (sym (kind s (s .args .end) (b .value-at2 .result) (b .value-at2 .ensures)) ∙ eq-eqb _ 0 (f .if3 .left))
 
-wide-requires : tie.Need-wide-requires
-wide-requires c κs = search needs
-
-cell-no-requires : tie.Need-cell-no-requires
-cell-no-requires c κs =
-    let s = starting (c .before .before) in (
-      next-in (heldBy (arrays s)) (ready-drawing (arrays s) (s .args .t) (s .pre .0)),
-      (ready-small (arrays s) (s .args .t) (s .pre .0), (lit≤ tt, (lit≤ tt, omega (arith, c .wide .ensures, s .fits .k)))),
-    )
-
-line-of-requires-4 : tie.Need-line-of-requires-4
-line-of-requires-4 c κs = search needs
-
--- where questions 7 and 8 are answered
-abbrev start : tie.After-cell-no → tie.Start
-start l = starting (l .before .before .before)
-
-late : (l : tie.After-cell-no) → l .cell-no .result ≡ lateNo (arrays (start l) .next) 1
-    (changedBy (sizesBy (start l .args .t)) (moreLess (sized 1 0 0 (length (listed (start l)))) nothing))
-late l =
-    let s = start l in
-    no-by-bends (arrays s .next) (s .args .t) (l .cell-no .result) _ (listed s) (many s ∙ sym (l .before .wide .ensures)) (l .cell-no .ensures)
+add-edge-requires : tie.Need-add-edge-requires
+add-edge-requires c κs =
+    let f = c .before .before .before .before .before .before .before .before .before .before in
+    let s = starting f in
+    (s .pre .0, (s .pre .1, (openRow {s = s .args .start} {e = s .args .end}, passed f)))
 
 returns-4 : tie.Need-returns-4
-returns-4 c =
-    let l = c .before .before in
-    let s = start l in
-    obeyed-full (arrays s) (s .args .t) (s .pre .0) (edge s) (passed (l .before .before .before)) (l .cell-no .result) (late l) (c .before .if4 .taken) _
-    (c .line-of4 .ensures)
-
--- where the edge has room
-room : (e : tie.Else4) → CellRoom (heldBy (arrays (start (e .before)))) (edge (start (e .before)))
-room e =
-    let l = e .before in
-    let s = start l in
-    came-room (arrays s) (s .args .t) (s .pre .0) (edge s) (passed (l .before .before .before)) (l .cell-no .result) (late l) (e .if4 .left)
-
-put-bends-requires : tie.Need-put-bends-requires
-put-bends-requires c κs =
-    let e = c .before .before in
-    let s = start (e .before) in
-    (s .pre .1, (omega (arith, room e .bends, many s, ready-bends (arrays s) (s .args .t) (s .pre .0)), (s .pre .0 .long .bx, s .pre .0 .long .by)))
-
-add-row-requires : tie.Need-add-row-requires
-add-row-requires c κs = let m = room (c .before .before .before .before .before .before .before .before .before .before .before) in (m .cells, m .ids)
-
-returns-5 : tie.Need-returns-5
-returns-5 c =
-    let p = c .before .before .before .before .before .before .before .before .before in
-    let e = p .before .before .before in
-    let l = e .before in
-    let s = start l in
-    let a = arrays s in
-    let k = s .args .k in
-    let us = p .put-bends .last .1 .1 .1 .0 in
-    let vs = p .put-bends .last .1 .1 .1 .1 .0 in
-    let at = ready-bends a (s .args .t) (s .pre .0) in
-    let b = withPlaced a us vs in
-    let lb = placed-long a (s .pre .0 .long) (listed s) k (s .args .t .bends) (many s) at us vs (p .put-bends .ensures) in
-    let w = c .add-row .ensures in
-    let y = w .1 .1 .1 in
-    let m = room e in
-    obeyed-came a (s .args .t) (s .pre .0) (edge s) (passed (l .before .before .before)) (l .cell-no .result) (late l) (e .if4 .left)
-    (withOpen b (s .args .start) (s .args .end) k) (open-long b lb (s .args .start) (s .args .end) k) refl refl
-    (open-normal b lb (s .args .start) (s .args .end) k (m .cells) (ready-rows a (s .args .t) (s .pre .0)))
-    (open-grew a (s .pre .0 .long) (listed s) k (s .args .t .bends) (many s) at us vs (p .put-bends .ensures) (s .args .start) (s .args .end) m)
-    _
-    (λ i. record {
-      next = w .1 .0 i;
-      count = w .1 .1 .0 i;
-      ids = y .0 i;
-      kinds = y .1 .0 i;
-      starts = y .1 .1 .0 i;
-      ends = y .1 .1 .1 .0 i;
-      bends = y .1 .1 .1 .1 .0 i;
-      counts = y .1 .1 .1 .1 .1 i;
-      px = a .px;
-      py = a .py;
-      cycles = a .cycles;
-      steps = a .steps;
-      bx = us;
-      by = vs;
-    })
-    _ (w .0)
+returns-4 c = c .add-edge .ensures
 
 pub add-open-spec : {M : Type 1} → statement M
 add-open-spec =
@@ -233,10 +145,5 @@ add-open-spec =
     value-at-requires-2
     line-of-requires-3
     returns-3
-    wide-requires
-    cell-no-requires
-    line-of-requires-4
-    returns-4
-    put-bends-requires
-    add-row-requires
-    returns-5)
+    add-edge-requires
+    returns-4)

@@ -1,7 +1,7 @@
 -- `add_vertex` meets its contract: question 3, then 7 and 8, then the vertex in the next row. Assumes nothing.
 use borrow.Author.Needs.{needs}
 use borrow.Author.Tests.{not-true, not-false}
-use mathlib.Core.Path.{refl, sym, _∙_}
+use mathlib.Core.Path.{refl, sym, ap₂, _∙_}
 use lib.Dec.{lit≤}
 use denote.Ref.{now}
 use Rattle.complex.specs.Cells.{vertex}
@@ -12,10 +12,10 @@ use Rattle.rows_new.specs.Appends.{CellRoom}
 use Rattle.answer.proofs.Asked.{next-in}
 use Rattle.ask_create.proofs.Create.{vertex-passed}
 use Rattle.lent.specs.Arrays.{Arrays, lent, heldBy}
-use Rattle.lent.specs.Growing.{withVertex}
+use Rattle.lent.specs.Growing.{withRow, withVertex}
 use Rattle.lent.proofs.Grown.{vertex-long, vertex-normal, vertex-comes}
 use Rattle.lent.proofs.Sums.{ready-rows, ready-drawing, ready-small, ready-no}
-use Rattle.kernel_add.proofs.Comes.{obeyed-full, came-room, obeyed-came}
+use Rattle.kernel_add.proofs.Comes.{row-added, obeyed-full, came-room, obeyed-came}
 use Rattle.kind_create.proofs.add_vertex.Statement.{statement}
 use Rattle.kind_create.proofs.add_vertex.Tie as tie
 
@@ -24,6 +24,10 @@ arrays c =
     let a = c .args in
     lent (now (a .next)) (now (a .count)) (a .ids) (a .kinds) (a .starts) (a .ends) (a .bends) (a .counts) (a .px) (a .py) (a .cycles) (a .steps) (a .bx)
     (a .by)
+
+-- where questions 7 and 8 are answered
+abbrev start : tie.After-cell-no → tie.Start
+start l = l .before .before .before .before
 
 in-bounds-requires : tie.Need-in-bounds-requires
 in-bounds-requires c κs = search needs
@@ -48,10 +52,6 @@ cell-no-requires c κs =
 
 line-of-requires-2 : tie.Need-line-of-requires-2
 line-of-requires-2 c κs = search needs
-
--- where questions 7 and 8 are answered
-abbrev start : tie.After-cell-no → tie.Start
-start l = l .before .before .before .before
 
 passed : (l : tie.After-cell-no) → Passed (sheetOf (heldBy (arrays (start l)))) (create (vertex (start l .args .p)))
 passed l =
@@ -85,31 +85,13 @@ returns-3 c =
     let l = e .before in
     let s = start l in
     let a = arrays s in
-    let w = c .add-row .ensures in
-    let y = w .1 .1 .1 in
     let x = q .put-position .ensures in
+    let w = c .add-row .ensures in
     let m = room e in
     obeyed-came a (s .args .t) (s .pre) (vertex (s .args .p)) (passed l) (l .cell-no .result) (l .cell-no .ensures) (e .if2 .left)
     (withVertex a (s .args .p)) (vertex-long a (s .pre .long) (s .args .p)) refl refl
     (vertex-normal a (s .pre .long) (s .args .p) (m .cells) (ready-rows a (s .args .t) (s .pre))) (vertex-comes a (s .pre .long) (s .args .p) m)
-    _
-    (λ i. record {
-      next = w .1 .0 i;
-      count = w .1 .1 .0 i;
-      ids = y .0 i;
-      kinds = y .1 .0 i;
-      starts = y .1 .1 .0 i;
-      ends = y .1 .1 .1 .0 i;
-      bends = y .1 .1 .1 .1 .0 i;
-      counts = y .1 .1 .1 .1 .1 i;
-      px = x .0 i;
-      py = x .1 i;
-      cycles = a .cycles;
-      steps = a .steps;
-      bx = a .bx;
-      by = a .by;
-    })
-    _ (w .0)
+    _ (row-added _ a 0 0 0 0 0 (w .1) refl refl refl refl ∙ ap₂ (withRow a 0 0 0 0 0) (x .0) (x .1)) _ (w .0)
 
 pub add-vertex-spec : {M : Type 1} → statement M
 add-vertex-spec =

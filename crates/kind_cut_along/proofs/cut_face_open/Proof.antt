@@ -10,7 +10,8 @@ use Rattle.bends.specs.Bends.{positionsAt}
 use Rattle.lent.specs.Arrays.{Arrays, lent}
 use Rattle.lent.proofs.Sums.{ready-fits, ready-looks}
 use Rattle.kind_cut_split.specs.Cuts.{Asks}
-use Rattle.kind_cut_along.proofs.Opening.{bends-no, face-no, find-asks, counted, corners-ask, corners-no, asks, asks-one, obeyed-one}
+use Rattle.lent.proofs.Finds.{ready-finds}
+use Rattle.kind_cut_along.proofs.Opening.{bends-no, face-no, counted, corners-ask, corners-no, asks, asks-one, obeyed-one}
 use Rattle.kind_cut_along.proofs.cut_face_open.Statement.{statement}
 use Rattle.kind_cut_along.proofs.cut_face_open.Tie as tie
 
@@ -57,11 +58,8 @@ returns-2 c =
 
 find-requires : tie.Need-find-requires
 find-requires c κs =
-    let v = c .before .before in
     let s = c .before .before .before .before .before .before .before .before .before in
-    find-asks (arrays s) (s .args .t) (s .pre .0) (now (s .args .script)) (s .args .f) (s .args .c1) (s .args .s1) (s .args .c2) (s .args .s2)
-    (s .args .k) (s .args .first) (s .args .moved) (s .args .place)
-    (in-range v) (v .value-at .result) (v .value-at .ensures) (c .before .if2 .left)
+    ready-finds (arrays s) (s .args .t) (s .pre .0)
 
 spans-at-requires : tie.Need-spans-at-requires
 spans-at-requires c κs =

@@ -14,9 +14,10 @@ use Rattle.rows_new.specs.Appends.{CellRoom}
 use Rattle.rows_corners.specs.Faces.{Spanned, cyclesAt, recycled}
 use Rattle.law_cut_face.proofs.Edits.{lone-asks, lone-list}
 use Rattle.lent.specs.Arrays.{Arrays, lent, heldBy, rowsBy}
+use Rattle.lent.proofs.Finds.{ready-finds}
 use Rattle.kernel_cycles.specs.Replacing.{andOne, ReplacesIn, ReplacedIn}
 use Rattle.kind_cut_face.specs.Cuts.{FaceCuts}
-use Rattle.kind_cut_face.proofs.Cuts.{sizes-in, find-asks, counted, span, replaces, replaced-sheet}
+use Rattle.kind_cut_face.proofs.Cuts.{sizes-in, counted, span, replaces, replaced-sheet}
 use Rattle.kind_cut_face.proofs.Lone.{withLone, lone-built, vertex-room, vertex-holds}
 use Rattle.kind_cut_face.proofs.cut_at.Statement.{statement}
 use Rattle.kind_cut_face.proofs.cut_at.Tie as tie
@@ -37,7 +38,7 @@ abbrev used : Spans → Used
 used q = record { cycles = q .cycles .count + 1; steps = q .steps .count + 1 }
 
 find-requires : tie.Need-find-requires
-find-requires c κs = let s = c .before .before .before in find-asks (arrays s) (s .args .t) (s .args .f) (list s) (new s) (s .pre)
+find-requires c κs = let s = c .before .before .before in ready-finds (arrays s) (s .args .t) (s .pre .ready)
 
 spans-at-requires : tie.Need-spans-at-requires
 spans-at-requires c κs =

@@ -10,10 +10,11 @@ use Rattle.complex.specs.Cells.{Cycle, Figure}
 use Rattle.rows_spans.specs.Building.{built}
 use Rattle.rows_corners.specs.Faces.{Spanned}
 use Rattle.lent.specs.Arrays.{Arrays, lent, heldBy}
+use Rattle.lent.proofs.Finds.{ready-finds}
 use Rattle.kernel_cycles.specs.Replacing.{ReplacesIn}
 use Rattle.kernel_cycles.proofs.Held.{in-cycles, in-steps}
 use Rattle.kind_cut_face.specs.Cuts.{FaceCuts}
-use Rattle.kind_cut_face.proofs.Cuts.{find-asks, counted, span, replaces, replaced-sheet}
+use Rattle.kind_cut_face.proofs.Cuts.{counted, span, replaces, replaced-sheet}
 use Rattle.kind_cut_round.proofs.Cutting.{keptList, bothCells, cuts, lists-ask, kept-is, ring-room, part-room, round-holds}
 use Rattle.kind_cut_round.proofs.cut_round_parted.Statement.{statement}
 use Rattle.kind_cut_round.proofs.cut_round_parted.Tie as tie
@@ -40,7 +41,7 @@ asked s =
     (s .args .place) (s .pre .1)
 
 find-requires : tie.Need-find-requires
-find-requires c κs = let s = c .before .before .before .before in find-asks (arrays s) (s .args .t) (s .args .f) (list s) (new s) (asked s)
+find-requires c κs = let s = c .before .before .before .before in ready-finds (arrays s) (s .args .t) (s .pre .0)
 
 spans-at-requires : tie.Need-spans-at-requires
 spans-at-requires c κs =

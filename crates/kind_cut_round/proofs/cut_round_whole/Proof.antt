@@ -12,10 +12,11 @@ use Rattle.rows_spans.specs.Building.{Built, built}
 use Rattle.rows_corners.specs.Faces.{Spanned, cyclesAt, recycled}
 use Rattle.law_cut_face.specs.Rounds.{stayed}
 use Rattle.lent.specs.Arrays.{Arrays, lent, heldBy}
+use Rattle.lent.proofs.Finds.{ready-finds}
 use Rattle.kernel_cycles.specs.Replacing.{andOne, ReplacesIn, ReplacedIn}
 use Rattle.kernel_cycles.proofs.Held.{in-cycles, in-steps}
 use Rattle.kind_cut_face.specs.Cuts.{FaceCuts}
-use Rattle.kind_cut_face.proofs.Cuts.{find-asks, counted, span, replaces, replaced-sheet}
+use Rattle.kind_cut_face.proofs.Cuts.{counted, span, replaces, replaced-sheet}
 use Rattle.kind_cut_round.proofs.Cutting.{keptList, bothCells, cuts, lists-ask, kept-is, ring-room, part-room, round-holds}
 use Rattle.kind_cut_round.proofs.Whole.{used, ring-kept, step-built}
 use Rattle.kind_cut_round.proofs.cut_round_whole.Statement.{statement}
@@ -37,7 +38,7 @@ asks : (s : tie.Start) → FaceCuts (arrays s) (s .args .t) (s .args .f) (list s
 asks s = cuts (arrays s) (s .args .t) (s .pre .0) (s .args .script .now) (s .args .f) (s .args .k) (s .args .first) 0 0 (s .pre .1)
 
 find-requires : tie.Need-find-requires
-find-requires c κs = let s = c .before .before .before .before in find-asks (arrays s) (s .args .t) (s .args .f) (list s) (new s) (asks s)
+find-requires c κs = let s = c .before .before .before .before in ready-finds (arrays s) (s .args .t) (s .pre .0)
 
 spans-at-requires : tie.Need-spans-at-requires
 spans-at-requires c κs =

@@ -7,8 +7,9 @@ use Rattle.complex.specs.Cells.{cellAt, cyclesOf}
 use Rattle.complex.specs.Cut.{noCycle, corner}
 use Rattle.store.specs.View.{sheetOf}
 use Rattle.lent.specs.Arrays.{Arrays, lent, heldBy}
+use Rattle.lent.proofs.Finds.{ready-finds}
 use Rattle.kind_cut_chord.proofs.Ends as ends
-use Rattle.kind_cut_split.proofs.Splitting.{halves-ask, room-asks, near-holds, far-built}
+use Rattle.kind_cut_split.proofs.Splitting.{halves-ask, near-face, far-built}
 use Rattle.kind_cut_split.proofs.split_near.Statement.{statement}
 use Rattle.kind_cut_split.proofs.split_near.Tie as tie
 
@@ -21,8 +22,7 @@ arrays c =
 find-requires : tie.Need-find-requires
 find-requires c κs =
     let s = c .before .before .before .before .before .before .before in
-    ends.find-asks (arrays s) (s .args .t) (s .pre .0 .ready) (now (s .args .script)) (s .args .f) (s .args .spans) (s .args .c) (s .args .s1) (s .args .c)
-    (s .args .s2) (s .args .k) (s .args .first) (s .args .moved) (s .args .place) (s .pre .0 .spans) (s .pre .0 .asked .asked)
+    ready-finds (arrays s) (s .args .t) (s .pre .0 .ready)
 
 place-of-requires : tie.Need-place-of-requires
 place-of-requires c κs =
@@ -89,10 +89,10 @@ add-chord-requires c κs =
     let v = w .before .before .before .before .before in
     let x = v .before .before .before .before .before .before .before in
     let s = x .before .before .before .before .before .before .before .before in
-    room-asks (arrays s) (s .args .t) (now (s .args .script)) (s .args .f) (s .args .spans) (s .args .c) (s .args .s1) (s .args .s2)
+    near-face (arrays s) (s .args .t) (now (s .args .script)) (s .args .f) (s .args .spans) (s .args .c) (s .args .s1) (s .args .s2)
     (s .args .k) (s .args .first) (s .args .moved) (s .args .place) (s .pre .0)
     (x .find .result) (x .find .ensures) (v .corner-vertex .result) (w .corner-vertex2 .result) (starts-at v) (ends-at w) _ (h .halves .result .old) _
-    (h .halves .ensures .0)
+    (h .halves .ensures .0) .asks
 
 same-length : tie.Need-same-length
 same-length c = search needs
@@ -119,10 +119,10 @@ returns c =
       (
         g .1 .0,
         (
-          near-holds (arrays s) (s .args .t) (now (s .args .script)) (s .args .f) (s .args .spans) (s .args .c) (s .args .s1) (s .args .s2)
+          near-face (arrays s) (s .args .t) (now (s .args .script)) (s .args .f) (s .args .spans) (s .args .c) (s .args .s1) (s .args .s2)
               (s .args .k) (s .args .first) (s .args .moved) (s .args .place) (s .pre .0)
               (x .find .result) (x .find .ensures) (v .corner-vertex .result) (w .corner-vertex2 .result) (starts-at v) (ends-at w) _
-              (h .halves .result .old) _ (h .halves .ensures .0) _ _ _ (g .1 .1),
+              (h .halves .result .old) _ (h .halves .ensures .0) .holds (g .1 .1),
           far-built (arrays s) (s .args .t) (now (s .args .script)) (s .args .f) (s .args .spans) (s .args .c) (s .args .s1) (s .args .s2)
               (s .args .k) (s .args .first) (s .args .moved) (s .args .place) (s .pre .0)
               _ (h .halves .result .new) _ (h .halves .ensures .1),

@@ -2,7 +2,8 @@
 use borrow.Author.Needs.{needs}
 use denote.Ref.{now}
 use Rattle.lent.specs.Arrays.{Arrays, lent}
-use Rattle.kind_uncut_joint.proofs.Answering.{counts, finds, refuses, vertex-row, first-asks, second-asks, merges, joins, obeyed}
+use Rattle.lent.proofs.Finds.{ready-finds}
+use Rattle.kind_uncut_joint.proofs.Answering.{counts, refuses, vertex-row, first-asks, second-asks, merges, joins, obeyed}
 use Rattle.kind_uncut_joint.proofs.jointed.Statement.{statement}
 use Rattle.kind_uncut_joint.proofs.jointed.Tie as tie
 
@@ -48,7 +49,7 @@ returns c =
 find-requires : tie.Need-find-requires
 find-requires c κs =
     let s = c .before .before .before .before .before in
-    finds (arrays s) (s .args .t) (s .pre .0) (s .args .v) (s .args .x) (s .args .back1) (s .args .y) (s .args .back2) (s .pre .1)
+    ready-finds (arrays s) (s .args .t) (s .pre .0)
 
 vertex-at-requires : tie.Need-vertex-at-requires
 vertex-at-requires c κs =

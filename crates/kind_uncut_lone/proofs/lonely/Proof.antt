@@ -7,7 +7,8 @@ use lib.ListN.{length-replicate}
 use denote.Ref.{now}
 use Rattle.lent.specs.Arrays.{Arrays, lent}
 use Rattle.lent.proofs.Sums.{ready-fits, ready-rows}
-use Rattle.kind_uncut_lone.proofs.Going.{place-asks, find-asks, row-few, counted, list-asks, refaces, fewer, obeyed}
+use Rattle.lent.proofs.Finds.{ready-finds}
+use Rattle.kind_uncut_lone.proofs.Going.{place-asks, row-few, counted, list-asks, refaces, fewer, obeyed}
 use Rattle.kind_uncut_lone.proofs.lonely.Statement.{statement}
 use Rattle.kind_uncut_lone.proofs.lonely.Tie as tie
 
@@ -76,7 +77,7 @@ all-but-requires c κs =
 find-requires : tie.Need-find-requires
 find-requires c κs =
     let s = c .before .before .before .before .before .before .before .before .before .before .before .before .before .before .before .before .before .before .before in
-    find-asks (arrays s) (s .args .t) (s .pre .0) (s .args .v) (s .pre .1)
+    ready-finds (arrays s) (s .args .t) (s .pre .0)
 
 slice-aggregate-reface : tie.Need-slice-aggregate-reface
 slice-aggregate-reface c = search needs
