@@ -1,13 +1,13 @@
 -- Three cells that go by the flags of their rows. Assumes nothing.
 use Prim.Native.Nat.{ℕ, _<_, _≤_}
 use native.Mathlib.Omega.{arith}
-use mathlib.Core.Path.{_≡_, refl, sym, ap, ap₂, _∙_, subst}
+use mathlib.Core.Path.{_≡_, refl, sym, ap, ap₂, _∙_}
 use mathlib.Core.Bool.{Bool, true, false, not, _&&_, _||_}
 use mathlib.Core.List.{List}
 use lib.ListN.{length, getD, take, set, replicate, length-map, length-replicate, length-set, getD-replicate}
 use lib.Seq.{getD-take, length-take-le}
 use lib.Dec.{eqb}
-use Rattle.complex.specs.Cells.{Figure, LiveCell, Sheet, ids}
+use Rattle.complex.specs.Cells.{Figure, LiveCell, ids}
 use Rattle.complex.specs.Edits.{keepIds, noneOf, reshape}
 use Rattle.complex.proofs.Lookup.{ids-reshape}
 use Rattle.store.specs.declared.Drawing.{Drawing}
@@ -15,10 +15,8 @@ use Rattle.store.specs.Index.{Rising, rowOf}
 use Rattle.store.specs.Sizes.{Sizes}
 use Rattle.store.specs.View.{sheetOf, Fits}
 use Rattle.store.specs.Edits.{kept, withEntries}
-use Rattle.store.proofs.Stands.{stands, count-is}
-use Rattle.sound.proofs.Meaning.{sound-fits, sound-sheet, rising-is, sheet-rising}
 use Rattle.rows_new.specs.Appends.{remade}
-use Rattle.rows_new.proofs.Appended.{keep-reshape}
+use Rattle.rows_gone.proofs.Both.{changed-rows, changed-left}
 use Rattle.rows_gone.proofs.Dropped.{kept-by, marked-at, row-only}
 use Rattle.ask_uncut_vertex.specs.Needs.{Triple}
 
@@ -61,20 +59,12 @@ pub three-left : (d : Drawing) → Sizes d → (i a j b k c : ℕ) → Triple d 
     → withEntries (sheetOf mid) (kept (take (mid .count) dead) (sheetOf mid .cells)) ≡ remade (noneOf i j k) f (sheetOf d)
 three-left d z i a j b k c t f mid zm gm em dead ed =
     let cs = sheetOf d .cells in
-    let ds = reshape f cs in
     let p = t .pair in
-    let w = p .sound in
-    let ec : sheetOf mid .cells ≡ ds = ap (λ (s : Sheet). s .cells) em in
-    let is : ids ds ≡ ids cs = ids-reshape f cs in
-    let n = count-is d cs (stands d z (sound-fits d w)) z (sound-fits d w .cells) in
-    let ml : mid .count ≡ length ds = count-is mid (sheetOf mid .cells) (stands mid zm gm) zm (gm .cells) ∙ ap length ec in
-    let dl = length-map {B = LiveCell} cs (λ (x : LiveCell). record { id = x .id; figure = f (x .id) (x .figure) }) in
-    let r : Rising (ids ds) = subst Rising (sym is) (rising-is (ids cs) (sheetOf d .next) (sheet-rising d (sound-sheet d w))) in
+    let is : ids (reshape f cs) ≡ ids cs = ids-reshape f cs in
+    let r = changed-rows d z (p .sound) f mid zm gm em in
     let ha = p .firstIn in
     let hb = p .secondIn in
     let hc = t .thirdIn in
-    ap (λ (s : Sheet). withEntries s (kept (take (mid .count) dead) (s .cells))) em
-    ∙ ap (withEntries (sheetOf d))
-    (kept-three ds r i a j b k c (mid .count) dead ml (gm .cells) (p .first ∙ ap (rowOf i) (sym is)) (omega arith) (p .second ∙ ap (rowOf j) (sym is))
-    (omega arith) (t .third ∙ ap (rowOf k) (sym is)) (omega arith) ed
-    ∙ keep-reshape (noneOf i j k) f cs)
+    changed-left d z (p .sound) f mid zm gm em (noneOf i j k) dead
+    (kept-three (reshape f cs) (r .2) i a j b k c (mid .count) dead (r .0) (gm .cells) (p .first ∙ ap (rowOf i) (sym is)) (omega arith)
+    (p .second ∙ ap (rowOf j) (sym is)) (omega arith) (t .third ∙ ap (rowOf k) (sym is)) (omega arith) ed)

@@ -70,6 +70,14 @@ abbrev counted : Bool → ℕ → ℕ → List ℕ → ℕ
 counted each i k [] = k
 counted each i k (s ∷ ws) = counted each i (usesAfter each i k s) ws
 
+-- ---- lists that are alike from a place on: what they have there, and behind it when one of them is written there
+read-same : (j : ℕ) (l l₀ : List ℕ) → drop j l ≡ drop j l₀ → getD l j 0 ≡ getD l₀ j 0
+read-same j l l₀ e =
+    ap (λ (n : ℕ). getD l n 0) (omega arith) ∙ sym (getD-drop j l 0 0) ∙ ap (λ (q : List ℕ). getD q 0 0) e ∙ getD-drop j l₀ 0 0 ∙ ap (λ (n : ℕ). getD l₀ n 0) (omega arith)
+
+rest-next : (j : ℕ) (l l₀ : List ℕ) (v : ℕ) → drop j l ≡ drop j l₀ → drop (j + 1) (set l j v) ≡ drop (j + 1) l₀
+rest-next j l l₀ v e = drop-set-lt (j + 1) l j v (omega arith) ∙ sym (drop-drop 1 j l) ∙ ap (drop 1) e ∙ drop-drop 1 j l₀
+
 module _ (each : Bool) (i next : ℕ) where
   run-snoc : (k : ℕ) (ws : List ℕ) (s : ℕ) → copiedRun each i next k (ws ++ (s ∷ [])) ≡ copiedRun each i next k ws ++ (copiedWord i next (counted each i k ws) s ∷ [])
   run-snoc k [] s = refl
@@ -94,12 +102,10 @@ module _ (each : Bool) (i next : ℕ) where
       → v ≡ copiedWord i next k (getD l j 0) → k′ ≡ usesAfter each i k (getD l j 0) → Running k₀ l₀ (j + 1) k′ (set l j v)
   running-turn k₀ l₀ j k l v k′ h p e g =
       let z = p .size in
-      let same : getD l j 0 ≡ getD l₀ j 0 =
-      ap (λ (n : ℕ). getD l n 0) (omega arith) ∙ sym (getD-drop j l 0 0) ∙ ap (λ (q : List ℕ). getD q 0 0) (p .rest) ∙ getD-drop j l₀ 0 0 ∙ ap (λ (n : ℕ). getD l₀ n 0) (omega arith)
-      in
+      let same = read-same j l l₀ (p .rest) in
       record {
         size = length-set l j v ∙ p .size;
-        rest = drop-set-lt (j + 1) l j v (omega arith) ∙ sym (drop-drop 1 j l) ∙ ap (drop 1) (p .rest) ∙ drop-drop 1 j l₀;
+        rest = rest-next j l l₀ v (p .rest);
         front =
             ap (λ (n : ℕ). take n (set l j v)) (add-one j) ∙ take-suc-set l j v (omega arith)
             ∙ ap₂ (λ (x : List ℕ) (y : ℕ). x ++ (y ∷ [])) (p .front) (e ∙ ap₂ (copiedWord i next) (p .count) same)

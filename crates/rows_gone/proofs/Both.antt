@@ -6,7 +6,7 @@ use mathlib.Core.Bool.{Bool, true, false, not, _&&_, _||_}
 use mathlib.Core.List.{List}
 use lib.ListN.{length, getD, take, set, replicate, length-map, length-replicate, length-set, getD-replicate}
 use lib.Seq.{getD-take, length-take-le}
-use lib.Dec.{eqb}
+use lib.Dec.{T, eqb}
 use Rattle.complex.specs.Cells.{Figure, LiveCell, Sheet, ids}
 use Rattle.complex.specs.Edits.{keepIds, reshape, neither}
 use Rattle.complex.proofs.Lookup.{ids-reshape}
@@ -16,6 +16,7 @@ use Rattle.store.specs.Sizes.{Sizes}
 use Rattle.store.specs.View.{sheetOf, Fits}
 use Rattle.store.specs.Edits.{kept, withEntries}
 use Rattle.store.proofs.Stands.{stands, count-is}
+use Rattle.sound.specs.Soundness.{soundDrawing}
 use Rattle.sound.proofs.Meaning.{sound-fits, sound-sheet, rising-is, sheet-rising}
 use Rattle.rows_new.specs.Appends.{remade}
 use Rattle.rows_new.proofs.Appended.{keep-reshape}
@@ -45,23 +46,33 @@ kept-both cs r i a j b n dead en hn ea ha eb hb ed =
     (marked-at none a k (omega arith) ∙ ap₂ _||_ (ap (λ (m : ℕ). eqb m k) ea ∙ row-only (ids cs) r i k (omega arith) (omega arith)) (getD-replicate 256 k false false (omega arith)))
     ∙ one-or-other (eqb i (getD (ids cs) k 0)) (eqb j (getD (ids cs) k 0))
 
+-- a drawing whose cells have changed by f: its rows, and the sheet when some of them go
+module _ (d : Drawing) (z : Sizes d) (w : T (soundDrawing d)) (f : ℕ → Figure → Figure) (mid : Drawing) (zm : Sizes mid) (gm : Fits mid)
+    (em : sheetOf mid ≡ withEntries (sheetOf d) (reshape f (sheetOf d .cells))) where
+  pub changed-rows : (mid .count ≡ length (reshape f (sheetOf d .cells))) × (mid .count ≡ d .count) × Rising (ids (reshape f (sheetOf d .cells)))
+  changed-rows =
+      let cs = sheetOf d .cells in
+      let n = count-is d cs (stands d z (sound-fits d w)) z (sound-fits d w .cells) in
+      let m = count-is mid (sheetOf mid .cells) (stands mid zm gm) zm (gm .cells) ∙ ap (λ (s : Sheet). length (s .cells)) em in
+      let l = length-map {B = LiveCell} cs (λ (c : LiveCell). record { id = c .id; figure = f (c .id) (c .figure) }) in
+      (m, omega arith, subst Rising (sym (ids-reshape f cs)) (rising-is (ids cs) (sheetOf d .next) (sheet-rising d (sound-sheet d w))))
+
+  pub changed-left : (keep : ℕ → Bool) (dead : List Bool) → kept (take (mid .count) dead) (reshape f (sheetOf d .cells)) ≡ keepIds keep (reshape f (sheetOf d .cells))
+      → withEntries (sheetOf mid) (kept (take (mid .count) dead) (sheetOf mid .cells)) ≡ remade keep f (sheetOf d)
+  changed-left keep dead e =
+      ap (λ (s : Sheet). withEntries s (kept (take (mid .count) dead) (s .cells))) em ∙ ap (withEntries (sheetOf d)) (e ∙ keep-reshape keep f (sheetOf d .cells))
+
 -- a drawing whose cells have changed by f, and then two cells go
 pub dropped-both : (d : Drawing) → Sizes d → (i a j b : ℕ) → Pair d i a j b → (f : ℕ → Figure → Figure) (mid : Drawing) → Sizes mid → Fits mid
     → sheetOf mid ≡ withEntries (sheetOf d) (reshape f (sheetOf d .cells)) → (dead : List Bool) → dead ≡ set (set (replicate 256 false) a true) b true → (out : Drawing)
     → sheetOf out ≡ withEntries (sheetOf mid) (kept (take (mid .count) dead) (sheetOf mid .cells)) → sheetOf out ≡ remade (neither i j) f (sheetOf d)
 dropped-both d z i a j b p f mid zm gm em dead ed out eo =
     let cs = sheetOf d .cells in
-    let ds = reshape f cs in
-    let w = p .sound in
-    let ec : sheetOf mid .cells ≡ ds = ap (λ (s : Sheet). s .cells) em in
-    let is : ids ds ≡ ids cs = ids-reshape f cs in
-    let n = count-is d cs (stands d z (sound-fits d w)) z (sound-fits d w .cells) in
-    let ml : mid .count ≡ length ds = count-is mid (sheetOf mid .cells) (stands mid zm gm) zm (gm .cells) ∙ ap length ec in
-    let dl = length-map {B = LiveCell} cs (λ (c : LiveCell). record { id = c .id; figure = f (c .id) (c .figure) }) in
-    let r : Rising (ids ds) = subst Rising (sym is) (rising-is (ids cs) (sheetOf d .next) (sheet-rising d (sound-sheet d w))) in
+    let is : ids (reshape f cs) ≡ ids cs = ids-reshape f cs in
+    let r = changed-rows d z (p .sound) f mid zm gm em in
     let ha = p .firstIn in
     let hb = p .secondIn in
     eo
-    ∙ ap (λ (s : Sheet). withEntries s (kept (take (mid .count) dead) (s .cells))) em
-    ∙ ap (withEntries (sheetOf d))
-    (kept-both ds r i a j b (mid .count) dead ml (gm .cells) (p .first ∙ ap (rowOf i) (sym is)) (omega arith) (p .second ∙ ap (rowOf j) (sym is)) (omega arith) ed ∙ keep-reshape (neither i j) f cs)
+    ∙ changed-left d z (p .sound) f mid zm gm em (neither i j) dead
+    (kept-both (reshape f cs) (r .2) i a j b (mid .count) dead (r .0) (gm .cells) (p .first ∙ ap (rowOf i) (sym is)) (omega arith)
+    (p .second ∙ ap (rowOf j) (sym is)) (omega arith) ed)

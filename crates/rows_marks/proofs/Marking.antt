@@ -5,7 +5,7 @@ use mathlib.Core.List.{List, [], _∷_, _++_, map}
 use mathlib.Core.Bool.{Bool, true, false, _&&_, _||_}
 use native.Mathlib.Omega.{arith}
 use native.Mathlib.Numerals.{add-one}
-use lib.ListN.{length, take, drop, set, getD, length-drop}
+use lib.ListN.{length, take, drop, set, getD, length-set, length-drop}
 use lib.Seq.{take-suc-set, drop-cons, drop-length, drop-drop, getD-take, getD-drop, length-take-le}
 use Rattle.complex.specs.Lists.{any, total}
 use Rattle.store.specs.declared.Cell.{Cell}
@@ -75,9 +75,24 @@ edge-suc i j (k ∷ ks) (s ∷ ss) [] h g f = absurd (omega arith)
 edge-suc i zero (k ∷ ks) (s ∷ ss) (e ∷ es) h g f = refl
 edge-suc i (suc j) (k ∷ ks) (s ∷ ss) (e ∷ es) h g f = ap (λ (r : List Bool). endsThere i k s e ∷ r) (edge-suc i j ks ss es (omega arith) (omega arith) (omega arith))
 
-pub edge-more : (i j : ℕ) (ks ss es : List ℕ) → j < length ks → j < length ss → j < length es
+edge-more : (i j : ℕ) (ks ss es : List ℕ) → j < length ks → j < length ss → j < length es
     → edgeMarks i (take (j + 1) ks) (take (j + 1) ss) (take (j + 1) es) ≡ edgeMarks i (take j ks) (take j ss) (take j es) ++ (endsThere i (getD ks j 0) (getD ss j 0) (getD es j 0) ∷ [])
 edge-more i j ks ss es h g f = ap (λ (n : ℕ). edgeMarks i (take n ks) (take n ss) (take n es)) (add-one j) ∙ edge-suc i j ks ss es h g f
+
+-- the first i rows have the marks of their edges
+pub record EdgesMarked (id : ℕ) (ks ss es : List ℕ) (i : ℕ) (ms : List Bool) : Type 0 where
+  pub size : length ms ≡ 256
+  pub told : take i ms ≡ edgeMarks id (take i ks) (take i ss) (take i es)
+
+pub edges-turn : {id : ℕ} {ks ss es : List ℕ} {i : ℕ} {ms : List Bool} → EdgesMarked id ks ss es i ms → i < 256 → i < length ks → i < length ss → i < length es
+    → (b : Bool) → b ≡ endsThere id (getD ks i 0) (getD ss i 0) (getD es i 0) → EdgesMarked id ks ss es (i + 1) (set ms i b)
+edges-turn {id} {ks} {ss} {es} {i} {ms} m h hk hs he b e =
+    record {
+      size = length-set ms i b ∙ m .size;
+      told =
+          front-more ms i b _ _ (omega (arith, m .size)) (m .told)
+          (edge-more id i ks ss es hk hs he ∙ ap (λ (x : Bool). edgeMarks id (take i ks) (take i ss) (take i es) ++ (x ∷ [])) (sym e));
+    }
 
 cell-suc : (ms : List Bool) (cs : List ℕ) (bs : List Bool) (j : ℕ) → j < length ms → j < length cs
     → cellMarks (take (suc j) ms) (take (suc j) cs) bs ≡ cellMarks (take j ms) (take j cs) bs ++ ((getD ms j false || anyOf (take (getD cs j 0) (drop (sumOf (take j cs)) bs))) ∷ [])

@@ -10,7 +10,7 @@ use Rattle.complex.specs.Lists.{total}
 use Rattle.complex.specs.Cells.{Halfedge, Cycle, stepsOf}
 use Rattle.complex.specs.Uses.{edgeUse, stepUse}
 use Rattle.store.specs.View.{halfedgeOf, width, widthSum, cycleOf, cyclesFrom}
-use Rattle.rows_sides.specs.Sides.{forwardUse, backwardUse, forwardIn, backwardIn}
+use Rattle.rows_sides.specs.Sides.{sideUse, forwardUse, backwardUse, forwardIn, backwardIn}
 
 pub total-map : {A B : Type 0} (f : B → ℕ) (g : A → B) (l : List A) → total (λ (x : A). f (g x)) l ≡ total f (map g l)
 total-map f g [] = refl
@@ -37,21 +37,19 @@ module _ (f : Halfedge → ℕ) where
     cycle-few (suc c) l = omega (arith, few (map halfedgeOf (take (suc c) l)), length-map (take (suc c) l) halfedgeOf, length-take (suc c) l)
 
 module _ (e : ℕ) where
-  pub forward-one : (h : Halfedge) → forwardUse e h ≤ 1
-  forward-one h = go (eqb e (h .edge)) (h .backward)
+  side-one : (y n : ℕ) → y ≤ 1 → n ≤ 1 → (h : Halfedge) → sideUse y n e h ≤ 1
+  side-one y n hy hn h = go (eqb e (h .edge)) (h .backward)
     where
-      go : (a b : Bool) → cond a (cond b 0 1) 0 ≤ 1
-      go true true = omega arith
-      go true false = omega arith
+      go : (a b : Bool) → cond a (cond b y n) 0 ≤ 1
+      go true true = hy
+      go true false = hn
       go false b = omega arith
 
+  pub forward-one : (h : Halfedge) → forwardUse e h ≤ 1
+  forward-one = side-one 0 1 (omega arith) (omega arith)
+
   pub backward-one : (h : Halfedge) → backwardUse e h ≤ 1
-  backward-one h = go (eqb e (h .edge)) (h .backward)
-    where
-      go : (a b : Bool) → cond a (cond b 1 0) 0 ≤ 1
-      go true true = omega arith
-      go true false = omega arith
-      go false b = omega arith
+  backward-one = side-one 1 0 (omega arith) (omega arith)
 
   -- ---- both directions together
   both-use : (h : Halfedge) → forwardUse e h + backwardUse e h ≡ edgeUse e h

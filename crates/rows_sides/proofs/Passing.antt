@@ -26,6 +26,18 @@ from-within ns j n from c h k f e =
     let g : j < length ns = omega arith in
     omega (arith, from-more ns j from c g f e, sum-le width ns (j + 1) n (omega arith))
 
+-- ---- the part of an array from a place on
+pub part-is : (from : ℕ) (st : List ℕ) → take (length st - from) (drop from st) ≡ drop from st
+part-is from st = take-all (length st - from) (drop from st) (omega (arith, length-drop from st))
+
+pub part-room : (from w : ℕ) (st : List ℕ) → from + w ≤ length st → w ≤ length (take (length st - from) (drop from st))
+part-room from w st h = rw (part-is from st) (omega (arith, length-drop from st))
+
+-- the place after one cycle more
+pub from-next : (ns : List ℕ) (j from c w : ℕ) → j < length ns → from ≡ widthSum (take j ns) → c ≡ getD ns j 0 → w ≡ width c
+    → from + w ≡ widthSum (take (j + 1) ns)
+from-next ns j from c w h f e g = ap (λ (x : ℕ). from + x) g ∙ from-more ns j from c h f e
+
 -- ---- counting
 module _ (uses : Cycle → ℕ) where
   pub total-more : (ns : List ℕ) (j from c : ℕ) (st : List ℕ) → j < length ns → from ≡ widthSum (take j ns) → c ≡ getD ns j 0
@@ -33,6 +45,9 @@ module _ (uses : Cycle → ℕ) where
   total-more ns j from c st h f e =
       ap (total uses) (cycles-more ns j from c st h f e) ∙ sum-append uses (cyclesFrom (take j ns) st) (cycleOf c (drop from st) ∷ []) ∙ omega arith
 
--- ---- the part of an array from a place on
-pub part-is : (from : ℕ) (st : List ℕ) → take (length st - from) (drop from st) ≡ drop from st
-part-is from st = take-all (length st - from) (drop from st) (omega (arith, length-drop from st))
+  -- a sum, and what the cycle in the part from there on counts
+  pub sum-next : (ns : List ℕ) (j from c : ℕ) (st : List ℕ) (s x : ℕ) → j < length ns → from ≡ widthSum (take j ns) → c ≡ getD ns j 0
+      → s ≡ total uses (cyclesFrom (take j ns) st) → x ≡ uses (cycleOf c (take (length st - from) (drop from st)))
+      → s + x ≡ total uses (cyclesFrom (take (j + 1) ns) st)
+  sum-next ns j from c st s x h f e es ex =
+      omega (arith, es, ex ∙ ap (λ (l : List ℕ). uses (cycleOf c l)) (part-is from st), total-more ns j from c st h f e)

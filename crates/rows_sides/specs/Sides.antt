@@ -5,12 +5,16 @@ use lib.Dec.{eqb}
 use Rattle.complex.specs.Lists.{total}
 use Rattle.complex.specs.Cells.{Halfedge, Cycle, stepsOf}
 
+-- what a step counts for edge e: back if it is backward, forth if not, and nothing if it is of another edge
+abbrev pub sideUse : ℕ → ℕ → ℕ → Halfedge → ℕ
+sideUse back forth e h = cond (eqb e (h .edge)) (cond (h .backward) back forth) 0
+
 -- whether a step is of edge e, forward or backward
 abbrev pub forwardUse : ℕ → Halfedge → ℕ
-forwardUse e h = cond (eqb e (h .edge)) (cond (h .backward) 0 1) 0
+forwardUse e h = sideUse 0 1 e h
 
 abbrev pub backwardUse : ℕ → Halfedge → ℕ
-backwardUse e h = cond (eqb e (h .edge)) (cond (h .backward) 1 0) 0
+backwardUse e h = sideUse 1 0 e h
 
 -- how many such steps a cycle has
 abbrev pub forwardIn : ℕ → Cycle → ℕ

@@ -4,7 +4,7 @@ ghost use lib.ListN.{take, length};
 ghost use mathlib.Core.List.{map};
 ghost use Rattle.complex.specs.Lists.{total};
 ghost use Rattle.store.specs.View.{halfedgeOf, width, widthSum, cycleOf, cyclesFrom};
-ghost use Rattle.rows_sides.specs.Sides.{forwardUse, backwardUse, forwardIn, backwardIn};
+ghost use Rattle.rows_sides.specs.Sides.{sideUse, forwardUse, backwardUse, forwardIn, backwardIn};
 
 // How many steps of an edge there are in each direction.
 pub struct Sides {
@@ -12,30 +12,17 @@ pub struct Sides {
     pub backward: usize,
 }
 
-fn forward_use(e: u32, s: u32) -> usize
-    ensures { λ r. ⌜ r ≡ forwardUse e (halfedgeOf s) ⌝ }
-    ensures { λ r. ⌜ r ≤ 1 ⌝ }
+// What a step s counts for edge e: back if it is backward, forth if not, and nothing if it is of another edge.
+fn side_use(e: u32, s: u32, back: usize, forth: usize) -> usize
+    ensures { λ r. ⌜ r ≡ sideUse back forth e (halfedgeOf s) ⌝ }
 {
     if e != s / 2 {
         return 0;
     }
     if s % 2 == 1 {
-        return 0;
+        return back;
     }
-    1
-}
-
-fn backward_use(e: u32, s: u32) -> usize
-    ensures { λ r. ⌜ r ≡ backwardUse e (halfedgeOf s) ⌝ }
-    ensures { λ r. ⌜ r ≤ 1 ⌝ }
-{
-    if e != s / 2 {
-        return 0;
-    }
-    if s % 2 == 1 {
-        return 1;
-    }
-    0
+    forth
 }
 
 // The steps of edge e among the first n.
@@ -49,8 +36,8 @@ fn run_sides(l: &[u32], n: usize, e: u32) -> Sides
     let mut j: usize = 0;
     while j < n {
         let s = l[j];
-        forward = forward + forward_use(e, s);
-        backward = backward + backward_use(e, s);
+        forward = forward + side_use(e, s, 0, 1);
+        backward = backward + side_use(e, s, 1, 0);
         j = j + 1;
     }
     Sides { forward, backward }

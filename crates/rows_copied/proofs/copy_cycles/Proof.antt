@@ -1,14 +1,14 @@
 -- `copy_cycles` meets its contract. Assumes nothing.
 use borrow.Author.Needs.{needs}
-use lib.ListN.{take, drop, length-drop, length, getD}
+use lib.ListN.{length, take, drop, getD}
 use mathlib.Core.List.{List}
-use Rattle.store.specs.View.{cycleOf}
+use Rattle.store.specs.View.{width, cycleOf}
 use Rattle.rows_uses.specs.Uses.{usesIn}
 use Rattle.rows_copied.specs.Copying.{Changed, copied}
 use mathlib.Core.Path.{subst, _≡_, refl, ap, _∙_}
-use Rattle.rows_sides.proofs.Passing.{part-is, from-within}
+use Rattle.rows_sides.proofs.Passing.{part-is, part-room, from-within}
 use Rattle.rows_copied.proofs.Passing.{part-put, Passing, passing-start, passing-turn}
-use Prim.Native.Nat.{ℕ, _≤_, _<_, _-_}
+use Prim.Native.Nat.{ℕ, _+_, _≤_, _<_, _-_}
 use native.Mathlib.Omega.{arith}
 use Rattle.store.proofs.Lists.{places-one}
 use Rattle.rows_uses.proofs.Runs.{uses-few}
@@ -25,6 +25,19 @@ abbrev μ-loop : tie.MeasureT-loop
 loop-holds : tie.Need-loop-holds Inv-loop μ-loop
 loop-holds c = (omega arith, passing-start _ _ _ _ _)
 
+abbrev start : tie.In-loop Inv-loop μ-loop → tie.Start Inv-loop μ-loop
+start q = q .before .before .before .before
+
+-- the number of the next cycle
+abbrev next : tie.In-loop Inv-loop μ-loop → ℕ
+next q = getD (start q .args .cycles .now) (q .before .loop .j) 0
+
+-- its steps are there
+room : (q : tie.In-loop Inv-loop μ-loop) → q .before .loop .from + width (next q) ≤ length (q .before .loop .steps)
+room q =
+    let l = q .before .loop in
+    omega (arith, from-within (start q .args .cycles .now) (l .j) (start q .args .n) (l .from) (next q) (start q .pre .0) (omega arith) (l .inv .1 .from-is) refl, start q .pre .1 .0, l .inv .1 .size)
+
 mul-c : tie.Need-mul-c Inv-loop μ-loop
 mul-c c = search needs
 
@@ -32,124 +45,64 @@ shared-slice-read-c : tie.Need-shared-slice-read-c Inv-loop μ-loop
 shared-slice-read-c c = search needs
 
 mul-cycle-uses : tie.Need-mul-cycle-uses Inv-loop μ-loop
-mul-cycle-uses c =
-    let at = c .before .before in
-    let st = at .before .before .before in
-    let a = st .args in
-    let l = at .loop in
-    let w = from-within (a .cycles .now) (l .j) (a .n) (l .from) (getD (a .cycles .now) (l .j) 0) (st .pre .0) (omega arith) (l .inv .1 .from-is) refl in
-    let room = st .pre .1 .0 in
-    let z = l .inv .1 .size in
-    record { fits = omega (arith, w, room, z) }
+mul-cycle-uses c = record { fits = omega (arith, room (c .before)) }
 
 sub-cycle-uses : tie.Need-sub-cycle-uses Inv-loop μ-loop
-sub-cycle-uses c =
-    let at = c .before .before in
-    let st = at .before .before .before in
-    let a = st .args in
-    let l = at .loop in
-    let w = from-within (a .cycles .now) (l .j) (a .n) (l .from) (getD (a .cycles .now) (l .j) 0) (st .pre .0) (omega arith) (l .inv .1 .from-is) refl in
-    let room = st .pre .1 .0 in
-    let z = l .inv .1 .size in
-    omega (arith, w, room, z)
+sub-cycle-uses c = omega (arith, room (c .before))
 
 part-cycle-uses-start : tie.Need-part-cycle-uses-start Inv-loop μ-loop
-part-cycle-uses-start c =
-    let at = c .before .before .before in
-    let st = at .before .before .before in
-    let a = st .args in
-    let l = at .loop in
-    let w = from-within (a .cycles .now) (l .j) (a .n) (l .from) (getD (a .cycles .now) (l .j) 0) (st .pre .0) (omega arith) (l .inv .1 .from-is) refl in
-    let room = st .pre .1 .0 in
-    let z = l .inv .1 .size in
-    omega (arith, w, room, z)
+part-cycle-uses-start c = omega (arith, room (c .before .before))
 
 part-cycle-uses-end : tie.Need-part-cycle-uses-end Inv-loop μ-loop
 part-cycle-uses-end c = search needs
 
 cycle-uses-requires : tie.Need-cycle-uses-requires Inv-loop μ-loop
-cycle-uses-requires c κs =
-    let at = c .before .before .before .before in
-    let st = at .before .before .before in
-    let a = st .args in
-    let l = at .loop in
-    let w = from-within (a .cycles .now) (l .j) (a .n) (l .from) (getD (a .cycles .now) (l .j) 0) (st .pre .0) (omega arith) (l .inv .1 .from-is) refl in
-    let room = st .pre .1 .0 in
-    let z = l .inv .1 .size in
-    rw (part-is (l .from) (l .steps)) (omega (arith, w, room, z, length-drop (l .from) (l .steps)))
+cycle-uses-requires c κs = let q = c .before .before .before in part-room _ _ (q .before .loop .steps) (room q)
+
+abbrev counted : tie.After-cycle-uses Inv-loop μ-loop → tie.In-loop Inv-loop μ-loop
+counted c = c .before .before .before .before
+
+-- it uses the cell at most once with each place
+few : (c : tie.After-cycle-uses Inv-loop μ-loop) → c .cycle-uses .result ≤ width (next (counted c))
+few c =
+    let q = counted c in
+    let l = take (length (q .before .loop .steps) - q .before .loop .from) (drop (q .before .loop .from) (q .before .loop .steps)) in
+    omega (arith, c .cycle-uses .ensures, uses-few (start q .args .u) (start q .args .i) (next q) l)
 
 mul-copy-cycle : tie.Need-mul-copy-cycle Inv-loop μ-loop
-mul-copy-cycle c =
-    let at = c .before .before .before .before .before in
-    let st = at .before .before .before in
-    let a = st .args in
-    let l = at .loop in
-    let w = from-within (a .cycles .now) (l .j) (a .n) (l .from) (getD (a .cycles .now) (l .j) 0) (st .pre .0) (omega arith) (l .inv .1 .from-is) refl in
-    let room = st .pre .1 .0 in
-    let z = l .inv .1 .size in
-    record { fits = omega (arith, w, room, z) }
+mul-copy-cycle c = record { fits = omega (arith, room (counted c)) }
 
 sub-copy-cycle : tie.Need-sub-copy-cycle Inv-loop μ-loop
-sub-copy-cycle c =
-    let at = c .before .before .before .before .before in
-    let st = at .before .before .before in
-    let a = st .args in
-    let l = at .loop in
-    let w = from-within (a .cycles .now) (l .j) (a .n) (l .from) (getD (a .cycles .now) (l .j) 0) (st .pre .0) (omega arith) (l .inv .1 .from-is) refl in
-    let room = st .pre .1 .0 in
-    let z = l .inv .1 .size in
-    omega (arith, w, room, z)
+sub-copy-cycle c = omega (arith, room (counted c))
 
 part-copy-cycle-start : tie.Need-part-copy-cycle-start Inv-loop μ-loop
-part-copy-cycle-start c =
-    let at = c .before .before .before .before .before in
-    let st = at .before .before .before in
-    let a = st .args in
-    let l = at .loop in
-    let w = from-within (a .cycles .now) (l .j) (a .n) (l .from) (getD (a .cycles .now) (l .j) 0) (st .pre .0) (omega arith) (l .inv .1 .from-is) refl in
-    let room = st .pre .1 .0 in
-    let z = l .inv .1 .size in
-    omega (arith, w, room, z)
+part-copy-cycle-start c = omega (arith, room (counted c))
 
 part-copy-cycle-end : tie.Need-part-copy-cycle-end Inv-loop μ-loop
 part-copy-cycle-end c = search needs
 
 copy-cycle-requires : tie.Need-copy-cycle-requires Inv-loop μ-loop
 copy-cycle-requires c κs =
-    let at = c .before .before .before .before .before .before in
-    let st = at .before .before .before in
-    let a = st .args in
-    let l = at .loop in
-    let w = from-within (a .cycles .now) (l .j) (a .n) (l .from) (getD (a .cycles .now) (l .j) 0) (st .pre .0) (omega arith) (l .inv .1 .from-is) refl in
-    let room = st .pre .1 .0 in
-    let z = l .inv .1 .size in
-    (rw (part-is (l .from) (l .steps)) (omega (arith, w, room, z, length-drop (l .from) (l .steps))), (st .pre .1 .1 .0, omega (arith, w, room, st .pre .1 .1 .1, l .inv .1 .few)))
+    let q = counted (c .before) in
+    let p = start q .pre .1 .1 in
+    let i = q .before .loop .inv .1 in
+    (part-room _ _ (q .before .loop .steps) (room q), (p .0, omega (arith, room q, p .1, i .few, i .size)))
 
 add-k : tie.Need-add-k Inv-loop μ-loop
 add-k c =
-    let at = c .before .before .before .before .before .before .before .before .before in
-    let st = at .before .before .before in
-    let a = st .args in
-    let l = at .loop in
-    let w = from-within (a .cycles .now) (l .j) (a .n) (l .from) (getD (a .cycles .now) (l .j) 0) (st .pre .0) (omega arith) (l .inv .1 .from-is) refl in
-    let room = st .pre .1 .0 in
-    let z = l .inv .1 .size in
-    let e = c .before .before .before .before .cycle-uses .ensures in
-    record { fits = omega (arith, w, room, e, st .pre .1 .1 .1, l .inv .1 .few, uses-few (a .u) (a .i) (getD (a .cycles .now) (l .j) 0) (take (length (l .steps) - l .from) (drop (l .from) (l .steps)))) }
+    let y = c .before .before .before .before in
+    let q = counted y in
+    let i = q .before .loop .inv .1 in
+    record { fits = omega (arith, room q, few y, start q .pre .1 .1 .1, i .few, i .size) }
 
 places-requires : tie.Need-places-requires Inv-loop μ-loop
 places-requires c κs = search needs
 
+abbrev passed : tie.After-places Inv-loop μ-loop → tie.After-cycle-uses Inv-loop μ-loop
+passed c = c .before .before .before .before .before
+
 add-from : tie.Need-add-from Inv-loop μ-loop
-add-from c =
-    let at = c .before .before .before .before .before .before .before .before .before .before in
-    let st = at .before .before .before in
-    let a = st .args in
-    let l = at .loop in
-    let w = from-within (a .cycles .now) (l .j) (a .n) (l .from) (getD (a .cycles .now) (l .j) 0) (st .pre .0) (omega arith) (l .inv .1 .from-is) refl in
-    let room = st .pre .1 .0 in
-    let z = l .inv .1 .size in
-    record { fits = omega (arith, w, room, st .pre .1 .1 .1, c .places .ensures ∙ places-one (getD (a .cycles .now) (l .j) 0)) }
+add-from c = let q = counted (passed c) in record { fits = omega (arith, room q, start q .pre .1 .1 .1, c .places .ensures ∙ places-one (next q)) }
 
 add-j : tie.Need-add-j Inv-loop μ-loop
 add-j c = search needs
@@ -159,23 +112,18 @@ loop-less c = search needs
 
 loop-again : tie.Need-loop-again Inv-loop μ-loop
 loop-again c =
-    let at = c .before .before .before .before .before .before .before .before .before .before in
-    let st = at .before .before .before in
-    let a = st .args in
-    let l = at .loop in
-    let h : l .j < a .n = omega arith in
-    let w = from-within (a .cycles .now) (l .j) (a .n) (l .from) (getD (a .cycles .now) (l .j) 0) (st .pre .0) h (l .inv .1 .from-is) refl in
-    let room = st .pre .1 .0 in
-    let z = l .inv .1 .size in
-    let k = getD (a .cycles .now) (l .j) 0 in
-    let p = c .places .ensures ∙ places-one k in
-    let q = part-is (l .from) (l .steps) in
+    let q = counted (passed c) in
+    let a = start q .args in
+    let l = q .before .loop in
+    let h : l .j < length (a .cycles .now) = omega arith in
+    let p = c .places .ensures ∙ places-one (next q) in
+    let o = part-is (l .from) (l .steps) in
     let y = c .before .before .before .copy-cycle in
-    let e = c .before .before .before .before .before .cycle-uses .ensures ∙ ap (λ (x : List ℕ). usesIn (a .u) (a .i) (cycleOf k x)) q in
-    let ch = subst (λ (x : List ℕ). Changed (copied (a .u) (a .i) (a .next) (l .k)) k x (y .last .1 .1 .0)) q (y .ensures) in (
-      omega (arith, h),
-      passing-turn (usesIn (a .u) (a .i)) (copied (a .u) (a .i) (a .next)) (a .k0) (a .cycles .now) (a .steps .now) (l .j) (l .from) (l .k) (l .steps) (l .inv .1) (omega (arith, h, st .pre .0)) k refl
-          (omega (arith, w, room, z)) (y .last .1 .1 .0) _ (part-put (l .from) (l .steps) (y .last .1 .1 .0)) ch _ _ e p (omega (arith, e, uses-few (a .u) (a .i) k (drop (l .from) (l .steps)))),
+    let e = passed c .cycle-uses .ensures ∙ ap (λ (x : List ℕ). usesIn (a .u) (a .i) (cycleOf (next q) x)) o in
+    let ch = subst (λ (x : List ℕ). Changed (copied (a .u) (a .i) (a .next) (l .k)) (next q) x (y .last .1 .1 .0)) o (y .ensures) in (
+      omega arith,
+      passing-turn _ _ _ _ _ (l .j) (l .from) (l .k) (l .steps) (l .inv .1) h (next q) refl (room q) (y .last .1 .1 .0) _
+          (part-put (l .from) (l .steps) (y .last .1 .1 .0)) ch _ _ e p (few (passed c)),
     )
 
 same-length : tie.Need-same-length Inv-loop μ-loop

@@ -1,24 +1,20 @@
 -- `edges_at` meets its contract. Assumes nothing.
 use borrow.Author.Needs.{needs}
-use Prim.Native.Nat.{_≤_, _-_, _+_}
-use mathlib.Core.Path.{_≡_, ap, sym, _∙_}
-use mathlib.Core.Bool.{Bool}
-use mathlib.Core.List.{[], _∷_, _++_}
+use Prim.Native.Nat.{_≤_, _-_}
+use mathlib.Core.Path.{_≡_, refl}
 use native.Mathlib.Omega.{arith}
-use lib.ListN.{length, take, length-set}
-use Rattle.rows_marks.specs.Marks.{edgeMarks}
-use Rattle.rows_marks.proofs.Marking.{front-more, edge-more}
+use Rattle.rows_marks.proofs.Marking.{EdgesMarked, edges-turn}
 use Rattle.rows_marks.proofs.edges_at.Statement.{statement}
 use Rattle.rows_marks.proofs.edges_at.Tie as tie
 
 abbrev Inv-loop : tie.InvT-loop
-Inv-loop kinds starts ends n id marks₀ i₀ marks i = (i ≤ n) × (length marks ≡ 256) × (take i marks ≡ edgeMarks id (take i kinds) (take i starts) (take i ends))
+Inv-loop kinds starts ends n id marks₀ i₀ marks i = (i ≤ n) × EdgesMarked id kinds starts ends i marks
 
 abbrev μ-loop : tie.MeasureT-loop
 μ-loop kinds starts ends n id marks₀ i₀ marks i = n - i
 
 loop-holds : tie.Need-loop-holds Inv-loop μ-loop
-loop-holds c = search needs
+loop-holds c = (omega arith, record { size = c .pre .1 .1 .1 .1; told = refl })
 
 mul-ends-at : tie.Need-mul-ends-at Inv-loop μ-loop
 mul-ends-at c = search needs
@@ -53,20 +49,13 @@ loop-less c = search needs
 loop-again : tie.Need-loop-again Inv-loop μ-loop
 loop-again c =
     let at = c .before .before .before .before .before in
-    let a = at .before .args in
-    let i = at .loop .i in (
-      omega arith,
-      length-set (at .loop .marks) i _ ∙ at .loop .inv .1,
-      front-more (at .loop .marks) i _ _ _ (omega arith) (at .loop .inv .2)
-          (edge-more (a .id) i (a .kinds .now) (a .starts .now) (a .ends .now) (omega arith) (omega arith) (omega arith)
-          ∙ ap (λ (b : Bool). edgeMarks (a .id) (take i (a .kinds .now)) (take i (a .starts .now)) (take i (a .ends .now)) ++ (b ∷ [])) (sym (c .ends-at .ensures))),
-    )
+    (omega arith, edges-turn (at .loop .inv .1) (omega arith) (omega arith) (omega arith) (omega arith) _ (c .ends-at .ensures))
 
 returns : tie.Need-returns Inv-loop μ-loop
 returns c =
-    let at = c .before in
-    let e : at .loop .i ≡ at .before .args .n = omega arith in
-    (rw e at (at .loop .inv .2), at .loop .inv .1)
+    let v = c .before .loop .inv .1 in
+    let e : c .before .loop .i ≡ c .before .before .args .n = omega arith in
+    (rw e at (v .told), v .size)
 
 pub edges-at-spec : {M : Type 1} → statement M
 edges-at-spec =

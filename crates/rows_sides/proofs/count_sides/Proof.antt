@@ -1,16 +1,15 @@
 -- `count_sides` meets its contract. Assumes nothing.
 use borrow.Author.Needs.{needs}
 use Prim.Native.Nat.{ℕ, _≤_, _<_, _-_, _+_}
-use mathlib.Core.Path.{_≡_, refl, ap, _∙_}
-use mathlib.Core.List.{List}
+use mathlib.Core.Path.{_≡_, refl, _∙_}
 use native.Mathlib.Omega.{arith}
-use lib.ListN.{length, take, drop, getD, length-drop}
+use lib.ListN.{length, take, drop, getD}
 use Rattle.complex.specs.Lists.{total}
-use Rattle.store.specs.View.{widthSum, cycleOf, cyclesFrom}
+use Rattle.store.specs.View.{width, widthSum, cyclesFrom}
 use Rattle.store.proofs.Lists.{places-one}
 use Rattle.rows_sides.specs.Sides.{forwardUse, backwardUse, forwardIn, backwardIn}
 use Rattle.rows_sides.proofs.Counting.{cycle-few, forward-one, backward-one}
-use Rattle.rows_sides.proofs.Passing.{part-is, total-more, from-more, from-within}
+use Rattle.rows_sides.proofs.Passing.{part-room, sum-next, from-next, from-within}
 use Rattle.rows_sides.proofs.count_sides.Statement.{statement}
 use Rattle.rows_sides.proofs.count_sides.Tie as tie
 
@@ -26,6 +25,19 @@ abbrev μ-loop : tie.MeasureT-loop
 loop-holds : tie.Need-loop-holds Inv-loop μ-loop
 loop-holds c = (omega arith, refl, refl, refl, omega arith, omega arith)
 
+abbrev start : tie.In-loop Inv-loop μ-loop → tie.Start Inv-loop μ-loop
+start q = q .before .before .before .before
+
+-- the number of the next cycle
+abbrev next : tie.In-loop Inv-loop μ-loop → ℕ
+next q = getD (start q .args .cycles .now) (q .before .loop .j) 0
+
+-- its steps are there
+room : (q : tie.In-loop Inv-loop μ-loop) → q .before .loop .from + width (next q) ≤ length (start q .args .steps .now)
+room q =
+    let l = q .before .loop in
+    omega (arith, from-within (start q .args .cycles .now) (l .j) (start q .args .n) (l .from) (next q) (start q .pre .0) (omega arith) (l .inv .1) refl, start q .pre .1)
+
 mul-c : tie.Need-mul-c Inv-loop μ-loop
 mul-c c = search needs
 
@@ -33,98 +45,45 @@ shared-slice-read-c : tie.Need-shared-slice-read-c Inv-loop μ-loop
 shared-slice-read-c c = search needs
 
 mul-path-sides : tie.Need-mul-path-sides Inv-loop μ-loop
-mul-path-sides c =
-    let at = c .before .before in
-    let st = at .before .before .before in
-    let a = st .args in
-    let l = at .loop in
-    let room = st .pre .1 in
-    let w = from-within (a .cycles .now) (l .j) (a .n) (l .from) (getD (a .cycles .now) (l .j) 0) (st .pre .0) (omega arith) (l .inv .1) refl in
-    record { fits = omega (arith, w, room, c .shared-slice-known3 .given 0) }
+mul-path-sides c = record { fits = omega (arith, room (c .before), c .shared-slice-known3 .given 0) }
 
 sub-path-sides : tie.Need-sub-path-sides Inv-loop μ-loop
-sub-path-sides c =
-    let at = c .before .before in
-    let st = at .before .before .before in
-    let a = st .args in
-    let l = at .loop in
-    let room = st .pre .1 in
-    let w = from-within (a .cycles .now) (l .j) (a .n) (l .from) (getD (a .cycles .now) (l .j) 0) (st .pre .0) (omega arith) (l .inv .1) refl in
-    omega (arith, w, room)
+sub-path-sides c = omega (arith, room (c .before))
 
 part-path-sides-start : tie.Need-part-path-sides-start Inv-loop μ-loop
-part-path-sides-start c =
-    let at = c .before .before in
-    let st = at .before .before .before in
-    let a = st .args in
-    let l = at .loop in
-    let room = st .pre .1 in
-    let w = from-within (a .cycles .now) (l .j) (a .n) (l .from) (getD (a .cycles .now) (l .j) 0) (st .pre .0) (omega arith) (l .inv .1) refl in
-    omega (arith, w, room)
+part-path-sides-start c = omega (arith, room (c .before))
 
 part-path-sides-end : tie.Need-part-path-sides-end Inv-loop μ-loop
 part-path-sides-end c = search needs
 
 path-sides-requires : tie.Need-path-sides-requires Inv-loop μ-loop
-path-sides-requires c κs =
-    let at = c .before .before .before in
-    let st = at .before .before .before in
-    let a = st .args in
-    let l = at .loop in
-    let room = st .pre .1 in
-    let w = from-within (a .cycles .now) (l .j) (a .n) (l .from) (getD (a .cycles .now) (l .j) 0) (st .pre .0) (omega arith) (l .inv .1) refl in
-    rw (part-is (l .from) (a .steps .now)) (omega (arith, w, room, length-drop (l .from) (a .steps .now)))
+path-sides-requires c κs = let q = c .before .before in part-room _ _ (start q .args .steps .now) (room q)
+
+-- it has at most as many steps of the edge, in each direction, as it has steps
+few : (c : tie.After-path-sides Inv-loop μ-loop) → let w = width (next (c .before .before .before)) in
+    (c .path-sides .result .forward ≤ w) × (c .path-sides .result .backward ≤ w)
+few c =
+    let q = c .before .before .before in
+    let a = start q .args in
+    let l = take (length (a .steps .now) - q .before .loop .from) (drop (q .before .loop .from) (a .steps .now)) in (
+      omega (arith, c .path-sides .ensures .0, cycle-few (forwardUse (a .e)) (forward-one (a .e)) (next q) l),
+      omega (arith, c .path-sides .ensures .1, cycle-few (backwardUse (a .e)) (backward-one (a .e)) (next q) l),
+    )
 
 add-forward : tie.Need-add-forward Inv-loop μ-loop
-add-forward c =
-    let at = c .before .before .before .before .before in
-    let st = at .before .before .before in
-    let a = st .args in
-    let l = at .loop in
-    let room = st .pre .1 in
-    let w = from-within (a .cycles .now) (l .j) (a .n) (l .from) (getD (a .cycles .now) (l .j) 0) (st .pre .0) (omega arith) (l .inv .1) refl in
-    let k = getD (a .cycles .now) (l .j) 0 in
-    record {
-      fits = omega (
-        arith,
-        w,
-        room,
-        c .before .path-sides .ensures .0,
-        cycle-few (forwardUse (a .e)) (forward-one (a .e)) k (take (length (a .steps .now) - l .from) (drop (l .from) (a .steps .now))),
-      );
-    }
+add-forward c = record { fits = omega (arith, room (c .before .before .before .before), few (c .before) .0) }
 
 add-backward : tie.Need-add-backward Inv-loop μ-loop
-add-backward c =
-    let at = c .before .before .before .before .before .before in
-    let st = at .before .before .before in
-    let a = st .args in
-    let l = at .loop in
-    let room = st .pre .1 in
-    let w = from-within (a .cycles .now) (l .j) (a .n) (l .from) (getD (a .cycles .now) (l .j) 0) (st .pre .0) (omega arith) (l .inv .1) refl in
-    let k = getD (a .cycles .now) (l .j) 0 in
-    record {
-      fits = omega (
-        arith,
-        w,
-        room,
-        c .before .before .path-sides .ensures .1,
-        cycle-few (backwardUse (a .e)) (backward-one (a .e)) k (take (length (a .steps .now) - l .from) (drop (l .from) (a .steps .now))),
-      );
-    }
+add-backward c = record { fits = omega (arith, room (c .before .before .before .before .before), few (c .before .before) .1) }
 
 places-requires : tie.Need-places-requires Inv-loop μ-loop
 places-requires c κs = search needs
 
+abbrev passed : tie.After-places Inv-loop μ-loop → tie.After-path-sides Inv-loop μ-loop
+passed c = c .before .before .before
+
 add-from : tie.Need-add-from Inv-loop μ-loop
-add-from c =
-    let at = c .before .before .before .before .before .before .before in
-    let st = at .before .before .before in
-    let a = st .args in
-    let l = at .loop in
-    let room = st .pre .1 in
-    let w = from-within (a .cycles .now) (l .j) (a .n) (l .from) (getD (a .cycles .now) (l .j) 0) (st .pre .0) (omega arith) (l .inv .1) refl in
-    record { fits = omega (arith, w, room, c .places .ensures ∙ places-one (getD (a .cycles .now) (l .j) 0)) }
+add-from c = let q = passed c .before .before .before in record { fits = omega (arith, room q, c .places .ensures ∙ places-one (next q)) }
 
 add-j : tie.Need-add-j Inv-loop μ-loop
 add-j c = search needs
@@ -134,23 +93,18 @@ loop-less c = search needs
 
 loop-again : tie.Need-loop-again Inv-loop μ-loop
 loop-again c =
-    let at = c .before .before .before .before .before .before .before in
-    let st = at .before .before .before in
-    let a = st .args in
-    let l = at .loop in
-    let room = st .pre .1 in
-    let w = from-within (a .cycles .now) (l .j) (a .n) (l .from) (getD (a .cycles .now) (l .j) 0) (st .pre .0) (omega arith) (l .inv .1) refl in
-    let k = getD (a .cycles .now) (l .j) 0 in
-    let h : l .j < length (a .cycles .now) = omega arith in
-    let p = c .places .ensures ∙ places-one k in
-    let f = c .before .before .before .path-sides .ensures .0 ∙ ap (λ (q : List ℕ). forwardIn (a .e) (cycleOf k q)) (part-is (l .from) (a .steps .now)) in
-    let g = c .before .before .before .path-sides .ensures .1 ∙ ap (λ (q : List ℕ). backwardIn (a .e) (cycleOf k q)) (part-is (l .from) (a .steps .now)) in (
+    let q = passed c .before .before .before in
+    let i = q .before .loop .inv in
+    let h : q .before .loop .j < length (start q .args .cycles .now) = omega arith in
+    let p = c .places .ensures ∙ places-one (next q) in
+    let x = passed c .path-sides .ensures in
+    let f = few (passed c) in (
       omega arith,
-      ap (λ (x : ℕ). l .from + x) p ∙ from-more (a .cycles .now) (l .j) (l .from) k h (l .inv .1) refl,
-      omega (arith, f, l .inv .2, total-more (forwardIn (a .e)) (a .cycles .now) (l .j) (l .from) k (a .steps .now) h (l .inv .1) refl),
-      omega (arith, g, l .inv .3, total-more (backwardIn (a .e)) (a .cycles .now) (l .j) (l .from) k (a .steps .now) h (l .inv .1) refl),
-      omega (arith, f, p, l .inv .4, cycle-few (forwardUse (a .e)) (forward-one (a .e)) k (drop (l .from) (a .steps .now))),
-      omega (arith, g, p, l .inv .5, cycle-few (backwardUse (a .e)) (backward-one (a .e)) k (drop (l .from) (a .steps .now))),
+      from-next _ _ _ (next q) _ h (i .1) refl p,
+      sum-next (forwardIn (start q .args .e)) _ _ _ (next q) _ _ _ h (i .1) refl (i .2) (x .0),
+      sum-next (backwardIn (start q .args .e)) _ _ _ (next q) _ _ _ h (i .1) refl (i .3) (x .1),
+      omega (arith, f .0, p, i .4),
+      omega (arith, f .1, p, i .5),
     )
 
 returns : tie.Need-returns Inv-loop μ-loop

@@ -3,12 +3,12 @@ use borrow.Author.Needs.{needs}
 use Prim.Native.Nat.{ℕ, _≤_, _-_}
 use mathlib.Core.Path.{_≡_, refl, _∙_}
 use native.Mathlib.Omega.{arith}
-use lib.ListN.{take}
+use lib.ListN.{take, getD}
 use Rattle.complex.specs.Lists.{total}
 use Rattle.store.specs.View.{halfedgeOf}
 use Rattle.store.proofs.Lists.{sum-more}
 use Rattle.rows_sides.specs.Sides.{forwardUse, backwardUse}
-use Rattle.rows_sides.proofs.Counting.{total-map}
+use Rattle.rows_sides.proofs.Counting.{total-map, forward-one, backward-one}
 use Rattle.rows_sides.proofs.run_sides.Statement.{statement}
 use Rattle.rows_sides.proofs.run_sides.Tie as tie
 
@@ -29,17 +29,23 @@ mul-s c = search needs
 shared-slice-read-s : tie.Need-shared-slice-read-s Inv-loop μ-loop
 shared-slice-read-s c = search needs
 
-forward-use-requires : tie.Need-forward-use-requires Inv-loop μ-loop
-forward-use-requires c κs = search needs
+side-use-requires : tie.Need-side-use-requires Inv-loop μ-loop
+side-use-requires c κs = search needs
 
 add-forward : tie.Need-add-forward Inv-loop μ-loop
-add-forward c = search needs
+add-forward c =
+    let at = c .before .before .before in
+    let a = at .before .before .args in
+    record { fits = omega (arith, c .side-use .ensures, forward-one (a .e) (halfedgeOf (getD (a .l .now) (at .loop .j) 0)), at .loop .inv .3) }
 
-backward-use-requires : tie.Need-backward-use-requires Inv-loop μ-loop
-backward-use-requires c κs = search needs
+side-use-requires-2 : tie.Need-side-use-requires-2 Inv-loop μ-loop
+side-use-requires-2 c κs = search needs
 
 add-backward : tie.Need-add-backward Inv-loop μ-loop
-add-backward c = search needs
+add-backward c =
+    let at = c .before .before .before .before in
+    let a = at .before .before .args in
+    record { fits = omega (arith, c .side-use2 .ensures, backward-one (a .e) (halfedgeOf (getD (a .l .now) (at .loop .j) 0)), at .loop .inv .4) }
 
 add-j : tie.Need-add-j Inv-loop μ-loop
 add-j c = search needs
@@ -53,13 +59,14 @@ loop-again c =
     let a = at .before .before .args in
     let f = sum-more (λ (s : ℕ). forwardUse (a .e) (halfedgeOf s)) (a .l .now) (at .loop .j) 0 (omega arith) in
     let b = sum-more (λ (s : ℕ). backwardUse (a .e) (halfedgeOf s)) (a .l .now) (at .loop .j) 0 (omega arith) in
-    let u = c .before .forward-use .ensures in
-    let v = c .backward-use .ensures in (
+    let h = halfedgeOf (getD (a .l .now) (at .loop .j) 0) in
+    let u = c .before .side-use .ensures in
+    let v = c .side-use2 .ensures in (
       omega arith,
-      omega (arith, f, u .0, at .loop .inv .1),
-      omega (arith, b, v .0, at .loop .inv .2),
-      omega (arith, u .1, at .loop .inv .3),
-      omega (arith, v .1, at .loop .inv .4),
+      omega (arith, f, u, at .loop .inv .1),
+      omega (arith, b, v, at .loop .inv .2),
+      omega (arith, u, forward-one (a .e) h, at .loop .inv .3),
+      omega (arith, v, backward-one (a .e) h, at .loop .inv .4),
     )
 
 returns : tie.Need-returns Inv-loop μ-loop
@@ -80,9 +87,9 @@ run-sides-spec =
     loop-holds
     mul-s
     shared-slice-read-s
-    forward-use-requires
+    side-use-requires
     add-forward
-    backward-use-requires
+    side-use-requires-2
     add-backward
     add-j
     loop-less

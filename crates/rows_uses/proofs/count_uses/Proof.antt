@@ -1,11 +1,10 @@
 -- `count_uses` meets its contract. Assumes nothing.
 use borrow.Author.Needs.{needs}
-use lib.ListN.{drop, length-drop, length, take, getD}
-use mathlib.Core.List.{List}
-use Rattle.store.specs.View.{cycleOf, widthSum, cyclesFrom}
-use Rattle.rows_sides.proofs.Passing.{part-is, total-more, from-more, from-within}
+use lib.ListN.{length, take, drop, getD}
+use Rattle.store.specs.View.{width, widthSum, cyclesFrom}
+use Rattle.rows_sides.proofs.Passing.{part-room, sum-next, from-next, from-within}
 use Prim.Native.Nat.{ℕ, _≤_, _<_, _-_, _+_}
-use mathlib.Core.Path.{_≡_, refl, ap, _∙_}
+use mathlib.Core.Path.{_≡_, refl, _∙_}
 use native.Mathlib.Omega.{arith}
 use Rattle.complex.specs.Lists.{total}
 use Rattle.rows_uses.specs.Uses.{usesIn}
@@ -24,6 +23,19 @@ abbrev μ-loop : tie.MeasureT-loop
 loop-holds : tie.Need-loop-holds Inv-loop μ-loop
 loop-holds c = (omega arith, refl, refl, omega arith)
 
+abbrev start : tie.In-loop Inv-loop μ-loop → tie.Start Inv-loop μ-loop
+start q = q .before .before .before .before
+
+-- the number of the next cycle
+abbrev next : tie.In-loop Inv-loop μ-loop → ℕ
+next q = getD (start q .args .cycles .now) (q .before .loop .j) 0
+
+-- its steps are there
+room : (q : tie.In-loop Inv-loop μ-loop) → q .before .loop .from + width (next q) ≤ length (start q .args .steps .now)
+room q =
+    let l = q .before .loop in
+    omega (arith, from-within (start q .args .cycles .now) (l .j) (start q .args .n) (l .from) (next q) (start q .pre .0) (omega arith) (l .inv .1) refl, start q .pre .1)
+
 mul-c : tie.Need-mul-c Inv-loop μ-loop
 mul-c c = search needs
 
@@ -31,71 +43,39 @@ shared-slice-read-c : tie.Need-shared-slice-read-c Inv-loop μ-loop
 shared-slice-read-c c = search needs
 
 mul-cycle-uses : tie.Need-mul-cycle-uses Inv-loop μ-loop
-mul-cycle-uses c =
-    let at = c .before .before in
-    let st = at .before .before .before in
-    let a = st .args in
-    let l = at .loop in
-    let w = from-within (a .cycles .now) (l .j) (a .n) (l .from) (getD (a .cycles .now) (l .j) 0) (st .pre .0) (omega arith) (l .inv .1) refl in
-    let room = st .pre .1 in
-    record { fits = omega (arith, w, room, c .shared-slice-known3 .given 0) }
+mul-cycle-uses c = record { fits = omega (arith, room (c .before), c .shared-slice-known3 .given 0) }
 
 sub-cycle-uses : tie.Need-sub-cycle-uses Inv-loop μ-loop
-sub-cycle-uses c =
-    let at = c .before .before in
-    let st = at .before .before .before in
-    let a = st .args in
-    let l = at .loop in
-    let w = from-within (a .cycles .now) (l .j) (a .n) (l .from) (getD (a .cycles .now) (l .j) 0) (st .pre .0) (omega arith) (l .inv .1) refl in
-    let room = st .pre .1 in
-    omega (arith, w, room)
+sub-cycle-uses c = omega (arith, room (c .before))
 
 part-cycle-uses-start : tie.Need-part-cycle-uses-start Inv-loop μ-loop
-part-cycle-uses-start c =
-    let at = c .before .before in
-    let st = at .before .before .before in
-    let a = st .args in
-    let l = at .loop in
-    let w = from-within (a .cycles .now) (l .j) (a .n) (l .from) (getD (a .cycles .now) (l .j) 0) (st .pre .0) (omega arith) (l .inv .1) refl in
-    let room = st .pre .1 in
-    omega (arith, w, room)
+part-cycle-uses-start c = omega (arith, room (c .before))
 
 part-cycle-uses-end : tie.Need-part-cycle-uses-end Inv-loop μ-loop
 part-cycle-uses-end c = search needs
 
 cycle-uses-requires : tie.Need-cycle-uses-requires Inv-loop μ-loop
-cycle-uses-requires c κs =
-    let at = c .before .before .before in
-    let st = at .before .before .before in
-    let a = st .args in
-    let l = at .loop in
-    let w = from-within (a .cycles .now) (l .j) (a .n) (l .from) (getD (a .cycles .now) (l .j) 0) (st .pre .0) (omega arith) (l .inv .1) refl in
-    let room = st .pre .1 in
-    rw (part-is (l .from) (a .steps .now)) (omega (arith, w, room, length-drop (l .from) (a .steps .now)))
+cycle-uses-requires c κs = let q = c .before .before in part-room _ _ (start q .args .steps .now) (room q)
+
+-- it uses the cell at most once with each place
+few : (c : tie.After-cycle-uses Inv-loop μ-loop) → c .cycle-uses .result ≤ width (next (c .before .before .before))
+few c =
+    let q = c .before .before .before in
+    let a = start q .args in
+    let l = take (length (a .steps .now) - q .before .loop .from) (drop (q .before .loop .from) (a .steps .now)) in
+    omega (arith, c .cycle-uses .ensures, uses-few (a .u) (a .i) (next q) l)
 
 add-sum : tie.Need-add-sum Inv-loop μ-loop
-add-sum c =
-    let at = c .before .before .before .before in
-    let st = at .before .before .before in
-    let a = st .args in
-    let l = at .loop in
-    let w = from-within (a .cycles .now) (l .j) (a .n) (l .from) (getD (a .cycles .now) (l .j) 0) (st .pre .0) (omega arith) (l .inv .1) refl in
-    let room = st .pre .1 in
-    let e = c .cycle-uses .ensures in
-    record { fits = omega (arith, w, room, e, uses-few (a .u) (a .i) (getD (a .cycles .now) (l .j) 0) (take (length (a .steps .now) - l .from) (drop (l .from) (a .steps .now)))) }
+add-sum c = record { fits = omega (arith, room (c .before .before .before), few c) }
 
 places-requires : tie.Need-places-requires Inv-loop μ-loop
 places-requires c κs = search needs
 
+abbrev passed : tie.After-places Inv-loop μ-loop → tie.In-loop Inv-loop μ-loop
+passed c = c .before .before .before .before
+
 add-from : tie.Need-add-from Inv-loop μ-loop
-add-from c =
-    let at = c .before .before .before .before .before in
-    let st = at .before .before .before in
-    let a = st .args in
-    let l = at .loop in
-    let w = from-within (a .cycles .now) (l .j) (a .n) (l .from) (getD (a .cycles .now) (l .j) 0) (st .pre .0) (omega arith) (l .inv .1) refl in
-    let room = st .pre .1 in
-    record { fits = omega (arith, w, room, c .places .ensures ∙ places-one (getD (a .cycles .now) (l .j) 0)) }
+add-from c = record { fits = omega (arith, room (passed c), c .places .ensures ∙ places-one (next (passed c))) }
 
 add-j : tie.Need-add-j Inv-loop μ-loop
 add-j c = search needs
@@ -105,20 +85,14 @@ loop-less c = search needs
 
 loop-again : tie.Need-loop-again Inv-loop μ-loop
 loop-again c =
-    let at = c .before .before .before .before .before in
-    let st = at .before .before .before in
-    let a = st .args in
-    let l = at .loop in
-    let w = from-within (a .cycles .now) (l .j) (a .n) (l .from) (getD (a .cycles .now) (l .j) 0) (st .pre .0) (omega arith) (l .inv .1) refl in
-    let room = st .pre .1 in
-    let k = getD (a .cycles .now) (l .j) 0 in
-    let h : l .j < length (a .cycles .now) = omega arith in
-    let p = c .places .ensures ∙ places-one k in
-    let e = c .before .cycle-uses .ensures ∙ ap (λ (q : List ℕ). usesIn (a .u) (a .i) (cycleOf k q)) (part-is (l .from) (a .steps .now)) in (
+    let q = passed c in
+    let i = q .before .loop .inv in
+    let h : q .before .loop .j < length (start q .args .cycles .now) = omega arith in
+    let p = c .places .ensures ∙ places-one (next q) in (
       omega arith,
-      ap (λ (x : ℕ). l .from + x) p ∙ from-more (a .cycles .now) (l .j) (l .from) k h (l .inv .1) refl,
-      omega (arith, e, l .inv .2, total-more (usesIn (a .u) (a .i)) (a .cycles .now) (l .j) (l .from) k (a .steps .now) h (l .inv .1) refl),
-      omega (arith, e, p, uses-few (a .u) (a .i) k (drop (l .from) (a .steps .now))),
+      from-next _ _ _ (next q) _ h (i .1) refl p,
+      sum-next (usesIn (start q .args .u) (start q .args .i)) _ _ _ (next q) _ _ _ h (i .1) refl (i .2) (c .before .cycle-uses .ensures),
+      omega (arith, few (c .before), p, i .3),
     )
 
 returns : tie.Need-returns Inv-loop μ-loop
