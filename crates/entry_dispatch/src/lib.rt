@@ -7,7 +7,7 @@ use coordinate::Position;
 use decode_command::Command;
 use lent::Line;
 
-// Questions 3 to 8 and the rules of the command's kind, on sound arrays; its lists lie in the script. Kinds 0A to 0E; those before them go on.
+// Questions 3 to 8 and the rules of the command's kind, on sound arrays; its lists lie in the script.
 pub fn obey(
     next: &mut u32,
     count: &mut usize,
@@ -32,6 +32,203 @@ pub fn obey(
     ensures { λ r. ⌜ Obeyed (entry (now (next .entry)) (now (count .entry)) ids kinds starts ends bends counts px py cycles steps bx by) (commandOf (now (script .entry)) c) (exit (now (next .exit)) (now (count .exit)) ids kinds starts ends bends counts px py cycles steps bx by) r ⌝ }
 {
     match c {
+        Command::Vertex(x, y) => {
+            kind_create::add_vertex(
+                next,
+                count,
+                ids,
+                kinds,
+                starts,
+                ends,
+                bends,
+                counts,
+                px,
+                py,
+                cycles,
+                steps,
+                bx,
+                by,
+                t,
+                Position { x, y },
+            )
+        }
+        Command::Open {
+            start,
+            end,
+            bends: k,
+            first,
+        } => {
+            kind_create::add_open(
+                next,
+                count,
+                ids,
+                kinds,
+                starts,
+                ends,
+                bends,
+                counts,
+                px,
+                py,
+                cycles,
+                steps,
+                bx,
+                by,
+                t,
+                script,
+                start,
+                end,
+                k,
+                first,
+            )
+        }
+        Command::Closed { bends: k, first } => {
+            kind_create::add_closed(
+                next,
+                count,
+                ids,
+                kinds,
+                starts,
+                ends,
+                bends,
+                counts,
+                px,
+                py,
+                cycles,
+                steps,
+                bx,
+                by,
+                t,
+                script,
+                k,
+                first,
+            )
+        }
+        Command::Face { cycles: k, first } => {
+            kind_face::add_face(
+                next,
+                count,
+                ids,
+                kinds,
+                starts,
+                ends,
+                bends,
+                counts,
+                px,
+                py,
+                cycles,
+                steps,
+                bx,
+                by,
+                t,
+                script,
+                k,
+                first,
+            )
+        }
+        Command::Move(vertex, x, y) => {
+            kind_move::move_vertex(
+                *next,
+                *count,
+                ids,
+                kinds,
+                starts,
+                ends,
+                bends,
+                counts,
+                px,
+                py,
+                cycles,
+                steps,
+                bx,
+                by,
+                t,
+                vertex,
+                Position { x, y },
+            )
+        }
+        Command::Delete(cell) => {
+            kind_delete::delete_cell(
+                *next,
+                count,
+                ids,
+                kinds,
+                starts,
+                ends,
+                bends,
+                counts,
+                px,
+                py,
+                cycles,
+                steps,
+                bx,
+                by,
+                t,
+                cell,
+            )
+        }
+        Command::GlueVertices(a, b) => {
+            kind_glue::glue_vertices(
+                *next,
+                count,
+                ids,
+                kinds,
+                starts,
+                ends,
+                bends,
+                counts,
+                px,
+                py,
+                cycles,
+                steps,
+                bx,
+                by,
+                t,
+                a,
+                b,
+            )
+        }
+        Command::GlueEdges(a, b, flag) => {
+            kind_glue::glue_edges(
+                *next,
+                count,
+                ids,
+                kinds,
+                starts,
+                ends,
+                bends,
+                counts,
+                px,
+                py,
+                cycles,
+                steps,
+                bx,
+                by,
+                t,
+                a,
+                b,
+                flag,
+            )
+        }
+        Command::Unglue(cell) => {
+            kind_unglue::unglue(
+                next,
+                count,
+                ids,
+                kinds,
+                starts,
+                ends,
+                bends,
+                counts,
+                px,
+                py,
+                cycles,
+                steps,
+                bx,
+                by,
+                t,
+                cell,
+            )
+        }
         Command::CutEdge(edge, q) => {
             kind_cut_edge::cut_edge(
                 next,
@@ -164,24 +361,5 @@ pub fn obey(
                 cell,
             )
         }
-        _ => entry_glues::obey_glue(
-            next,
-            count,
-            ids,
-            kinds,
-            starts,
-            ends,
-            bends,
-            counts,
-            px,
-            py,
-            cycles,
-            steps,
-            bx,
-            by,
-            t,
-            script,
-            c,
-        ),
     }
 }

@@ -9,6 +9,7 @@ use lib.ListN.{length, drop}
 use Rattle.number.specs.Readers.{bad}
 use Rattle.complex.specs.Sound.{sound}
 use Rattle.complex.specs.Decode.{decode}
+use Rattle.complex.proofs.Bools.{true-of}
 use Rattle.store.specs.View.{sheetOf}
 use Rattle.sound.proofs.Meaning.{sound-sheet}
 use Rattle.decode_command.specs.declared.Command.{Command}
@@ -18,7 +19,7 @@ use Rattle.answer.specs.Answers.{saidBy}
 use Rattle.lent.specs.Arrays.{Arrays, heldBy, soundArrays}
 use Rattle.lent.specs.declared.Line.{Line}
 use Rattle.lent.specs.Replies.{answerBy, lineOf, Obeyed}
-use Rattle.lent.proofs.Replies.{drawing-of}
+use Rattle.lent.proofs.Replies.{drawing-of, replied-obeyed}
 use Rattle.entry_told.proofs.Going.{turned-read, turned-unread, left-fits}
 use Rattle.entry_turn.specs.Turns.{SteppedIn}
 
@@ -53,11 +54,11 @@ module _ (script : List ℕ) (at : ℕ) (h : at < length script) {left : List �
       record { turned = turned-unread script at h e (sheetOf (heldBy a)) (sheet-sound a w) d; sound = w; fits = left-fits script at h e }
 
   -- it is read, and the arrays b are left
-  pub read-in : {c : Command} {taken : ℕ} → Begins left c taken → (b : Arrays) (l : Line) → Obeyed a (commandOf left c) b l → T (soundArrays b)
+  pub read-in : {c : Command} {taken : ℕ} → Begins left c taken → (b : Arrays) (l : Line) → Obeyed a (commandOf left c) b l
       → SteppedIn a script at b (record { line = l; left = length script - (at + taken); end = at + taken })
-  read-in t b l o v =
+  read-in {c} t b l o =
       record {
         turned = turned-read script at h e (sheetOf (heldBy a)) (sheet-sound a w) t (saidBy (answerBy l (heldBy b))) (o .answers .said);
-        sound = v;
+        sound = replied-obeyed a (true-of (soundArrays a) w) (commandOf left c) b l o .sound w;
         fits = omega arith;
       }

@@ -14,7 +14,8 @@ pub struct Turn {
     pub end: usize,
 }
 
-// One command of a script, the one at a place; the run goes on after it, at the script's end if it is not read.
+// One command of a script, the one at a place; the run goes on after it, at the script's end if it is not read. Question 1 need not be
+// asked again: the sums alone are counted.
 pub fn step_at(
     next: &mut u32,
     count: &mut usize,
@@ -51,7 +52,23 @@ pub fn step_at(
             end: script.len(),
         };
     };
-    let l = entry_step::step(
+    let t = lent_sums::sums(
+        *next,
+        *count,
+        ids,
+        kinds,
+        starts,
+        ends,
+        bends,
+        counts,
+        px,
+        py,
+        cycles,
+        steps,
+        bx,
+        by,
+    );
+    let l = entry_dispatch::obey(
         next,
         count,
         ids,
@@ -66,6 +83,7 @@ pub fn step_at(
         steps,
         bx,
         by,
+        t,
         left,
         c,
     );

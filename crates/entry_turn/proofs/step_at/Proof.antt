@@ -27,30 +27,15 @@ text c = now (c .args .script)
 left-is : (c : tie.Start) → take (length (text c) - c .args .at) (drop (c .args .at) (text c)) ≡ drop (c .args .at) (text c)
 left-is c = all-left (c .args .at) (text c)
 
--- the step's place, after the command that was read
-abbrev read : tie.After-step → tie.After-c
-read c = c .before .before .before .before .before .before .before .before .before .before .before .before .before .before .before .before
+-- the places of the sums and of the command, and the start
+abbrev summed : tie.After-obey → tie.After-sums
+summed c = c .before .before .before .before .before .before .before .before .before .before .before .before .before .before .before
+
+abbrev read : tie.After-sums → tie.After-c
+read m = m .before .before .before .before .before .before .before .before .before .before .before .before .before .before .before .before
 
 abbrev given : tie.After-c → tie.Start
 given w = w .before .before .before .before .before
-
-sub-left : tie.Need-sub-left
-sub-left c = search needs
-
-part-left-start : tie.Need-part-left-start
-part-left-start c = search needs
-
-part-left-end : tie.Need-part-left-end
-part-left-end c = search needs
-
-decode-requires : tie.Need-decode-requires
-decode-requires c κs = search needs
-
-enum-known-c : tie.Need-enum-known-c
-enum-known-c c = search needs
-
-enum-told : tie.Need-enum-told
-enum-told c = search needs
 
 returns : tie.Need-returns
 returns c =
@@ -58,51 +43,50 @@ returns c =
     let s = k .before .before .before in
     unread-in (text s) (s .args .at) (s .pre .1) (left-is s) (arrays s) (s .pre .0) (unread _ (k .decode .ensures .0) (c .enum-told .given .1))
 
-step-requires : tie.Need-step-requires
-step-requires c κs =
-    let w = c .before .before .before .before .before .before .before .before .before .before .before .before .before .before .before in
+sums-requires : tie.Need-sums-requires
+sums-requires c κs = given (c .before .before .before .before .before .before .before .before .before .before .before .before .before .before .before) .pre .0
+
+obey-requires : tie.Need-obey-requires
+obey-requires c κs =
+    let m = c .before .before .before .before .before .before .before .before .before .before .before .before .before .before in
+    let w = read m in
     let k = w .before .before in
-    let s = given w in
-    let b = begins (k .decode .ensures .0) (k .decode .ensures .1) (w .c .given .1) in
-    (s .pre .0, b .lists)
+    (m .sums .ensures, begins (k .decode .ensures .0) (k .decode .ensures .1) (w .c .given .1) .lists)
 
 add-end : tie.Need-add-end
 add-end c =
-    let w = read c in
+    let w = read (summed c) in
     let k = w .before .before in
     let s = given w in
     let b = begins (k .decode .ensures .0) (k .decode .ensures .1) (w .c .given .1) in
     let h = ahead-fits (text s) (s .args .at) (s .pre .1) (left-is s) b in
     omega (arith, s .good)
 
-sub-t43 : tie.Need-sub-t43
-sub-t43 c =
-    let w = read c in
-    let k = w .before .before in
-    let s = given w in
-    let b = begins (k .decode .ensures .0) (k .decode .ensures .1) (w .c .given .1) in
-    ahead-fits (text s) (s .args .at) (s .pre .1) (left-is s) b
-
 returns-2 : tie.Need-returns-2
 returns-2 c =
-    let w = read c in
+    let w = read (summed c) in
     let k = w .before .before in
     let s = given w in
     let b = begins (k .decode .ensures .0) (k .decode .ensures .1) (w .c .given .1) in
-    read-in (text s) (s .args .at) (s .pre .1) (left-is s) (arrays s) (s .pre .0) b _ (c .step .result) (c .step .ensures .0) (c .step .ensures .1)
+    read-in (text s) (s .args .at) (s .pre .1) (left-is s) (arrays s) (s .pre .0) b _ (c .obey .result) (c .obey .ensures)
 
 pub step-at-spec : {M : Type 1} → statement M
 step-at-spec =
     tie.close
     (tie.spec
-    sub-left
-    part-left-start
-    part-left-end
-    decode-requires
-    enum-known-c
-    enum-told
+    (λ c. search needs)
+    (λ c. search needs)
+    (λ c. search needs)
+    (λ c κs. search needs)
+    (λ c. search needs)
+    (λ c. search needs)
     returns
-    step-requires
+    sums-requires
+    obey-requires
     add-end
-    sub-t43
+    (λ c.
+    let w = read (summed c) in
+    let k = w .before .before in
+    let s = given w in
+    ahead-fits (text s) (s .args .at) (s .pre .1) (left-is s) (begins (k .decode .ensures .0) (k .decode .ensures .1) (w .c .given .1)))
     returns-2)
