@@ -51,7 +51,7 @@ pub kind-vertex : (d : Drawing) → Sizes d → T (soundDrawing d) → (ix : Ind
 kind-vertex d z w ix x v k e = ap (λ (n : ℕ). eqb n 0) e ∙ vertex-at (looks d z ix x w) v
 
 -- no more are chosen than there are
-chosen-le : {A : Type 0} (p : A → Bool) (xs : List A) → length (filter p xs) ≤ length xs
+pub chosen-le : {A : Type 0} (p : A → Bool) (xs : List A) → length (filter p xs) ≤ length xs
 chosen-le p [] = omega arith
 chosen-le p (x ∷ xs) = go (p x) (chosen-le p xs)
   where

@@ -25,6 +25,7 @@ use Rattle.complex.proofs.Split.{length-rotated, is-face}
 use Rattle.complex.proofs.Sums.{total-append, total-set, total-left, total-but-one, length-left, length-but-one, chosen-set}
 use Rattle.complex.proofs.Euler.{over-changed}
 use Rattle.complex.proofs.Faces.{without-one}
+use Rattle.complex.proofs.CutEdge.{round-place}
 use Rattle.answer.proofs.Sizes.{Asked6, Comes, sums-sizes, rewired-sizes, noStepMore, none-used}
 
 -- ---- a face with other cycles, and new cells
@@ -62,8 +63,34 @@ count-alone : (k : Cycle) → stepCount k ≡ length (stepsOf k) + aloneIn k
 count-alone (lone v) = refl
 count-alone (path hs) = omega arith
 
-parted-length : (s t : ℕ) (hs : List Halfedge) → length (stretch s t hs) + length (remainder s t hs) ≡ length hs
+pub parted-length : (s t : ℕ) (hs : List Halfedge) → length (stretch s t hs) + length (remainder s t hs) ≡ length hs
 parted-length s t hs = sym (length-append (stretch s t hs) (remainder s t hs)) ∙ ap length (take-append-drop (distance (length hs) s t) (rotated s hs)) ∙ length-rotated s hs
+
+-- two cycles as one: round the first, along the new edge, round the second, and back
+abbrev bridgeOf : ℕ → ℕ → ℕ → List Halfedge → List Halfedge → Cycle
+bridgeOf e s1 s2 hs gs = path (rotated s1 hs ++ (along e ∷ (rotated s2 gs ++ one (against e))))
+
+bridge-steps : (e s1 s2 : ℕ) (hs gs : List Halfedge) → stepCount (bridgeOf e s1 s2 hs gs) ≡ length hs + length gs + 2
+bridge-steps e s1 s2 hs gs =
+    let a = length-append (rotated s1 hs) (along e ∷ (rotated s2 gs ++ one (against e))) in
+    let b = length-append (rotated s2 gs) (one (against e)) in
+    let c = length-rotated s1 hs in
+    let d = length-rotated s2 gs in
+    omega arith
+
+-- y in the place of one cycle, and another goes
+one-for-two : (ks : List Cycle) (c1 c2 : ℕ) (y : Cycle) → c1 < length ks → c2 < length ks → (c1 ≡ c2 → ⊥)
+    → (length (without (one c2) 0 (set ks c1 y)) + 1 ≡ length ks)
+    × (total stepCount (without (one c2) 0 (set ks c1 y)) + (stepCount (getD ks c1 noCycle) + stepCount (getD ks c2 noCycle))
+    ≡ total stepCount ks + stepCount y)
+one-for-two ks c1 c2 y l1 l2 ne =
+    let a = length-set ks c1 y in
+    let l : c2 < length (set ks c1 y) = omega arith in
+    let b = length-but-one noCycle c2 (set ks c1 y) l in
+    let d = total-but-one stepCount noCycle c2 (set ks c1 y) l in
+    let e = ap stepCount (getD-set-other ks c1 c2 y noCycle (λ z. ne (sym z))) in
+    let g = total-set stepCount ks c1 y noCycle l1 in
+    (omega arith, omega arith)
 
 module _ (s : Sheet) (S : Sound s) (f c1 s1 c2 s2 : ℕ) (bs : List Position) (ms : List ℕ) (isF : T (isFace (cellAt s f))) (l1 : c1 < length (cyclesOf (cellAt s f))) where
   abbrev ks : List Cycle
@@ -98,22 +125,13 @@ module _ (s : Sheet) (S : Sound s) (f c1 s1 c2 s2 : ℕ) (bs : List Position) (m
   -- two cycles
   bridge-sizes : c2 < length ks → (c1 ≡ c2 → ⊥) → sizesOf (bridged s f c1 s1 c2 s2 bs ks .cells) ≡ changedBy (sizesOf (s .cells)) (alongChange false k1 k2 (length bs))
   bridge-sizes l2 ne =
-      let R = rotated s2 (stepsOf k2) ++ one (against (s .next)) in
-      let y = path (rotated s1 (stepsOf k1) ++ (along (s .next) ∷ R)) in
-      let x = set ks c1 y in
-      let a = length-set ks c1 y in
-      let l : c2 < length x = omega arith in
-      let b = length-but-one noCycle c2 x l in
-      let d = total-but-one stepCount noCycle c2 x l in
-      let e = ap stepCount (getD-set-other ks c1 c2 y noCycle (λ z. ne (sym z))) in
-      let g = total-set stepCount ks c1 y noCycle l1 in
+      let y = bridgeOf (s .next) s1 s2 (stepsOf k1) (stepsOf k2) in
+      let a = one-for-two ks c1 c2 y l1 l2 ne in
+      let b = bridge-steps (s .next) s1 s2 (stepsOf k1) (stepsOf k2) in
       let i = count-alone k1 in
       let j = count-alone k2 in
-      let k = length-append (rotated s1 (stepsOf k1)) (along (s .next) ∷ R) in
-      let m = length-append (rotated s2 (stepsOf k2)) (one (against (s .next))) in
-      let n = length-rotated s1 (stepsOf k1) in
-      let o = length-rotated s2 (stepsOf k2) in
-      refaced-sizes s S f isF (without (one c2) 0 x) (openEdge (corner (cellAt s) k1 s1) (corner (cellAt s) k2 s2) bs ∷ []) (alongChange false k1 k2 (length bs)) (omega arith)
+      refaced-sizes s S f isF (without (one c2) 0 (set ks c1 y)) (openEdge (corner (cellAt s) k1 s1) (corner (cellAt s) k2 s2) bs ∷ [])
+      (alongChange false k1 k2 (length bs)) (omega arith)
 
 pub along-sizes : (s : Sheet) → Sound s → (f c1 s1 c2 s2 : ℕ) (bs : List Position) (ms : List ℕ) → Asked6 s (cutFaceOpen f c1 s1 c2 s2 bs ms) → sizesOf (result s (cutFaceOpen f c1 s1 c2 s2 bs ms) .cells) ≡ sizesAfter s (cutFaceOpen f c1 s1 c2 s2 bs ms)
 unfolding question4 question5 result faceCutAlong sizesAfter
@@ -173,15 +191,11 @@ module _ (s : Sheet) (S : Sound s) (e q : ℕ) where
       (vertex (cutPlace (cellAt s) (some (openEdge a b bs)) q) ∷ openEdge a v (bendsBefore bs q) ∷ openEdge v b (bendsAfter bs q) ∷ []) (without-one e (openEdge a b bs) s S at)
       (cutChange (usesBy (stepUse e) (s .cells)) q (some (openEdge a b bs))) (omega arith)
   figure-cut (some (closedEdge bs)) at k x =
-      let n = round-bends bs q (here (eqb (q % 2) 1) x) in
+      let n = round-bends bs q (round-place bs q (eqb (q % 2) 1) x) in
       let v = s .next in
       rewired-sizes sameVertex (inPlaceOf e (suc v) false) noStepMore noStepMore (λ h. refl) s (others e) (one (closedEdge bs))
       (vertex (cutPlace (cellAt s) (some (closedEdge bs)) q) ∷ openEdge v v (bendsRound bs q) ∷ []) (without-one e (closedEdge bs) s S at)
       (cutChange (usesBy (stepUse e) (s .cells)) q (some (closedEdge bs))) (omega arith)
-    where
-      here : (b : Bool) → T (cond (b || true) (ltb (q / 2) (length bs)) (leb (q / 2) (length bs))) → q / 2 < length bs
-      here true t = ltb→lt (q / 2) (length bs) t
-      here false t = ltb→lt (q / 2) (length bs) t
   figure-cut (some (face ks)) at k x = absurd k
 
   pub cut-edge-sizes : Asked6 s (cutEdge e q) → sizesOf (result s (cutEdge e q) .cells) ≡ sizesAfter s (cutEdge e q)

@@ -109,12 +109,6 @@ module _ (s : Sheet) (c : Command) where
   unfolding asked3
   passed-asked p = rw (early-three c (p .bytes), p .four, p .five, p .six)
 
-  pub no-7 : Passed s c → leb (result s c .next) idsEnd ≡ false → asked3 s c ≡ no 7 s
-  no-7 p f = passed-asked p ∙ rw f
-
-  pub no-8 : Passed s c → leb (result s c .next) idsEnd ≡ true → ceilings (result s c .cells) ≡ false → asked3 s c ≡ no 8 s
-  no-8 p f g = passed-asked p ∙ rw (f, g)
-
   pub no-none : Passed s c → leb (result s c .next) idsEnd ≡ true → ceilings (result s c .cells) ≡ true → asked3 s c ≡ done s (result s c)
   no-none p f g = passed-asked p ∙ rw (f, g)
 

@@ -14,12 +14,12 @@ use Rattle.coordinate.specs.declared.Position.{Position}
 use Rattle.coordinate.specs.Bounds.{within, inBounds, middle}
 use Rattle.complex.specs.Lists.{all, isEmpty, one, total}
 use Rattle.complex.specs.Cells.{Halfedge, Cycle, lone, path, Figure, vertex, openEdge, closedEdge, face, LiveCell, Sheet, origin, Look, lookup, isVertex, isOpen, isClosed, isEdge, startOf, endOf, bendsOf, positionOf, along, against, same, tailOf, headOf, cellAt}
-use Rattle.complex.specs.Sound.{Walk, idsEnd, cycleOk, figureOk, ceilings, joins, over}
+use Rattle.complex.specs.Sound.{Walk, idsEnd, cycleOk, figureOk, ceilings, joins}
 use Rattle.complex.specs.Decode.{Command, cutEdge}
 use Rattle.complex.specs.Edits.{numbered, rebuild, rewired, sameVertex, others, inPlaceOf}
 use Rattle.complex.specs.Cut.{points, cutPlace, bendsBefore, bendsAfter, bendsRound, inTwo, cutFigure, edgeCut, cutExists}
 use Rattle.complex.specs.Commands.{question4, question5, result}
-use Rattle.complex.proofs.Gains.{gain, loss, Shift, shift}
+use Rattle.complex.proofs.Gains.{gain, loss, Even, Shift, shift}
 use Rattle.complex.proofs.Bools.{truth, true-of, either, both, pair, cases, all-append}
 use Rattle.complex.proofs.Walks.{walk-append, Round, Ring, Some, round-joins}
 use Rattle.complex.proofs.Keep.{Sound, Look′, same-eq}
@@ -42,6 +42,11 @@ module _ {A : Type 0} (p : A → Bool) where
   all-drop zero xs t = t
   all-drop (suc n) [] t = tt
   all-drop (suc n) (x ∷ xs) t = all-drop n xs (both (p x) (all p xs) t .1)
+
+-- a closed edge is cut at a bend or after one
+pub round-place : (bs : List Position) (q : ℕ) (b : Bool) → T (cond (b || true) (ltb (q / 2) (length bs)) (leb (q / 2) (length bs))) → q / 2 < length bs
+round-place bs q true t = ltb→lt (q / 2) (length bs) t
+round-place bs q false t = ltb→lt (q / 2) (length bs) t
 
 -- a bend that is there, or the middle of a segment that is there
 place-ok : (ps bs : List Position) (q : ℕ) (b : Bool) → T (all within ps) → T (all within bs) → (b ≡ true → q / 2 < length bs) → (b ≡ false → q / 2 + 1 < length ps)
@@ -154,7 +159,7 @@ module _ (s : Sheet) (S : Sound s) (e q a b : ℕ) (bs : List Position) (at : ce
   pub open-cut-sound : T (leb (rebuild (others e) (rewired sameVertex σ) new s .next) idsEnd) → T (ceilings (rebuild (others e) (rewired sameVertex σ) new s .cells)) → Sound (rebuild (others e) (rewired sameVertex σ) new s)
   open-cut-sound seven eight = swapped-sound s S e E σ new stay some-σ here-walk here-ring seven eight new-ok
 
-  pub open-cut-over : over gain (rebuild (others e) (rewired sameVertex σ) new s .cells) + over loss (s .cells) ≡ over gain (s .cells) + over loss (rebuild (others e) (rewired sameVertex σ) new s .cells)
+  pub open-cut-over : Even s (rebuild (others e) (rewired sameVertex σ) new s)
   open-cut-over =
       let m = swapped-over s S e E σ new gain (gain-rewired sameVertex σ) (openEdge a b bs) at in
       let n = swapped-over s S e E σ new loss (loss-rewired sameVertex σ) (openEdge a b bs) at in
@@ -190,11 +195,7 @@ module _ (s : Sheet) (S : Sound s) (e q : ℕ) (bs : List Position) (at : cellAt
   okᶜ = both (not (isEmpty bs)) (all within bs) (S .figures e (closedEdge bs) at) .1
 
   here : q / 2 < length bs
-  here = go (eqb (q % 2) 1) ex
-    where
-      go : (b : Bool) → T (cond (b || true) (ltb (q / 2) (length bs)) (leb (q / 2) (length bs))) → q / 2 < length bs
-      go true t = ltb→lt (q / 2) (length bs) t
-      go false t = ltb→lt (q / 2) (length bs) t
+  here = round-place bs q (eqb (q % 2) 1) ex
 
   place-is-okᶜ : T (within placeᶜ)
   place-is-okᶜ =
@@ -231,7 +232,7 @@ module _ (s : Sheet) (S : Sound s) (e q : ℕ) (bs : List Position) (at : cellAt
   pub closed-cut-sound : T (leb (rebuild (others e) (rewired sameVertex σᶜ) newᶜ s .next) idsEnd) → T (ceilings (rebuild (others e) (rewired sameVertex σᶜ) newᶜ s .cells)) → Sound (rebuild (others e) (rewired sameVertex σᶜ) newᶜ s)
   closed-cut-sound seven eight = swapped-sound s S e Eᶜ σᶜ newᶜ (stays-one e (suc w) false) (λ h. tt) here-walkᶜ here-ringᶜ seven eight new-okᶜ
 
-  pub closed-cut-over : over gain (rebuild (others e) (rewired sameVertex σᶜ) newᶜ s .cells) + over loss (s .cells) ≡ over gain (s .cells) + over loss (rebuild (others e) (rewired sameVertex σᶜ) newᶜ s .cells)
+  pub closed-cut-over : Even s (rebuild (others e) (rewired sameVertex σᶜ) newᶜ s)
   closed-cut-over =
       let m = swapped-over s S e Eᶜ σᶜ newᶜ gain (gain-rewired sameVertex σᶜ) (closedEdge bs) at in
       let n = swapped-over s S e Eᶜ σᶜ newᶜ loss (loss-rewired sameVertex σᶜ) (closedEdge bs) at in

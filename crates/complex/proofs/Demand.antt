@@ -39,31 +39,24 @@ cut-balanced f c1 s1 c2 s2 bs ms s S p = go (eqb c1 c2) refl
     go true e = subst (λ (c : ℕ). Passes s (cutFaceOpen f c1 s1 c s2 bs ms) → Balanced s (cutFaceOpen f c1 s1 c s2 bs ms)) (eqb-true c1 c2 e) (split-balanced f c1 s1 s2 bs ms s S) p
     go false e = bridge-balanced f c1 s1 c2 s2 bs ms s S p e
 
+held : (c : Command) → KeepsSound c × ((s : Sheet) → Sound s → Passes s c → Balanced s c)
+held (create x) = (create-sound x, λ s S q. create-balanced s x)
+held (move v p) = (move-sound v p, move-balanced v p)
+held (delete i) = (delete-sound i, λ s S q. delete-balanced s i)
+held (glueVertices a b) = (glue-sound a b, glue-balanced a b)
+held (glueEdges a b flag) = (glue-edges-sound a b flag, glue-edges-balanced a b flag)
+held (unglue i) = (unglue-sound i, unglue-balanced i)
+held (cutEdge e q) = (cut-edge-sound e q, cut-edge-balanced e q)
+held (cutFaceVertex f p) = (dot-sound f p, dot-balanced f p)
+held (cutFaceOpen f c1 s1 c2 s2 bs ms) = (cut-sound f c1 s1 c2 s2 bs ms, cut-balanced f c1 s1 c2 s2 bs ms)
+held (cutFaceClosed f bs ms) = (round-sound f bs ms, round-balanced f bs ms)
+held (uncut i) = (λ s S p. uncut-sound s S i p, λ s S p. uncut-balanced s S i p)
+
 pub keeps : (c : Command) → KeepsSound c
-keeps (create x) = create-sound x
-keeps (move v p) = move-sound v p
-keeps (delete i) = delete-sound i
-keeps (glueVertices a b) = glue-sound a b
-keeps (glueEdges a b flag) = glue-edges-sound a b flag
-keeps (unglue i) = unglue-sound i
-keeps (cutEdge e q) = cut-edge-sound e q
-keeps (cutFaceVertex f p) = dot-sound f p
-keeps (cutFaceOpen f c1 s1 c2 s2 bs ms) = cut-sound f c1 s1 c2 s2 bs ms
-keeps (cutFaceClosed f bs ms) = round-sound f bs ms
-keeps (uncut i) = λ s S p. uncut-sound s S i p
+keeps c = held c .0
 
 pub balances : (c : Command) (s : Sheet) → Sound s → Passes s c → Balanced s c
-balances (create x) = λ s S q. create-balanced s x
-balances (move v p) = move-balanced v p
-balances (delete i) = λ s S q. delete-balanced s i
-balances (glueVertices a b) = glue-balanced a b
-balances (glueEdges a b flag) = glue-edges-balanced a b flag
-balances (unglue i) = unglue-balanced i
-balances (cutEdge e q) = cut-edge-balanced e q
-balances (cutFaceVertex f p) = dot-balanced f p
-balances (cutFaceOpen f c1 s1 c2 s2 bs ms) = cut-balanced f c1 s1 c2 s2 bs ms
-balances (cutFaceClosed f bs ms) = round-balanced f bs ms
-balances (uncut i) = λ s S p. uncut-balanced s S i p
+balances c = held c .1
 
 pub demand3 : Demand3
 demand3 = demand3-from keeps balances

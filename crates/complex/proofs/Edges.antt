@@ -21,7 +21,7 @@ use Rattle.complex.specs.Glue.{gluedEdges, mayGlue}
 use Rattle.complex.specs.Cut.{points, cutPlace, bendsBefore, bendsAfter, bendsRound, inTwo, cutFigure, edgeCut, cutExists}
 use Rattle.complex.specs.Commands.{question4, question5, question6, result}
 use Rattle.complex.proofs.Gains.{gain, loss, Shift, shift}
-use Rattle.complex.proofs.Bools.{truth, true-of, either, both, pair, cases, not-of, all-append}
+use Rattle.complex.proofs.Bools.{truth, true-of, either, both, pair, cases, or-left, or-right, not-of, all-append}
 use Rattle.complex.proofs.Walks.{walk-append, Round, Ring, Some, round-joins, ring-joins}
 use Rattle.complex.proofs.Keep.{Sound, Look′, rebuild-sound, same-eq, Carries, ring-carried, round-carried, some-spread, shape-carried}
 use Rattle.complex.proofs.Passes.{Passes, KeepsSound}
@@ -36,7 +36,11 @@ alike-rewired σ i (openEdge a b bs) = (tt, refl, refl)
 alike-rewired σ i (closedEdge bs) = tt
 alike-rewired σ i (face ks) = tt
 
-edge-no-vertex : (o : Option Figure) → T (isEdge o) → T (isVertex o) → ⊥
+pub edge-of : (o : Option Figure) → (T (isOpen o) ⊎ T (isClosed o)) → T (isEdge o)
+edge-of o (inl a) = or-left (isOpen o) (isClosed o) a
+edge-of o (inr a) = or-right (isOpen o) (isClosed o) a
+
+pub edge-no-vertex : (o : Option Figure) → T (isEdge o) → T (isVertex o) → ⊥
 edge-no-vertex none e v = v
 edge-no-vertex (some (vertex p)) e v = e
 edge-no-vertex (some (openEdge a b bs)) e v = v

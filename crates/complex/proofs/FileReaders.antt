@@ -39,7 +39,7 @@ step-same h = go (h .edge) (h .backward)
         let m : (2 * e + 0) % 2 ≡ 1 → ⊥ = λ z. omega arith in
         λ i. record { edge = d i; backward = ne-eqb ((2 * e + 0) % 2) 1 m i }
 
-number-same : (n : ℕ) → stepNumber (stepOf n) ≡ n
+pub number-same : (n : ℕ) → stepNumber (stepOf n) ≡ n
 number-same n = go (eqb (n % 2) 1) refl
   where
     go : (b : Bool) → eqb (n % 2) 1 ≡ b → 2 * (n / 2) + cond b 1 0 ≡ n

@@ -177,7 +177,3 @@ one-file = record { read-back = read-back; written-back = written-back }
 -- two drawings have two files
 pub files-differ : (s t : Sheet) → T (sound s) → T (doubles s) → T (sound t) → T (doubles t) → fileOf s ≡ fileOf t → s ≡ t
 files-differ s t a b c d e = ap (λ (r : ReadAnswer). r .sheet) (sym (read-back s a b) ∙ ap readFile e ∙ read-back t c d)
-
--- two files are of two drawings
-pub drawings-differ : (s : Sheet) (a b : List ℕ) → T (areBytes a) → T (areBytes b) → readFile a ≡ record { number = 0; sheet = s } → readFile b ≡ record { number = 0; sheet = s } → a ≡ b
-drawings-differ s a b A B e f = sym (written-back a s A e) ∙ written-back b s B f

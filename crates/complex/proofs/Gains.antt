@@ -17,21 +17,26 @@ use Rattle.complex.specs.Delete.{going}
 use Rattle.complex.specs.Unglue.{parts}
 use Rattle.complex.specs.Commands.{unglueShare, share}
 
-abbrev pub gain : Figure → ℕ
-gain (vertex p) = 1
-gain (openEdge a b bs) = 0
-gain (closedEdge bs) = 0
-gain (face ks) = 2
-
-abbrev pub loss : Figure → ℕ
-loss (vertex p) = 0
-loss (openEdge a b bs) = 1
-loss (closedEdge bs) = 0
-loss (face ks) = length ks
-
 pub record Shift : Type 0 where
   pub up : ℕ
   pub down : ℕ
+
+-- a figure's share of the Euler number
+abbrev pub shareOf : Figure → Shift
+shareOf (vertex p) = record { up = 1; down = 0 }
+shareOf (openEdge a b bs) = record { up = 0; down = 1 }
+shareOf (closedEdge bs) = record { up = 0; down = 0 }
+shareOf (face ks) = record { up = 2; down = length ks }
+
+abbrev pub gain : Figure → ℕ
+gain x = shareOf x .up
+
+abbrev pub loss : Figure → ℕ
+loss x = shareOf x .down
+
+-- two drawings with one Euler number
+abbrev pub Even : Sheet → Sheet → Type 0
+Even s t = over gain (t .cells) + over loss (s .cells) ≡ over gain (s .cells) + over loss (t .cells)
 
 abbrev pub unglueShift : ℕ → Option Figure → Shift
 unglueShift n none = record { up = 0; down = 0 }

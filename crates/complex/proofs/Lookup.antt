@@ -152,14 +152,19 @@ all-at P (c ∷ cs) i t h e =
     go true u k g = let z : c .figure ≡ t = cc in subst (λ (x : Figure). T (P x)) z u
     go false u k g = k g
 
+-- what is found past the first cell is found
+pub later : (c : LiveCell) (cs : List LiveCell) (hi : ℕ) → T (rising (c .id) (ids cs) hi)
+    → (i : ℕ) (t : Figure) → lookup cs i ≡ some t → lookup (c ∷ cs) i ≡ some t
+later c cs hi r i t e = go (eqb (c .id) i) refl
+  where
+    go : (y : Bool) → eqb (c .id) i ≡ y → someIf y (c .figure) (lookup cs i) ≡ some t
+    go false f = e
+    go true f = let n = lookup-upto (c .id) cs hi i r (let q = eqb-true (c .id) i f in omega arith) in cc
+
 pub all-from : (P : Figure → Bool) (lo : ℕ) (cs : List LiveCell) (hi : ℕ) → T (rising lo (ids cs) hi) → ((i : ℕ) (t : Figure) → lookup cs i ≡ some t → T (P t)) → T (all (λ (c : LiveCell). P (c .figure)) cs)
 all-from P lo [] hi r h = tt
 all-from P lo (c ∷ cs) hi r h =
     let b = both (ltb lo (c .id)) (rising (c .id) (ids cs) hi) r in
     pair (P (c .figure)) (all (λ (d : LiveCell). P (d .figure)) cs)
     (h (c .id) (c .figure) (rw (eq-eqb (c .id) (c .id) refl)))
-    (all-from P (c .id) cs hi (b .1) (λ i t e. h i t (go i t e (b .1) (eqb (c .id) i) refl)))
-  where
-    go : (i : ℕ) (t : Figure) → lookup cs i ≡ some t → T (rising (c .id) (ids cs) hi) → (y : Bool) → eqb (c .id) i ≡ y → someIf y (c .figure) (lookup cs i) ≡ some t
-    go i t e r false f = e
-    go i t e r true f = let n = lookup-upto (c .id) cs hi i r (let q = eqb-true (c .id) i f in omega arith) in cc
+    (all-from P (c .id) cs hi (b .1) (λ i t e. h i t (later c cs hi (b .1) i t e)))

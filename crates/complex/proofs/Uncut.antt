@@ -1,5 +1,5 @@
 -- 0E: soundness and shift, by its cases. Assumes nothing.
-use Prim.Native.Nat.{ℕ, zero, suc, _+_, _≤_, _<_}
+use Prim.Native.Nat.{ℕ, zero, suc, _≤_, _<_}
 use native.Mathlib.Omega.{arith}
 use mathlib.Core.Path.{_≡_, refl, sym, ap, _∙_, subst}
 use mathlib.Core.Logic.{_⊎_, inl, inr}
@@ -10,12 +10,12 @@ use lib.Dec.{T, eqb, leb}
 use borrow.Author.Tests.{eq-eqb, ne-eqb, eqb-true, eqb-false}
 use Rattle.coordinate.specs.declared.Position.{Position}
 use Rattle.complex.specs.Cells.{Halfedge, Cycle, Figure, vertex, openEdge, closedEdge, face, LiveCell, Sheet, isEdge, cellAt, isVertexOrEdge}
-use Rattle.complex.specs.Sound.{idsEnd, ceilings, over}
+use Rattle.complex.specs.Sound.{idsEnd, ceilings}
 use Rattle.complex.specs.Decode.{Command, uncut}
 use Rattle.complex.specs.Uses.{endsAt, passagesAt, loneUse, usesBy, Use, usesOf}
 use Rattle.complex.specs.Uncut.{Uncut, refused, lonely, loop, joint, twoFaces, oneCycle, rings, endsOfOneEdge, doublesBack, staysOnEdge, opposite, uncutVertex, uncutOpen, uncutClosed, uncutFigure, uncutCase, uncutResult, uncutAt, allowed}
 use Rattle.complex.specs.Commands.{question4, question6, result}
-use Rattle.complex.proofs.Gains.{gain, loss}
+use Rattle.complex.proofs.Gains.{Even}
 use Rattle.complex.proofs.Bools.{truth, true-of, both, false-not}
 use Rattle.complex.proofs.Keep.{Sound}
 use Rattle.complex.proofs.Passes.{Passes}
@@ -131,7 +131,7 @@ module _ (s : Sheet) (S : Sound s) (i : ℕ) where
   good-sound c (is-one a b bs at u w ru rw′ L k ef ec) = one-cycle-sound s S i (edged (openEdge a b bs) at tt) (rw at tt) u w ru rw′ L k ef ec
   good-sound c (is-rings bs at u w q k n) = rings-sound s S i u w q (edged (closedEdge bs) at tt) k n
 
-  good-over : (c : Uncut) → Holds s i c → over gain (uncutResult s i c .cells) + over loss (s .cells) ≡ over gain (s .cells) + over loss (uncutResult s i c .cells)
+  good-over : (c : Uncut) → Holds s i c → Even s (uncutResult s i c)
   good-over c (is-lonely p at e n) = lonely-over s S i p at e n
   good-over c (is-loop p at x y e n k z) = loop-over s S i p at x y e n k z
   good-over c (is-joint p at x y e n k z) = joint-over s S i p at x y e n k z

@@ -18,7 +18,7 @@ use Rattle.complex.specs.Edits.{rebuild, replaced, others}
 use Rattle.complex.specs.Uses.{Use}
 use Rattle.complex.specs.Cut.{noCycle, noStep, stretch}
 use Rattle.complex.specs.Uncut.{opposite, pathOr, cycleOfUse, followingTo}
-use Rattle.complex.proofs.Gains.{gain, loss}
+use Rattle.complex.proofs.Gains.{gain, loss, Even}
 use Rattle.complex.proofs.Bools.{truth, pair, all-append}
 use Rattle.complex.proofs.Walks.{walk-split, Round}
 use Rattle.complex.proofs.Keep.{Sound}
@@ -220,6 +220,5 @@ module _ (s : Sheet) (S : Sound s) (e : ℕ) (E : T (isEdge (cellAt s e))) (o : 
   pub more-cycles : length ks′ ≡ length ks + 1
   more-cycles = length-append (set ks (u .cycle) (pathOr (headOf (cellAt s) (u .halfedge)) X)) (one (pathOr (headOf (cellAt s) (w .halfedge)) Y)) ∙ ap (λ (n : ℕ). n + 1) (length-set ks (u .cycle) (pathOr (headOf (cellAt s) (u .halfedge)) X))
 
-  pub one-cycle-over : (a b : ℕ) (bs : List Position) → cellAt s e ≡ some (openEdge a b bs)
-      → over gain (rebuild (others e) (replaced (u .face) (face ks′)) [] s .cells) + over loss (s .cells) ≡ over gain (s .cells) + over loss (rebuild (others e) (replaced (u .face) (face ks′)) [] s .cells)
+  pub one-cycle-over : (a b : ℕ) (bs : List Position) → cellAt s e ≡ some (openEdge a b bs) → Even s (rebuild (others e) (replaced (u .face) (face ks′)) [] s)
   one-cycle-over a b bs q = let x = one-less gain (openEdge a b bs) q in let y = one-less loss (openEdge a b bs) q in let l = more-cycles in omega arith

@@ -21,7 +21,7 @@ use Rattle.complex.specs.Uses.{Use, stepUses, cycleUses, usesOf}
 use Rattle.complex.specs.Cut.{noCycle, noStep}
 use Rattle.complex.specs.Uncut.{pathOr}
 use Rattle.complex.proofs.Bools.{truth, true-of, both, pair, equal}
-use Rattle.complex.proofs.Lookup.{lookup-upto}
+use Rattle.complex.proofs.Lookup.{later}
 use Rattle.complex.proofs.Walks.{walk-append, walk-split, Round, Ring, Some, joins-cases, round-joins, ring-joins}
 use Rattle.complex.proofs.Keep.{Sound}
 use Rattle.complex.proofs.Every.{Every, every-left, every-right, every-both}
@@ -125,11 +125,7 @@ pub own-cells : (look : Look) (lo : ℕ) (cs : List LiveCell) (hi : ℕ) → T (
 own-cells look lo [] hi r h = tt
 own-cells look lo (c ∷ cs) hi r h =
     let b = both (ltb lo (c .id)) (rising (c .id) (ids cs) hi) r in
-    (h (c .id) (c .figure) (rw (eq-eqb (c .id) (c .id) refl)), own-cells look (c .id) cs hi (b .1) (λ i t e. h i t (go i t e (b .1) (eqb (c .id) i) refl)))
-  where
-    go : (i : ℕ) (t : Figure) → lookup cs i ≡ some t → T (rising (c .id) (ids cs) hi) → (y : Bool) → eqb (c .id) i ≡ y → someIf y (c .figure) (lookup cs i) ≡ some t
-    go i t e r false f = e
-    go i t e r true f = let n = lookup-upto (c .id) cs hi i r (let q = eqb-true (c .id) i f in omega arith) in cc
+    (h (c .id) (c .figure) (rw (eq-eqb (c .id) (c .id) refl)), own-cells look (c .id) cs hi (b .1) (λ i t e. h i t (later c cs hi (b .1) i t e)))
 
 pub uses-real : (look : Look) (e : ℕ) (cs : List LiveCell) → Every (λ (c : LiveCell). look (c .id) ≡ some (c .figure)) cs → Every (Real look e) (usesOf cs e)
 uses-real look e [] h = tt

@@ -12,19 +12,20 @@ use borrow.Author.Tests.{eq-eqb, ne-eqb, eqb-true, eqb-false}
 use Rattle.coordinate.specs.declared.Position.{Position}
 use Rattle.coordinate.specs.Bounds.{within}
 use Rattle.complex.specs.Lists.{all, places, one, without}
-use Rattle.complex.specs.Cells.{Halfedge, Cycle, lone, path, Figure, vertex, openEdge, closedEdge, face, Sheet, Look, lookup, isVertex, isOpen, isClosed, isEdge, isFace, startOf, endOf, cyclesOf, stepsOf, same, tailOf, headOf, flipped, cellAt}
+use Rattle.complex.specs.Cells.{Halfedge, Cycle, lone, path, Figure, vertex, openEdge, closedEdge, face, Sheet, Look, lookup, isVertex, isOpen, isEdge, isFace, startOf, endOf, cyclesOf, stepsOf, same, tailOf, headOf, flipped, cellAt}
 use Rattle.complex.specs.Sound.{Walk, idsEnd, cycleOk, figureOk, ceilings, joins, over}
 use Rattle.complex.specs.Edits.{keepIds, reshape, rebuild, replaced, others, neither}
 use Rattle.complex.specs.Uses.{Use, usesOf}
 use Rattle.complex.specs.Cut.{noCycle, noStep}
 use Rattle.complex.specs.Uncut.{opposite, pathOr, cycleOfUse, following}
-use Rattle.complex.proofs.Gains.{gain, loss}
+use Rattle.complex.proofs.Gains.{gain, loss, Even}
 use Rattle.complex.proofs.Bools.{truth, pair, equal, all-append, not-of}
-use Rattle.complex.proofs.Bools.{both as parts, or-left, or-right}
+use Rattle.complex.proofs.Bools.{both as parts}
 use Rattle.complex.proofs.Delete.{Edges, joins-edges}
 use Rattle.complex.proofs.Sums.{length-but-one}
 use Rattle.complex.proofs.Euler.{over-put}
 use Rattle.complex.proofs.Faces.{without-one, without-more}
+use Rattle.complex.proofs.Edges.{edge-of, edge-no-vertex}
 use lib.Seq.{getD-drop, getD-take, length-take-le}
 use lib.ListN.{length-drop, length-take}
 use Rattle.complex.proofs.Walks.{walk-append, Round, Ring, Some, joins-cases, round-joins}
@@ -87,21 +88,10 @@ module _ (s : Sheet) (S : Sound s) (e : ℕ) (E : T (isEdge (cellAt s e))) (p : 
       go (some t) q k = stays-at p (replaced f (face ks′)) [] s x t (keeps x n (subst (λ (o : Option Figure). T (isVertex o) ⊎ T (isEdge o)) (sym q) k)) q ∙ rw (ne-eqb f x (no-face x (subst (λ (o : Option Figure). T (isVertex o) ⊎ T (isEdge o)) (sym q) k)))
 
   no-vertex : (x : ℕ) → T (isVertex (cellAt s x)) → x ≡ e → ⊥
-  no-vertex x v z = go (cellAt s e) E (subst (λ (i : ℕ). T (isVertex (cellAt s i))) z v)
-    where
-      go : (o : Option Figure) → T (isEdge o) → T (isVertex o) → ⊥
-      go none a b = b
-      go (some (vertex r)) a b = a
-      go (some (openEdge c d bs)) a b = b
-      go (some (closedEdge bs)) a b = b
-      go (some (face ls)) a b = b
+  no-vertex x v z = edge-no-vertex (cellAt s e) E (subst (λ (i : ℕ). T (isVertex (cellAt s i))) z v)
 
   pub vertex-stays : (x : ℕ) → T (isVertex (cellAt s x)) → T (isVertex (lookˣ x))
   vertex-stays x v = subst (λ (o : Option Figure). T (isVertex o)) (sym (same-at x (no-vertex x v) (inl v))) v
-
-  edge-of : (o : Option Figure) → (T (isOpen o) ⊎ T (isClosed o)) → T (isEdge o)
-  edge-of o (inl a) = or-left (isOpen o) (isClosed o) a
-  edge-of o (inr a) = or-right (isOpen o) (isClosed o) a
 
   pub steps-stay : (hs : List Halfedge) → Edges s S hs → Every (λ (h : Halfedge). h .edge ≡ e → ⊥) hs → Every (λ (h : Halfedge). lookˣ (h .edge) ≡ cellAt s (h .edge)) hs
   steps-stay [] a b = tt
@@ -313,10 +303,8 @@ module _ (s : Sheet) (S : Sound s) (e : ℕ) (u w : Use) (U : usesOf (s .cells) 
       let n = length-but-one noCycle (w .cycle) ks2 (rw′ .1) in
       omega arith
 
-  pub merged-over : (a b : ℕ) (bs : List Position) → cellAt s e ≡ some (openEdge a b bs)
-      → over gain (rebuild p₂ (replaced (u .face) (face ks′ᵒ)) [] s .cells) + over loss (s .cells) ≡ over gain (s .cells) + over loss (rebuild p₂ (replaced (u .face) (face ks′ᵒ)) [] s .cells)
+  pub merged-over : (a b : ℕ) (bs : List Position) → cellAt s e ≡ some (openEdge a b bs) → Even s (rebuild p₂ (replaced (u .face) (face ks′ᵒ)) [] s)
   merged-over a b bs q = let x = two-less gain (openEdge a b bs) q ks′ᵒ in let y = two-less loss (openEdge a b bs) q ks′ᵒ in let n = merged-cycles in omega arith
 
-  pub rings-over : (bs : List Position) → cellAt s e ≡ some (closedEdge bs)
-      → over gain (rebuild p₂ (replaced (u .face) (face ks′ᶜ)) [] s .cells) + over loss (s .cells) ≡ over gain (s .cells) + over loss (rebuild p₂ (replaced (u .face) (face ks′ᶜ)) [] s .cells)
+  pub rings-over : (bs : List Position) → cellAt s e ≡ some (closedEdge bs) → Even s (rebuild p₂ (replaced (u .face) (face ks′ᶜ)) [] s)
   rings-over bs q = let x = two-less gain (closedEdge bs) q ks′ᶜ in let y = two-less loss (closedEdge bs) q ks′ᶜ in let n = rings-cycles in omega arith

@@ -18,7 +18,7 @@ use Rattle.complex.specs.Sound.{Walk, idsEnd, cycleOk, figureOk, ceiling
 use Rattle.complex.specs.Edits.{keepIds, numbered, rebuild, rewired, rewiredCycle, sameVertex, others, neither, inPlaceOf}
 use Rattle.complex.specs.Uses.{figureEnds, endsAt, Passage, passage, passagesFrom, passages, allCycles, passagesAt, isIn, loneUse, usesBy}
 use Rattle.complex.specs.Uncut.{endsOfOneEdge, isLone, withoutLone, inOne, bendsAlong, joined}
-use Rattle.complex.proofs.Gains.{gain, loss}
+use Rattle.complex.proofs.Gains.{gain, loss, Even}
 use Rattle.complex.proofs.Bools.{truth, true-of, either, pair, cases, or-left, or-right, equal, all-map, all-append}
 use Rattle.complex.proofs.Bools.{both as parts}
 use Rattle.complex.proofs.Walks.{Round, Ring, Some, joins-cases, round-joins, ring-joins}
@@ -32,8 +32,19 @@ use Rattle.complex.proofs.Faces.{Without, without-one, without-more, ga
 use Rattle.complex.proofs.Unglue.{over-at}
 use Rattle.complex.proofs.Every.{Every, every-left, every-right, every-both, filter-append}
 use Rattle.complex.proofs.UnglueVertex.{end-in, open-at, turnsOf, passages-in}
+use Rattle.complex.proofs.Edges.{edge-of}
 use Rattle.complex.proofs.UncutFaces.{head-vertex}
 use Rattle.complex.proofs.UncutEdge.{every-more, own-cells, walk-stays, joins-stay}
+
+-- halfedges of one edge
+turned : (h k : Halfedge) → h .edge ≡ k .edge → (k ≡ h) ⊎ (k ≡ flipped h)
+turned h k z = go (h .backward) (k .backward) refl refl
+  where
+    go : (a b : Bool) → h .backward ≡ a → k .backward ≡ b → (k ≡ h) ⊎ (k ≡ flipped h)
+    go true true p q = inl (λ i. record { edge = sym z i; backward = (q ∙ sym p) i })
+    go true false p q = inr (λ i. record { edge = sym z i; backward = (q ∙ ap not (sym p)) i })
+    go false true p q = inr (λ i. record { edge = sym z i; backward = (q ∙ ap not (sym p)) i })
+    go false false p q = inl (λ i. record { edge = sym z i; backward = (q ∙ sym p) i })
 
 -- ---- a vertex's ends, as they are listed
 ends-real : (look : Look) (v : ℕ) (cs : List LiveCell) → Every (λ (c : LiveCell). look (c .id) ≡ some (c .figure)) cs → Every (λ (h : Halfedge). T (isOpen (look (h .edge))) × (tailOf look h ≡ v)) (endsAt cs v)
@@ -167,10 +178,6 @@ module _ (s : Sheet) (S : Sound s) (v : ℕ) (p : Position) (at : cellAt s v ≡
   steps-stay : (hs : List Halfedge) → Edges s S hs → Every (λ (h : Halfedge). lookˡ (h .edge) ≡ cellAt s (h .edge)) hs
   steps-stay [] a = tt
   steps-stay (h ∷ hs) a = let k = edge-of (cellAt s (h .edge)) (a .0) in (stays (h .edge) (edge-not-v (h .edge) k) (inr k), steps-stay hs (a .1))
-    where
-      edge-of : (o : Option Figure) → (T (isOpen o) ⊎ T (isClosed o)) → T (isEdge o)
-      edge-of o (inl a) = or-left (isOpen o) (isClosed o) a
-      edge-of o (inr a) = or-right (isOpen o) (isClosed o) a
 
   cycle-stays : (k : Cycle) → T (not (isLone v k)) → T (cycleOk (cellAt s) k) → T (cycleOk lookˡ k)
   cycle-stays (lone w) n t = vertex-stays w (λ z. lib.Dec.T-not (eqb v w) n (equal (sym z))) t
@@ -232,7 +239,7 @@ module _ (s : Sheet) (S : Sound s) (v : ℕ) (p : Position) (at : cellAt s v ≡
   loss-less j (closedEdge bs) = refl
   loss-less j (face ks) = cycles-less ks
 
-  pub lonely-over : usesBy (loneUse v) (s .cells) ≡ 1 → over gain (rebuild (others v) (withoutLone v) [] s .cells) + over loss (s .cells) ≡ over gain (s .cells) + over loss (rebuild (others v) (withoutLone v) [] s .cells)
+  pub lonely-over : usesBy (loneUse v) (s .cells) ≡ 1 → Even s (rebuild (others v) (withoutLone v) [] s)
   lonely-over n = let a = lonely-same gain gain-same in let b = lonely-less loss loss-less in omega arith
 
 pub all-reverse : {A : Type 0} (q : A → Bool) (xs : List A) → T (all q xs) → T (all q (reverse xs))
@@ -367,16 +374,6 @@ module _ (s : Sheet) (S : Sound s) (v : ℕ) (p : Position) (at : cellAt s v ≡
     abbrev lookᵖ : Look
     lookᵖ = look² keepˡ σˡ tˡ Qˡ goneˡ keptˡ
 
-    -- halfedges of one edge
-    turned : (h k : Halfedge) → h .edge ≡ k .edge → (k ≡ h) ⊎ (k ≡ flipped h)
-    turned h k z = go (h .backward) (k .backward) refl refl
-      where
-        go : (a b : Bool) → h .backward ≡ a → k .backward ≡ b → (k ≡ h) ⊎ (k ≡ flipped h)
-        go true true p q = inl (λ i. record { edge = sym z i; backward = (q ∙ sym p) i })
-        go true false p q = inr (λ i. record { edge = sym z i; backward = (q ∙ ap not (sym p)) i })
-        go false true p q = inr (λ i. record { edge = sym z i; backward = (q ∙ ap not (sym p)) i })
-        go false false p q = inl (λ i. record { edge = sym z i; backward = (q ∙ sym p) i })
-
     head-v : (h : Halfedge) → h .edge ≡ eˡ → headOf (cellAt s) h ≡ v
     head-v h z = elim (turned x h (sym z)) [
       | inl q ↦ ap (headOf (cellAt s)) q ∙ sym (flip-tail (cellAt s) x) ∙ ap (tailOf (cellAt s)) (sym y-is) ∙ real-ends .1 .0 .1
@@ -435,10 +432,6 @@ module _ (s : Sheet) (S : Sound s) (v : ℕ) (p : Position) (at : cellAt s v ≡
     stay-all (h ∷ hs) a b =
         let k = edge-of (cellAt s (h .edge)) (a .0) in
         (stays² keepˡ σˡ tˡ Qˡ goneˡ keptˡ (h .edge) (edge-not-v² keepˡ σˡ tˡ Qˡ goneˡ keptˡ (h .edge) k) (b .0) (λ z. b .0 (z ∙ ye)) (inr k), stay-all hs (a .1) (b .1))
-      where
-        edge-of : (o : Option Figure) → (T (isOpen o) ⊎ T (isClosed o)) → T (isEdge o)
-        edge-of o (inl a) = or-left (isOpen o) (isClosed o) a
-        edge-of o (inr a) = or-right (isOpen o) (isClosed o) a
 
     path-okˡ : (hs : List Halfedge) → T (joins (cellAt s) hs) → Every Qˡ (filter Here (passages hs)) → T (joins lookᵖ (spread σˡ hs))
     path-okˡ [] t e = t
@@ -479,7 +472,7 @@ module _ (s : Sheet) (S : Sound s) (v : ℕ) (p : Position) (at : cellAt s v ≡
         let n : T (others eˡ v) = rw (ne-eqb eˡ v (λ z. edge-not-v² keepˡ σˡ tˡ Qˡ goneˡ keptˡ eˡ (or-left (isOpen (cellAt s eˡ)) (isClosed (cellAt s eˡ)) (real-ends .0 .0)) z)) tt in
         without-more v (vertex p) (others eˡ) (one t) s S at n (without-one eˡ t s S k)
 
-    pub loop-over : over gain (rebuild keepˡ (rewired sameVertex σˡ) (tˡ ∷ []) s .cells) + over loss (s .cells) ≡ over gain (s .cells) + over loss (rebuild keepˡ (rewired sameVertex σˡ) (tˡ ∷ []) s .cells)
+    pub loop-over : Even s (rebuild keepˡ (rewired sameVertex σˡ) (tˡ ∷ []) s)
     loop-over =
         let k = open-at (cellAt s) eˡ (real-ends .0 .0) in
         let a = over-kept gain (rewired sameVertex σˡ) (gain-rewired sameVertex σˡ) keepˡ (tˡ ∷ []) s in
@@ -549,15 +542,6 @@ module _ (s : Sheet) (S : Sound s) (v : ℕ) (p : Position) (at : cellAt s v ≡
     r-else : (z : ℕ) → (z ≡ v → ⊥) → r z ≡ z
     r-else z q = rw (ne-eqb v z (λ w. q (sym w)))
 
-    turnedʲ : (h k : Halfedge) → h .edge ≡ k .edge → (k ≡ h) ⊎ (k ≡ flipped h)
-    turnedʲ h k z = go (h .backward) (k .backward) refl refl
-      where
-        go : (c d : Bool) → h .backward ≡ c → k .backward ≡ d → (k ≡ h) ⊎ (k ≡ flipped h)
-        go true true p q = inl (λ i. record { edge = sym z i; backward = (q ∙ sym p) i })
-        go true false p q = inr (λ i. record { edge = sym z i; backward = (q ∙ ap not (sym p)) i })
-        go false true p q = inr (λ i. record { edge = sym z i; backward = (q ∙ ap not (sym p)) i })
-        go false false p q = inl (λ i. record { edge = sym z i; backward = (q ∙ sym p) i })
-
     flip-head : (look : Look) (h : Halfedge) → headOf look (flipped h) ≡ tailOf look h
     flip-head look h = go (h .backward)
       where
@@ -591,13 +575,13 @@ module _ (s : Sheet) (S : Sound s) (v : ℕ) (p : Position) (at : cellAt s v ≡
     walksʲ h o = go (eqb b (h .edge)) (eqb a (h .edge)) refl refl
       where
         hb : h .edge ≡ b → r (tailOf (cellAt s) h) ≡ r (headOf (cellAt s) h)
-        hb z = elim (turnedʲ y h (sym z)) [
+        hb z = elim (turned y h (sym z)) [
           | inl q ↦ r-v (tailOf (cellAt s) h) (ap (tailOf (cellAt s)) q ∙ real-ends .1 .0 .1) ∙ sym (r-else far far-not) ∙ ap r (ap (headOf (cellAt s)) (sym q))
           | inr q ↦ ap r (ap (tailOf (cellAt s)) q ∙ flip-tail (cellAt s) y) ∙ r-else far far-not ∙ sym (r-v (headOf (cellAt s) h) (ap (headOf (cellAt s)) q ∙ flip-head (cellAt s) y ∙ real-ends .1 .0 .1))
         ]
 
         ha : h .edge ≡ a → Walk lookʲ (r (tailOf (cellAt s) h)) (one (record { edge = s .next; backward = h .backward })) (r (headOf (cellAt s) h))
-        ha z = elim (turnedʲ x h (sym z)) [
+        ha z = elim (turned x h (sym z)) [
           | inl q ↦ shift far (headOf (cellAt s) x) (x .backward) (r-v (tailOf (cellAt s) h) (ap (tailOf (cellAt s)) q ∙ real-ends .0 .1)) (ap r (ap (headOf (cellAt s)) q) ∙ r-else (headOf (cellAt s) x) near-not) (ap (λ (k : Halfedge). k .backward) q) along-new
           | inr q ↦ shift (headOf (cellAt s) x) far (not (x .backward)) (ap r (ap (tailOf (cellAt s)) q ∙ flip-tail (cellAt s) x) ∙ r-else (headOf (cellAt s) x) near-not) (r-v (headOf (cellAt s) h) (ap (headOf (cellAt s)) q ∙ flip-head (cellAt s) x ∙ real-ends .0 .1)) (ap (λ (k : Halfedge). k .backward) q) against-new
         ]
@@ -665,7 +649,7 @@ module _ (s : Sheet) (S : Sound s) (v : ℕ) (p : Position) (at : cellAt s v ≡
     ]
       where
         turns : T (isOpen (cellAt s (h .edge))) → Walk (cellAt s) (headOf (cellAt s) h) hs (tailOf (cellAt s) h) → Every (λ (k : Halfedge). k .edge ≡ b) (h ∷ hs) → ⊥
-        turns o w m = elim (turnedʲ y h (sym (m .0))) [
+        turns o w m = elim (turned y h (sym (m .0))) [
           | inl q ↦ last-turn h h hs o (ap (tailOf (cellAt s)) q ∙ real-ends .1 .0 .1) (m .0) (m .0) (m .1) e
           | inr q ↦ first-turn h h hs o (ap (headOf (cellAt s)) q ∙ flip-head (cellAt s) y ∙ real-ends .1 .0 .1) (m .0) (m .0) (m .1) w e
         ]
@@ -738,7 +722,7 @@ module _ (s : Sheet) (S : Sound s) (v : ℕ) (p : Position) (at : cellAt s v ≡
         let na : T (others b a) = rw (ne-eqb b a (λ z. apart-ab (sym z))) tt in
         without-more v (vertex p) (neither a b) (ta ∷ tb ∷ []) s S at nv (without-more a ta (others b) (one tb) s S ka na (without-one b tb s S kb))
 
-    pub joint-over : over gain (rebuild keepʲ (rewired sameVertex σʲ) (tʲ ∷ []) s .cells) + over loss (s .cells) ≡ over gain (s .cells) + over loss (rebuild keepʲ (rewired sameVertex σʲ) (tʲ ∷ []) s .cells)
+    pub joint-over : Even s (rebuild keepʲ (rewired sameVertex σʲ) (tʲ ∷ []) s)
     joint-over =
         let ka = open-at (cellAt s) a (real-ends .0 .0) in
         let kb = open-at (cellAt s) b (real-ends .1 .0 .0) in

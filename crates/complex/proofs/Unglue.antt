@@ -23,7 +23,7 @@ use Rattle.complex.specs.Commands.{question4, question6, result}
 use Rattle.complex.proofs.Gains.{gain, loss, Shift, shift}
 use Rattle.complex.proofs.Bools.{truth, true-of, either, both, pair, cases}
 use Rattle.complex.proofs.Lookup.{lookup-keep}
-use Rattle.complex.proofs.Walks.{Round, Ring, Some, joins-cases, round-joins, ring-joins}
+use Rattle.complex.proofs.Walks.{Round, Ring, joins-cases, round-joins, ring-joins}
 use Rattle.complex.proofs.Keep.{Sound, Look′, rebuild-sound, same-eq, same-refl, ring-carried, spread-one, Keeps, tail-kept, head-kept, walk-kept, joins-kept, cycle-kept, shape-kept}
 use Rattle.complex.proofs.Passes.{Passes}
 use Rattle.complex.proofs.Adds.{Alike, alike-same, alike-rebuild, stays-at, new-at}
@@ -172,10 +172,6 @@ module _ (s : Sheet) (S : Sound s) (e a b : ℕ) (bs : List Position) (at : cell
       let b = both (same h k) (all (same h) hs) t in
       let z : eqb e (k .edge) ≡ false = ap (λ (x : Halfedge). eqb e (x .edge)) (sym (same-eq h k (b .0))) ∙ q in
       rw z (ap (λ (ks : List Halfedge). k ∷ ks) (ring-stays (n + 0) h hs q (b .1)))
-
-  some-new : (n : ℕ) (hs : List Halfedge) → Some hs → Some (newSteps e (s .next) n hs)
-  some-new n [] t = t
-  some-new n (h ∷ hs) t = tt
 
   cycle-copied : (n : ℕ) (k : Cycle) → n + stepUse e k ≤ Nᵒ → T (cycleOk (cellAt s) k) → T (cycleOk lookᵒ (newPath e (s .next) n k))
   cycle-copied n (lone v) l t = kᵒ .vertices v t

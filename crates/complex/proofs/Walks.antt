@@ -37,14 +37,14 @@ walk-split look u (h ∷ xs) ys w k =
     (r .0, (k .0, k .1, r .1), r .2)
 
 -- ---- path substitution: a map of vertices, and a walk for each halfedge
-pub walk-through : (look look′ : Look) (r : ℕ → ℕ) (σ : Halfedge → List Halfedge)
-    → ((h : Halfedge) → T (isOpen (look (h .edge))) → Walk look′ (r (tailOf look h)) (σ h) (r (headOf look h)))
-    → (u : ℕ) (hs : List Halfedge) (w : ℕ) → Walk look u hs w → Walk look′ (r u) (spread σ hs) (r w)
-walk-through look look′ r σ f u [] w e = ap r e
-walk-through look look′ r σ f u (h ∷ hs) w k =
-    walk-append look′ (r u) (σ h) (r (headOf look h)) (spread σ hs) (r w)
-    (subst (λ (v : ℕ). Walk look′ (r v) (σ h) (r (headOf look h))) (sym (k .1)) (f h (k .0)))
-    (walk-through look look′ r σ f (headOf look h) hs w (k .2))
+module _ (look look′ : Look) (r : ℕ → ℕ) (σ : Halfedge → List Halfedge)
+    (f : (h : Halfedge) → T (isOpen (look (h .edge))) → Walk look′ (r (tailOf look h)) (σ h) (r (headOf look h))) where
+  pub walk-through : (u : ℕ) (hs : List Halfedge) (w : ℕ) → Walk look u hs w → Walk look′ (r u) (spread σ hs) (r w)
+  walk-through u [] w e = ap r e
+  walk-through u (h ∷ hs) w k =
+      walk-append look′ (r u) (σ h) (r (headOf look h)) (spread σ hs) (r w)
+      (subst (λ (v : ℕ). Walk look′ (r v) (σ h) (r (headOf look h))) (sym (k .1)) (f h (k .0)))
+      (walk-through (headOf look h) hs w (k .2))
 
 -- ---- closed walks, from anywhere
 abbrev pub Round : Look → List Halfedge → Type 0

@@ -130,10 +130,14 @@ figure-length (Face k) ks bs h g =
     let b = length-append (spell k) (spread cycleBytes (take k ks)) in
     omega arith
 
-pub cells-bytes : (cs : List Cell) (ks : List Cycle) (bs : List Position) → cycleSum cs ≤ length ks → bendSum cs ≤ length bs
+-- there are the cycles and the bends that cells have
+abbrev pub Enough : List Cell → List Cycle → List Position → Type 0
+Enough cs ks bs = (cycleSum cs ≤ length ks) × (bendSum cs ≤ length bs)
+
+pub cells-bytes : (cs : List Cell) (ks : List Cycle) (bs : List Position) → Enough cs ks bs
     → length (spread cellBytes (cellsOf cs ks bs)) ≡ total headWidth cs + (length (spread cycleBytes (take (cycleSum cs) ks)) + 16 * bendSum cs)
-cells-bytes [] ks bs h g = refl
-cells-bytes (c ∷ cs) ks bs h g =
+cells-bytes [] ks bs h = refl
+cells-bytes (c ∷ cs) ks bs h =
     let s = c .shape in
     let k = cycleCount s in
     let b = bendCount s in
@@ -143,7 +147,7 @@ cells-bytes (c ∷ cs) ks bs h g =
     let a = length-append (cellBytes x) (spread cellBytes (cellsOf cs (drop k ks) (drop b bs))) in
     let d = length-append (spell (c .id)) (figureBytes (figureOf s ks bs)) in
     let f = figure-length s ks bs (omega arith) (omega arith) in
-    let m = cells-bytes cs (drop k ks) (drop b bs) (omega arith) (omega arith) in
+    let m = cells-bytes cs (drop k ks) (drop b bs) (omega arith, omega arith) in
     let j : length (spread cycleBytes (take (k + cycleSum cs) ks)) ≡ length (spread cycleBytes (take k ks)) + length
     (spread cycleBytes (take (cycleSum cs) (drop k ks))) =
     ap (λ (l : List Cycle). length (spread cycleBytes l)) (take-add k (cycleSum cs) ks)

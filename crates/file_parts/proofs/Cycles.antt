@@ -1,31 +1,23 @@
 -- The bytes of cycles that stand in number arrays. Assumes nothing.
-use Prim.Native.Nat.{ℕ, zero, suc, _+_, _*_, _/_, _%_, _<_, _≤_}
+use Prim.Native.Nat.{ℕ, zero, suc, _+_, _<_, _≤_}
 use mathlib.Core.Path.{_≡_, refl, ap, ap₂, sym, _∙_, subst}
 use mathlib.Core.List.{List, [], _∷_, _++_, map, append-nil}
-use mathlib.Core.Bool.{Bool, true, false, cond}
+use mathlib.Core.Bool.{true}
 use native.Mathlib.Omega.{arith}
-use lib.Dec.{T, eqb}
-use borrow.Author.Tests.{eqb-true, eqb-false}
+use lib.Dec.{T}
 use lib.Ieee.Fits.{and-i, and-l, and-r}
 use lib.ListN.{length, take, drop, getD, length-map}
 use lib.Seq.{length-take-le, drop-drop, take-all}
 use Rattle.number.specs.Readers.{spread, all}
 use Rattle.number.specs.Numbers.{spell}
 use Rattle.complex.specs.Cells.{Cycle, lone}
-use Rattle.complex.specs.Decode.{stepNumber, stepBytes, cycleBytes}
+use Rattle.complex.specs.Decode.{stepBytes, cycleBytes}
+use Rattle.complex.proofs.FileReaders.{number-same}
 use Rattle.store.specs.View.{halfedgeOf, width, cycleOf, cyclesFrom, widthSum}
 use Rattle.file_parts.specs.Parts.{spells, stepSpells, cycleSpells, runOf, Rings}
 use Rattle.store.proofs.Encode.{length-cycles}
 use Rattle.store.proofs.Lists.{sum-more, sum-le}
 use Rattle.file_parts.proofs.Laying.{run-length, run-get, all-get}
-
--- a step's number is read off it again
-number-same : (n : ℕ) → stepNumber (halfedgeOf n) ≡ n
-number-same n = go (eqb (n % 2) 1) refl
-  where
-    go : (b : Bool) → eqb (n % 2) 1 ≡ b → 2 * (n / 2) + cond b 1 0 ≡ n
-    go true e = let m = eqb-true (n % 2) 1 e in omega arith
-    go false e = let m = eqb-false (n % 2) 1 e in omega arith
 
 step-bytes : (l : List ℕ) → spread stepBytes (map halfedgeOf l) ≡ spread spell l
 step-bytes [] = refl

@@ -5,74 +5,24 @@ use mathlib.Core.Path.{_≡_, refl, sym, ap, _∙_}
 use mathlib.Core.Logic.{inl, inr}
 use mathlib.Core.Bool.{Bool, true, false, _&&_, cond}
 use mathlib.Core.List.{List, [], _∷_}
-use lib.ListN.{length, length-append, length-map}
+use lib.ListN.{length}
 use lib.Dec.{T, leb, leb→le}
-use Rattle.number.specs.Readers.{Read, got, bad, andThen, times, spread}
+use Rattle.number.specs.Readers.{Read, got, bad, andThen, times}
 use Rattle.number.specs.Numbers.{readNumber}
 use Rattle.number.proofs.Laws.{got-thing, got-rest}
 use Rattle.number.proofs.Counted.{times-length}
-use Rattle.complex.specs.Lists.{total}
-use Rattle.complex.specs.Cells.{Cycle, lone, path, Figure, vertex, openEdge, closedEdge, face, LiveCell, Sheet}
-use Rattle.complex.specs.Sound.{sound, stepCount, cyclesIn, stepsIn, bendsIn, over, cellsMost, cyclesMost, stepsMost, bendsMost}
+use Rattle.complex.specs.Cells.{LiveCell, Sheet}
+use Rattle.complex.specs.Sound.{sound, cyclesIn, stepsIn, bendsIn, over, cellsMost, cyclesMost, stepsMost, bendsMost}
 use Rattle.complex.specs.File.{readCell, readSheet, judged, readFile}
 use Rattle.complex.specs.File.{ReadAnswer as Judgement}
 use Rattle.complex.proofs.FileReaders.{then-from}
 use Rattle.complex.proofs.Bools.{both}
 use Rattle.complex.proofs.Keep.{sound-parts}
-use Rattle.store.specs.Places.{entryCycles, entryBends, word, cycleWords as stepsAt}
-use Rattle.store.proofs.Encode.{flat-append}
+use Rattle.store.proofs.Ceilings.{over-cycles, over-steps, over-bends}
 use Rattle.file_read.specs.declared.ReadAnswer.{ReadAnswer}
 use Rattle.file_read.specs.Outcome.{refused, RoomFor, CellsOver, CellsRead, SheetRead}
 
 -- ---- a sound drawing has room in the arrays
-cycle-places : (ks : List Cycle) → length (spread stepsAt ks) ≡ total stepCount ks
-cycle-places [] = refl
-cycle-places (lone v ∷ ks) = let e = cycle-places ks in omega arith
-cycle-places (path hs ∷ ks) = let e = cycle-places ks in let l = length-append (stepsAt (path hs)) (spread stepsAt ks) in let m = length-map hs word in omega arith
-
-cell-bends : (c : LiveCell) → length (entryBends c) ≡ bendsIn (c .figure)
-cell-bends c = go (c .figure)
-  where
-    go : (x : Figure) → length (entryBends (record { id = c .id; figure = x })) ≡ bendsIn x
-    go (vertex p) = refl
-    go (openEdge a b bs) = refl
-    go (closedEdge bs) = refl
-    go (face ks) = refl
-
-cell-cycles : (c : LiveCell) → length (entryCycles c) ≡ cyclesIn (c .figure)
-cell-cycles c = go (c .figure)
-  where
-    go : (x : Figure) → length (entryCycles (record { id = c .id; figure = x })) ≡ cyclesIn x
-    go (vertex p) = refl
-    go (openEdge a b bs) = refl
-    go (closedEdge bs) = refl
-    go (face ks) = refl
-
-cell-steps : (c : LiveCell) → length (spread stepsAt (entryCycles c)) ≡ stepsIn (c .figure)
-cell-steps c = go (c .figure)
-  where
-    go : (x : Figure) → length (spread stepsAt (entryCycles (record { id = c .id; figure = x }))) ≡ stepsIn x
-    go (vertex p) = refl
-    go (openEdge a b bs) = refl
-    go (closedEdge bs) = refl
-    go (face ks) = cycle-places ks
-
-all-bends : (cs : List LiveCell) → length (spread entryBends cs) ≡ over bendsIn cs
-all-bends [] = refl
-all-bends (c ∷ cs) = let e = all-bends cs in let f = cell-bends c in let l = length-append (entryBends c) (spread entryBends cs) in omega arith
-
-all-cycles : (cs : List LiveCell) → length (spread entryCycles cs) ≡ over cyclesIn cs
-all-cycles [] = refl
-all-cycles (c ∷ cs) = let e = all-cycles cs in let f = cell-cycles c in let l = length-append (entryCycles c) (spread entryCycles cs) in omega arith
-
-all-steps : (cs : List LiveCell) → length (spread stepsAt (spread entryCycles cs)) ≡ over stepsIn cs
-all-steps [] = refl
-all-steps (c ∷ cs) =
-    let e = all-steps cs in
-    let f = cell-steps c in
-    let l = ap length (flat-append stepsAt (entryCycles c) (spread entryCycles cs)) ∙ length-append (spread stepsAt (entryCycles c)) (spread stepsAt (spread entryCycles cs)) in
-    omega arith
-
 sound-room : (s : Sheet) → T (sound s) → RoomFor (s .cells) × (length (s .cells) ≤ cellsMost)
 sound-room s t =
     let cs = s .cells in
@@ -82,7 +32,8 @@ sound-room s t =
     let k = leb→le (over cyclesIn cs) cyclesMost (b .0) in
     let l = leb→le (over stepsIn cs) stepsMost (c .0) in
     let m = leb→le (over bendsIn cs) bendsMost (c .1) in
-    (record { bends = omega (arith, all-bends cs); cycles = omega (arith, all-cycles cs); steps = omega (arith, all-steps cs) }, leb→le (length cs) cellsMost (a .0))
+    let r : RoomFor cs = record { bends = omega (arith, over-bends cs); cycles = omega (arith, over-cycles cs); steps = omega (arith, over-steps cs) } in
+    (r, leb→le (length cs) cellsMost (a .0))
 
 -- ---- refused
 abbrev pub accepted : Sheet → Judgement

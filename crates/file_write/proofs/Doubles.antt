@@ -4,7 +4,6 @@ use mathlib.Core.Bool.{Bool, true}
 use mathlib.Core.List.{List, [], _∷_, map}
 use borrow.Author.Needs.{needs}
 use lib.Dec.{T}
-use lib.Ieee.{binary64, fits}
 use lib.ListN.{take, drop}
 use mir.Val.{Val}
 use denote.Array.{each}
@@ -13,12 +12,12 @@ use denote.Shadow.{shadow}
 use denote.Struct.Declared.{row}
 use Rattle.number.specs.Readers.{all}
 use Rattle.coordinate.specs.declared.Position.{Position}
-use Rattle.coordinate.specs.Positions.{FloatFits}
 use Rattle.coordinate.proofs.Position as position
 use Rattle.coordinate.proofs.Held.{held}
 use Rattle.complex.specs.Cells.{Cycle, LiveCell}
 use Rattle.complex.specs.Sound.{double, figureDouble, doubles}
 use Rattle.complex.proofs.Bools.{both, pair}
+use Rattle.complex.proofs.ReadDoubles.{fits-double}
 use Rattle.store.specs.declared.Shape.{Shape}
 use Rattle.store.specs.declared.Shape.the-variants.{Vertex, Open, Closed, Face}
 use Rattle.store.specs.declared.Cell.{Cell}
@@ -63,10 +62,6 @@ cells-double (c ∷ cs) ks bs t u =
     (cells-double cs (drop (cycleCount s) ks) (drop (bendCount s) bs) (b .1) (all-drop double (bendCount s) bs u))
 
 -- ---- of what lies in memory
-fits-double : (p : Position) → FloatFits p → T (double p)
-unfolding double
-fits-double p f = pair (fits binary64 (p .x)) (fits binary64 (p .y)) (f .0) (f .1)
-
 bends-held : (ps : List Position) (us : List Val) → shadow (each (position.the-field .row .Denot) (position.the-field .row .own)
     (map (position.the-field .into) ps) us) → T (all double ps)
 bends-held [] us h = tt

@@ -150,7 +150,7 @@ module _ (d : Drawing) (z : Sizes d) (w : Writable d) where
       let g = w .fits .bends in
       let y = z .cycles in
       let u = z .bends in
-      let c = cells-bytes (take (d .count) (d .cells)) ks (d .bends) (omega arith) (omega arith) in
+      let c = cells-bytes (take (d .count) (d .cells)) ks (d .bends) (omega arith, omega arith) in
       let t = ap (λ (l : List Cycle). length (spread cycleBytes l)) (take-cycles (cycleTotal d) (d .cycles) (d .steps)) in
       omega arith
 

@@ -18,13 +18,10 @@ use Rattle.store.specs.View.{bendCount, cycleCount}
 use Rattle.store.specs.Index.{Indexes, kindOf, shapeStart, shapeEnd}
 use Rattle.store.specs.Sizes.{Sizes}
 use Rattle.sound.specs.Rows.{allFrom}
+use Rattle.sound.proofs.Testing.{shifted}
 use Rattle.lent.specs.Arrays.{Arrays, shapeBy, shapeAt, positionIn, positionsIn, cellsBy, heldBy, rowsBy, rowNormal, normalAt, normal, Lengths}
 
 -- ---- tests of rows
-shifted : (p : ℕ → Bool) (i m : ℕ) → allFrom p (suc i) m ≡ allFrom (λ (j : ℕ). p (suc j)) i m
-shifted p i zero = refl
-shifted p i (suc m) = ap (λ (b : Bool). p (suc i) && b) (shifted p (suc i) m)
-
 pub and-first : (a b : Bool) → a && b ≡ true → a ≡ true
 and-first true b e = refl
 and-first false b e = e

@@ -1,72 +1,32 @@
 -- Room for cells, from what questions 7 and 8 ask. Assumes nothing.
 use Prim.Native.Nat.{ℕ, suc, _+_, _*_, _<_, _≤_}
-use mathlib.Core.Path.{_≡_, refl, ap, ap₂, sym, subst, _∙_}
+use mathlib.Core.Path.{_≡_, refl, ap, subst, _∙_}
 use mathlib.Core.Bool.{Bool, false, _&&_}
-use mathlib.Core.List.{List, [], _∷_, _++_, map}
+use mathlib.Core.List.{List, [], _∷_, _++_}
 use mathlib.Core.Option.{some}
 use native.Mathlib.Omega.{arith}
 use lib.Dec.{T, leb}
-use lib.ListN.{length, replicate, length-append, length-map, length-replicate}
+use lib.ListN.{length, replicate, length-append, length-replicate}
 use borrow.Author.Tests.{leb-true}
-use Rattle.number.specs.Readers.{spread}
-use Rattle.complex.specs.Lists.{total}
-use Rattle.complex.specs.Cells.{Cycle, lone, path, Figure, vertex, openEdge, closedEdge, face, LiveCell, Sheet, isFace}
+use Rattle.complex.specs.Cells.{Figure, LiveCell, Sheet, isFace}
 use Rattle.complex.specs.Edits.{numbered, rebuild}
-use Rattle.complex.specs.Sound.{idsEnd, cellsMost, cyclesMost, stepsMost, bendsMost, stepCount, over, ceilings}
+use Rattle.complex.specs.Sound.{idsEnd, cellsMost, cyclesMost, stepsMost, bendsMost, over, ceilings}
 use Rattle.complex.specs.Sound as sizes
 use Rattle.complex.proofs.Bools.{true-of, both}
 use Rattle.store.specs.declared.Drawing.{Drawing}
 use Rattle.store.specs.Sizes.{Sizes}
 use Rattle.store.specs.View.{sheetOf, Fits}
-use Rattle.store.specs.Places.{word, figureCycles, figureBends, cycleWords, entryCycles, entryBends}
+use Rattle.store.specs.Places.{figureBends}
 use Rattle.store.specs.Edits.{appended}
 use Rattle.store.proofs.Lists.{sum-append}
-use Rattle.store.proofs.Encode.{flat-append}
+use Rattle.store.proofs.Ceilings.{figure-sizes}
+pub use Rattle.store.proofs.Ceilings.{over-cycles, over-steps, over-bends}
 use Rattle.store.proofs.Stands.{stands, cycle-total, bend-total, step-total, count-is}
 use Rattle.store.proofs.Grow.{next-is}
 use Rattle.rows_new.specs.Appends.{appendedAll, remade, RoomIn, CellRoom, figureAt}
 use Rattle.rows_new.specs.Requirements.{CopiesRoom}
 use Rattle.rows_new.proofs.Appended.{appended-next}
 use Rattle.rows_new.proofs.CopyLists.{repeated-length, copy-bends}
-
--- ---- the ceilings' numbers are lengths
-cycles-figure : (x : Figure) → sizes.cyclesIn x ≡ length (figureCycles x)
-cycles-figure (vertex p) = refl
-cycles-figure (openEdge a b bs) = refl
-cycles-figure (closedEdge bs) = refl
-cycles-figure (face ks) = refl
-
-steps-cycles : (ks : List Cycle) → total stepCount ks ≡ length (spread cycleWords ks)
-steps-cycles [] = refl
-steps-cycles (lone v ∷ ks) = let e = steps-cycles ks in omega arith
-steps-cycles (path hs ∷ ks) = ap₂ _+_ (sym (length-map hs word)) (steps-cycles ks) ∙ sym (length-append (map word hs) (spread cycleWords ks))
-
-steps-figure : (x : Figure) → sizes.stepsIn x ≡ length (spread cycleWords (figureCycles x))
-steps-figure (vertex p) = refl
-steps-figure (openEdge a b bs) = refl
-steps-figure (closedEdge bs) = refl
-steps-figure (face ks) = steps-cycles ks
-
-bends-figure : (x : Figure) → sizes.bendsIn x ≡ length (figureBends x)
-bends-figure (vertex p) = refl
-bends-figure (openEdge a b bs) = refl
-bends-figure (closedEdge bs) = refl
-bends-figure (face ks) = refl
-
-pub over-cycles : (cs : List LiveCell) → over sizes.cyclesIn cs ≡ length (spread entryCycles cs)
-over-cycles [] = refl
-over-cycles (c ∷ cs) = ap₂ _+_ (cycles-figure (c .figure)) (over-cycles cs) ∙ sym (length-append (entryCycles c) (spread entryCycles cs))
-
-pub over-steps : (cs : List LiveCell) → over sizes.stepsIn cs ≡ length (spread cycleWords (spread entryCycles cs))
-over-steps [] = refl
-over-steps (c ∷ cs) =
-    ap₂ _+_ (steps-figure (c .figure)) (over-steps cs)
-    ∙ sym (length-append (spread cycleWords (entryCycles c)) (spread cycleWords (spread entryCycles cs)))
-    ∙ ap length (sym (flat-append cycleWords (entryCycles c) (spread entryCycles cs)))
-
-pub over-bends : (cs : List LiveCell) → over sizes.bendsIn cs ≡ length (spread entryBends cs)
-over-bends [] = refl
-over-bends (c ∷ cs) = ap₂ _+_ (bends-figure (c .figure)) (over-bends cs) ∙ sym (length-append (entryBends c) (spread entryBends cs))
 
 -- ---- the ceilings, number by number
 pub record Below (cs : List LiveCell) : Type 0 where
@@ -128,9 +88,9 @@ room-first d z f x xs r =
     let oc = over-cycles cs in
     let os = over-steps cs in
     let ob = over-bends cs in
-    let fc = cycles-figure x in
-    let fs = steps-figure x in
-    let fb = bends-figure x in
+    let fc = figure-sizes x .0 in
+    let fs = figure-sizes x .1 in
+    let fb = figure-sizes x .2 in
     let hc = sum-append (λ (c : LiveCell). sizes.cyclesIn (c .figure)) cs new in
     let hs = sum-append (λ (c : LiveCell). sizes.stepsIn (c .figure)) cs new in
     let hb = sum-append (λ (c : LiveCell). sizes.bendsIn (c .figure)) cs new in

@@ -1,27 +1,24 @@
 -- How many cycles and steps the lists of 0C have. Assumes nothing.
 use Prim.Native.Nat.{ℕ, _+_, _<_, _≤_}
 use native.Mathlib.Omega.{arith}
-use mathlib.Core.Path.{_≡_, sym, ap, _∙_, subst}
+use mathlib.Core.Path.{_≡_, sym, ap, subst}
 use mathlib.Core.Bool.{not}
 use mathlib.Core.List.{List, _∷_, _++_}
-use lib.ListN.{length, getD, set, take-append-drop, length-append, length-set, length-map}
+use lib.ListN.{length, getD, set, length-append, length-set, length-map}
 use lib.Seq.{getD-set-other}
 use lib.Dec.{T}
-use Rattle.complex.specs.Lists.{total, holds, places, one, rotated, chosen, distance}
-use Rattle.complex.specs.Cells.{Halfedge, Cycle, lone, path, along, against, stepsOf}
+use Rattle.complex.specs.Lists.{total, holds, places, one, rotated, chosen}
+use Rattle.complex.specs.Cells.{Cycle, lone, path, along, against, stepsOf}
 use Rattle.complex.specs.Sound.{stepCount}
 use Rattle.complex.specs.Cut.{noCycle, stretch, remainder}
 use Rattle.complex.proofs.Split.{length-rotated}
 use Rattle.complex.proofs.Sums.{total-set, total-left, total-but-one, length-left, length-but-one, chosen-set}
+use Rattle.answer.proofs.SizesCut.{parted-length}
 use Rattle.rows_split.specs.Along.{nearSide, farSide, bridge}
 
 steps-few : (k : Cycle) → length (stepsOf k) ≤ stepCount k
 steps-few (lone v) = omega arith
 steps-few (path hs) = omega arith
-
-parted-length : (s t : ℕ) (hs : List Halfedge) → length (stretch s t hs) + length (remainder s t hs) ≡ length hs
-parted-length s t hs =
-    sym (length-append (stretch s t hs) (remainder s t hs)) ∙ ap length (take-append-drop (distance (length hs) s t) (rotated s hs)) ∙ length-rotated s hs
 
 module _ (ks : List Cycle) (e c1 : ℕ) (l1 : c1 < length ks) (s1 s2 : ℕ) where
   abbrev k1 : Cycle

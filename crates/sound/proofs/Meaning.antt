@@ -2,12 +2,11 @@
 use Prim.Native.Nat.{ℕ, zero, suc, _<_}
 use mathlib.Core.Path.{_≡_, refl, ap, ap₂, sym, _∙_}
 use mathlib.Core.List.{List, [], _∷_, map}
-use mathlib.Core.Bool.{Bool, true, false, not, _&&_, cond}
+use mathlib.Core.Bool.{Bool, true, false, _&&_, cond}
 use mathlib.Core.Option.{some}
 use native.Mathlib.Omega.{arith}
 use lib.Dec.{T, eqb, leb, ltb, leb→le, leb·suc-suc}
 use lib.ListN.{length, take, getD}
-use lib.Seq.{getD-take}
 use borrow.Author.Tests.{lt-ltb}
 use Rattle.complex.specs.Lists.{rising}
 use Rattle.complex.specs.Cells.{LiveCell, lookup, someIf, cellAt, ids, isVertex, isOpen, isClosed, isFace, isLive}
@@ -18,12 +17,11 @@ use Rattle.store.specs.declared.Cell.{Cell}
 use Rattle.store.specs.declared.Index.{Index}
 use Rattle.store.specs.Sizes.{Sizes}
 use Rattle.store.specs.View.{sheetOf, Fits, cycleTotal, bendTotal, stepTotal, bendCount, cycleCount}
-use Rattle.store.specs.Places.{entryCell}
 use Rattle.store.specs.Index.{Rising, Indexes, rowOf, kindOf, shapeStart, shapeEnd, valueAt}
 use Rattle.store.proofs.Stands.{stands, count-is, ids-same}
 use Rattle.sound.specs.Soundness.{sumsFit, fitsIn, soundSheet, soundDrawing}
 use Rattle.sound.specs.Looks.{indexValue, Looks}
-use Rattle.sound.proofs.Parts.{is-vertex, is-open, is-closed, is-face, is-live, idRow, kindRow, startRow, endRow, bendRow, cycleRow, kind-row, start-row, end-row, bend-row, cycle-row}
+use Rattle.sound.proofs.Parts.{is-vertex, is-open, is-closed, is-face, idRow, kindRow, startRow, endRow, bendRow, cycleRow, kind-row, start-row, end-row, bend-row, cycle-row}
 
 -- ---- the drawing fits, and its sheet is sound
 pub fits-is : (d : Drawing) → T (fitsIn d) → Fits d
@@ -130,18 +128,7 @@ row-figure (x ∷ xs) i y h = go (eqb (x .id) i) h (row-figure xs i y)
     go true k ih = refl
     go false k ih = ih (omega arith)
 
-head-in : (xs : List LiveCell) (r : ℕ) (c : Cell) (y : LiveCell) → r < length xs → getD (map entryCell xs) r c ≡ entryCell (getD xs r y)
-head-in [] r c y h = absurd (omega arith)
-head-in (x ∷ xs) zero c y h = refl
-head-in (x ∷ xs) (suc r) c y h = head-in xs r c y (omega arith)
-
 module _ (d : Drawing) (z : Sizes d) (f : Fits d) (ix : Index) (x : Indexes d ix) where
-  -- the cell in a row of the drawing is that of the sheet
-  pub cell-in : (r : ℕ) → r < d .count → (c : Cell) (y : LiveCell) → getD (d .cells) r c ≡ entryCell (getD (sheetOf d .cells) r y)
-  cell-in r h c y =
-      let n = count-is d (sheetOf d .cells) (stands d z f) z (f .cells) in
-      sym (getD-take (d .count) (d .cells) r c h) ∙ ap (λ (l : List Cell). getD l r c) (stands d z f .cells) ∙ head-in (sheetOf d .cells) r c y (omega arith)
-
   -- an id has a row if its cell is live
   pub live-row : (i : ℕ) → ltb (rowOf i (take (d .count) (ix .ids))) (d .count) ≡ isLive (cellAt (sheetOf d) i)
   live-row i =
@@ -168,6 +155,3 @@ module _ {d : Drawing} {ix : Index} (k : Looks d ix) (i : ℕ) where
 
   pub face-at : eqb (indexValue 4 d ix (ix .kinds) i) 3 ≡ isFace (cellAt (sheetOf d) i)
   face-at = ap (λ (n : ℕ). eqb n 3) (k .kinds i) ∙ is-face (cellAt (sheetOf d) i)
-
-  pub live-at : not (eqb (indexValue 4 d ix (ix .kinds) i) 4) ≡ isLive (cellAt (sheetOf d) i)
-  live-at = ap (λ (n : ℕ). not (eqb n 4)) (k .kinds i) ∙ is-live (cellAt (sheetOf d) i)

@@ -12,7 +12,7 @@ use Rattle.number.specs.Readers.{spread}
 use Rattle.coordinate.specs.declared.Position.{Position}
 use Rattle.coordinate.specs.Bounds.{within}
 use Rattle.complex.specs.Lists.{all, isEmpty}
-use Rattle.complex.specs.Cells.{Figure, vertex, openEdge, closedEdge, face, LiveCell, lookup, someIf, isVertex, isOpen, isClosed, isFace, isLive, startOf, endOf, bendsOf, cyclesOf}
+use Rattle.complex.specs.Cells.{Figure, vertex, openEdge, closedEdge, face, LiveCell, lookup, someIf, isVertex, isOpen, isClosed, isFace, startOf, endOf, bendsOf, cyclesOf}
 use Rattle.complex.specs.Sound.{cycleOk, figureOk, figuresOk}
 use Rattle.store.specs.declared.Shape.{Shape}
 use Rattle.store.specs.declared.Cell.{Cell}
@@ -70,71 +70,35 @@ module _ (g : Option Figure → ℕ) (f : Shape → ℕ) (z : ℕ) (e : g none �
       go true k = sym (h (x .figure))
       go false k = k
 
-kind-same : (s : Figure) → kindNumber (some s) ≡ kindOf (shapeOf s)
-kind-same (vertex p) = refl
-kind-same (openEdge a b bs) = refl
-kind-same (closedEdge bs) = refl
-kind-same (face ks) = refl
-
-start-same : (s : Figure) → startOf (some s) ≡ shapeStart (shapeOf s)
-start-same (vertex p) = refl
-start-same (openEdge a b bs) = refl
-start-same (closedEdge bs) = refl
-start-same (face ks) = refl
-
-end-same : (s : Figure) → endOf (some s) ≡ shapeEnd (shapeOf s)
-end-same (vertex p) = refl
-end-same (openEdge a b bs) = refl
-end-same (closedEdge bs) = refl
-end-same (face ks) = refl
-
-bends-same : (s : Figure) → length (bendsOf (some s)) ≡ bendCount (shapeOf s)
-bends-same (vertex p) = refl
-bends-same (openEdge a b bs) = refl
-bends-same (closedEdge bs) = refl
-bends-same (face ks) = refl
-
-cycles-same : (s : Figure) → length (cyclesOf (some s)) ≡ cycleCount (shapeOf s)
-cycles-same (vertex p) = refl
-cycles-same (openEdge a b bs) = refl
-cycles-same (closedEdge bs) = refl
-cycles-same (face ks) = refl
+-- what stands in the rows of a figure
+same : (s : Figure) → (kindNumber (some s) ≡ kindOf (shapeOf s)) × (startOf (some s) ≡ shapeStart (shapeOf s)) × (endOf (some s) ≡ shapeEnd (shapeOf s))
+    × (length (bendsOf (some s)) ≡ bendCount (shapeOf s)) × (length (cyclesOf (some s)) ≡ cycleCount (shapeOf s))
+same (vertex p) = (refl, refl, refl, refl, refl)
+same (openEdge a b bs) = (refl, refl, refl, refl, refl)
+same (closedEdge bs) = (refl, refl, refl, refl, refl)
+same (face ks) = (refl, refl, refl, refl, refl)
 
 -- the kind by number, and by name
-pub is-vertex : (o : Option Figure) → eqb (kindNumber o) 0 ≡ isVertex o
-is-vertex none = refl
-is-vertex (some (vertex p)) = refl
-is-vertex (some (openEdge a b bs)) = refl
-is-vertex (some (closedEdge bs)) = refl
-is-vertex (some (face ks)) = refl
+named : (o : Option Figure) → (eqb (kindNumber o) 0 ≡ isVertex o) × (eqb (kindNumber o) 1 ≡ isOpen o)
+    × (eqb (kindNumber o) 2 ≡ isClosed o) × (eqb (kindNumber o) 3 ≡ isFace o)
+named none = (refl, refl, refl, refl)
+named (some (vertex p)) = (refl, refl, refl, refl)
+named (some (openEdge a b bs)) = (refl, refl, refl, refl)
+named (some (closedEdge bs)) = (refl, refl, refl, refl)
+named (some (face ks)) = (refl, refl, refl, refl)
 
-pub is-open : (o : Option Figure) → eqb (kindNumber o) 1 ≡ isOpen o
-is-open none = refl
-is-open (some (vertex p)) = refl
-is-open (some (openEdge a b bs)) = refl
-is-open (some (closedEdge bs)) = refl
-is-open (some (face ks)) = refl
+module _ (o : Option Figure) where
+  pub is-vertex : eqb (kindNumber o) 0 ≡ isVertex o
+  is-vertex = named o .0
 
-pub is-closed : (o : Option Figure) → eqb (kindNumber o) 2 ≡ isClosed o
-is-closed none = refl
-is-closed (some (vertex p)) = refl
-is-closed (some (openEdge a b bs)) = refl
-is-closed (some (closedEdge bs)) = refl
-is-closed (some (face ks)) = refl
+  pub is-open : eqb (kindNumber o) 1 ≡ isOpen o
+  is-open = named o .1
 
-pub is-face : (o : Option Figure) → eqb (kindNumber o) 3 ≡ isFace o
-is-face none = refl
-is-face (some (vertex p)) = refl
-is-face (some (openEdge a b bs)) = refl
-is-face (some (closedEdge bs)) = refl
-is-face (some (face ks)) = refl
+  pub is-closed : eqb (kindNumber o) 2 ≡ isClosed o
+  is-closed = named o .2
 
-pub is-live : (o : Option Figure) → not (eqb (kindNumber o) 4) ≡ isLive o
-is-live none = refl
-is-live (some (vertex p)) = refl
-is-live (some (openEdge a b bs)) = refl
-is-live (some (closedEdge bs)) = refl
-is-live (some (face ks)) = refl
+  pub is-face : eqb (kindNumber o) 3 ≡ isFace o
+  is-face = named o .3
 
 module _ (xs : List LiveCell) where
   abbrev pub idRow : List ℕ
@@ -156,19 +120,19 @@ module _ (xs : List LiveCell) where
   cycleRow = map (λ (c : Cell). cycleCount (c .shape)) (map entryCell xs)
 
   pub kind-row : (i : ℕ) → valueAt 4 idRow kindRow i ≡ kindNumber (lookup xs i)
-  kind-row i = lookup-row kindNumber kindOf 4 refl kind-same xs i
+  kind-row i = lookup-row kindNumber kindOf 4 refl (λ s. same s .0) xs i
 
   pub start-row : (i : ℕ) → valueAt 0 idRow startRow i ≡ startOf (lookup xs i)
-  start-row i = lookup-row startOf shapeStart 0 refl start-same xs i
+  start-row i = lookup-row startOf shapeStart 0 refl (λ s. same s .1) xs i
 
   pub end-row : (i : ℕ) → valueAt 0 idRow endRow i ≡ endOf (lookup xs i)
-  end-row i = lookup-row endOf shapeEnd 0 refl end-same xs i
+  end-row i = lookup-row endOf shapeEnd 0 refl (λ s. same s .2) xs i
 
   pub bend-row : (i : ℕ) → valueAt 0 idRow bendRow i ≡ length (bendsOf (lookup xs i))
-  bend-row i = lookup-row (λ (o : Option Figure). length (bendsOf o)) bendCount 0 refl bends-same xs i
+  bend-row i = lookup-row (λ (o : Option Figure). length (bendsOf o)) bendCount 0 refl (λ s. same s .3) xs i
 
   pub cycle-row : (i : ℕ) → valueAt 0 idRow cycleRow i ≡ length (cyclesOf (lookup xs i))
-  cycle-row i = lookup-row (λ (o : Option Figure). length (cyclesOf o)) cycleCount 0 refl cycles-same xs i
+  cycle-row i = lookup-row (λ (o : Option Figure). length (cyclesOf o)) cycleCount 0 refl (λ s. same s .4) xs i
 
   pub vertex-row : (i : ℕ) → isVertexIn idRow kindRow i ≡ isVertex (lookup xs i)
   vertex-row i = ap (λ (k : ℕ). eqb k 0) (kind-row i) ∙ is-vertex (lookup xs i)

@@ -5,11 +5,9 @@ use mathlib.Core.List.{List, [], _∷_, map}
 use mathlib.Core.Bool.{Bool, true, false, _&&_}
 use native.Mathlib.Omega.{arith}
 use native.Mathlib.Numerals.{add-one}
-use lib.Dec.{ltb}
 use lib.ListN.{length, take, drop, getD}
 use lib.Seq.{drop-cons, drop-length, getD-take, length-take-le}
-use borrow.Author.Tests.{lt-ltb, le-ltb}
-use Rattle.complex.specs.Lists.{all, rising}
+use Rattle.complex.specs.Lists.{all}
 use Rattle.sound.specs.Rows.{allFrom}
 
 pub and-true : {a : Bool} (b : Bool) → a ≡ true → a && b ≡ b
@@ -49,24 +47,6 @@ module _ {A : Type 0} where
     pub testing-end : (i : ℕ) → n ≤ length l → i ≡ n → Testing i → all p (take n l) ≡ true
     testing-end i h e t = t .rest ∙ ap (all p) (left-none l n i h e)
 
--- ---- ids that rise
-module _ (l : List ℕ) (n hi : ℕ) where
-  pub record Climbing (last i : ℕ) : Type 0 where
-    pub rest : rising 0 (take n l) hi ≡ rising last (drop i (take n l)) hi
-
-  module _ (last i : ℕ) (h : n ≤ length l) (k : i < n) (t : Climbing last i) where
-    next : rising 0 (take n l) hi ≡ ltb last (getD l i 0) && rising (getD l i 0) (drop (i + 1) (take n l)) hi
-    next = t .rest ∙ ap (λ (x : List ℕ). rising last x hi) (left-cons l n i 0 h k)
-
-    pub climbing-turn : last < getD l i 0 → Climbing (getD l i 0) (i + 1)
-    climbing-turn e = record { rest = next ∙ and-true _ (lt-ltb last (getD l i 0) e) }
-
-    pub climbing-fail : getD l i 0 ≤ last → false ≡ rising 0 (take n l) hi
-    climbing-fail e = sym (next ∙ and-false _ (le-ltb last (getD l i 0) e))
-
-  pub climbing-end : (last i : ℕ) → n ≤ length l → i ≡ n → Climbing last i → ltb last hi ≡ rising 0 (take n l) hi
-  climbing-end last i h e t = sym (t .rest ∙ ap (λ (x : List ℕ). rising last x hi) (left-none l n i h e))
-
 -- ---- rows by number
 module _ (p : ℕ → Bool) (n : ℕ) where
   pub record Counting (i : ℕ) : Type 0 where
@@ -90,7 +70,7 @@ module _ (p : ℕ → Bool) (n : ℕ) where
   pub counting-end : (i : ℕ) → i ≡ n → Counting i → true ≡ allFrom p 0 n
   counting-end i e t = let z : n - i ≡ 0 = omega arith in sym (t .rest ∙ ap (allFrom p i) z)
 
-shifted : (p : ℕ → Bool) (i m : ℕ) → allFrom p (suc i) m ≡ allFrom (λ (j : ℕ). p (suc j)) i m
+pub shifted : (p : ℕ → Bool) (i m : ℕ) → allFrom p (suc i) m ≡ allFrom (λ (j : ℕ). p (suc j)) i m
 shifted p i zero = refl
 shifted p i (suc m) = ap (λ (b : Bool). p (suc i) && b) (shifted p (suc i) m)
 

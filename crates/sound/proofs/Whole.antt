@@ -1,17 +1,17 @@
 -- The tests together: a drawing that fits is sound as its sheet is. Assumes nothing.
-use Prim.Native.Nat.{ℕ, _+_}
+use Prim.Native.Nat.{ℕ}
 use mathlib.Core.Path.{_≡_, refl, ap, ap₂, sym, _∙_}
-use mathlib.Core.List.{List, [], _∷_, map}
+use mathlib.Core.List.{List, map}
 use mathlib.Core.Bool.{Bool, true, false, _&&_}
 use native.Mathlib.Omega.{arith}
 use lib.Dec.{leb}
-use lib.ListN.{length, take, length-append, length-map}
+use lib.ListN.{length, take}
 use lib.Seq.{length-take-le}
 use borrow.Author.Tests.{le-leb}
 use Rattle.number.specs.Readers.{spread}
 use Rattle.coordinate.specs.Bounds.{within}
-use Rattle.complex.specs.Lists.{all, rising, total}
-use Rattle.complex.specs.Cells.{Cycle, lone, path, Figure, vertex, openEdge, closedEdge, face, LiveCell, lookup}
+use Rattle.complex.specs.Lists.{all, rising}
+use Rattle.complex.specs.Cells.{lookup}
 use Rattle.complex.specs.Sound.{cycleOk, figuresOk, ceilings, over, sound, cellsMost, cyclesMost, stepsMost, bendsMost, idsEnd}
 use Rattle.complex.specs.Sound as sounds
 use Rattle.store.specs.declared.Drawing.{Drawing}
@@ -19,9 +19,9 @@ use Rattle.store.specs.declared.Index.{Index}
 use Rattle.store.specs.Sizes.{Sizes}
 use Rattle.store.specs.View.{sheetOf, Fits, bendCount, cycleTotal, bendTotal}
 use Rattle.store.specs.declared.Cell.{Cell}
-use Rattle.store.specs.Places.{word, entryCell, figureCycles, figureBends, cycleWords, entryCycles, entryBends}
+use Rattle.store.specs.Places.{entryCell, entryCycles, entryBends}
 use Rattle.store.specs.Index.{Indexes, kindOf, shapeStart, shapeEnd}
-use Rattle.store.proofs.Encode.{flat-append}
+use Rattle.store.proofs.Ceilings.{over-cycles, over-steps, over-bends}
 use Rattle.store.proofs.Stands.{stands, used-cycles, bend-total, cycle-total, step-total, count-is, ids-same}
 use Rattle.sound.specs.Soundness.{soundSheet, cellPlaced, allPlaced}
 use Rattle.sound.specs.Rows.{Rows, rowsOf, edgeGood, rowGood, allFrom, cyclesGood, numbersGood}
@@ -31,52 +31,15 @@ use Rattle.sound.proofs.Rings.{cellRows, cycles-right}
 use Rattle.sound.proofs.Meaning.{ids-are, kinds-are, starts-are, ends-are, bends-are}
 
 -- ---- a drawing that fits keeps the ceilings
-cycles-over : (ys : List LiveCell) → over sounds.cyclesIn ys ≡ length (spread entryCycles ys)
-cycles-over [] = refl
-cycles-over (y ∷ ys) = ap₂ _+_ (go (y .figure)) (cycles-over ys) ∙ sym (length-append (entryCycles y) (spread entryCycles ys))
-  where
-    go : (s : Figure) → sounds.cyclesIn s ≡ length (figureCycles s)
-    go (vertex p) = refl
-    go (openEdge a b bs) = refl
-    go (closedEdge bs) = refl
-    go (face ks) = refl
-
-bends-over : (ys : List LiveCell) → over sounds.bendsIn ys ≡ length (spread entryBends ys)
-bends-over [] = refl
-bends-over (y ∷ ys) = ap₂ _+_ (go (y .figure)) (bends-over ys) ∙ sym (length-append (entryBends y) (spread entryBends ys))
-  where
-    go : (s : Figure) → sounds.bendsIn s ≡ length (figureBends s)
-    go (vertex p) = refl
-    go (openEdge a b bs) = refl
-    go (closedEdge bs) = refl
-    go (face ks) = refl
-
-steps-of : (ks : List Cycle) → total sounds.stepCount ks ≡ length (spread cycleWords ks)
-steps-of [] = refl
-steps-of (lone v ∷ ks) = let e = steps-of ks in omega arith
-steps-of (path hs ∷ ks) = ap₂ _+_ (sym (length-map hs word)) (steps-of ks) ∙ sym (length-append (map word hs) (spread cycleWords ks))
-
-steps-over : (ys : List LiveCell) → over sounds.stepsIn ys ≡ length (spread cycleWords (spread entryCycles ys))
-steps-over [] = refl
-steps-over (y ∷ ys) =
-    ap₂ _+_ (go (y .figure)) (steps-over ys)
-    ∙ sym (ap length (flat-append cycleWords (entryCycles y) (spread entryCycles ys)) ∙ length-append (spread cycleWords (entryCycles y)) (spread cycleWords (spread entryCycles ys)))
-  where
-    go : (s : Figure) → sounds.stepsIn s ≡ length (spread cycleWords (figureCycles s))
-    go (vertex p) = refl
-    go (openEdge a b bs) = refl
-    go (closedEdge bs) = refl
-    go (face ks) = steps-of ks
-
 module _ (d : Drawing) (z : Sizes d) (f : Fits d) where
   in-ceilings : ceilings (sheetOf d .cells) ≡ true
   in-ceilings =
       let xs = sheetOf d .cells in
       let s = stands d z f in
       and-true _ (le-leb (length xs) cellsMost (omega (arith, count-is d xs s z (f .cells), f .cells)))
-      ∙ and-true _ (le-leb (over sounds.cyclesIn xs) cyclesMost (omega (arith, cycles-over xs, cycle-total d xs s, f .cycles)))
-      ∙ and-true _ (le-leb (over sounds.stepsIn xs) stepsMost (omega (arith, steps-over xs, step-total d xs s, f .steps)))
-      ∙ le-leb (over sounds.bendsIn xs) bendsMost (omega (arith, bends-over xs, bend-total d xs s, f .bends))
+      ∙ and-true _ (le-leb (over sounds.cyclesIn xs) cyclesMost (omega (arith, over-cycles xs, cycle-total d xs s, f .cycles)))
+      ∙ and-true _ (le-leb (over sounds.stepsIn xs) stepsMost (omega (arith, over-steps xs, step-total d xs s, f .steps)))
+      ∙ le-leb (over sounds.bendsIn xs) bendsMost (omega (arith, over-bends xs, bend-total d xs s, f .bends))
 
 -- ---- the sheet's tests are those of the arrays
 regroup : (r l p e b c : Bool) → r && (l && ((p && e) && (b && c))) ≡ (l && (r && (e && c))) && (p && b)

@@ -114,28 +114,25 @@ heads (c ∷ cs) ks bs h g =
     (figure-shape (c .shape) ks bs (omega arith) (omega arith))
     (heads cs (drop (cycleCount (c .shape)) ks) (drop (bendCount (c .shape)) bs) (simp length-drop (omega arith)) (simp length-drop (omega arith)))
 
-figure-cycles : (s : Shape) (ks : List Cycle) (bs : List Position) → figureCycles (figureOf s ks bs) ≡ take (cycleCount s) ks
-figure-cycles (Vertex p) ks bs = refl
-figure-cycles (Open s e n) ks bs = refl
-figure-cycles (Closed n) ks bs = refl
-figure-cycles (Face k) ks bs = refl
+figure-parts : (s : Shape) (ks : List Cycle) (bs : List Position)
+    → (figureCycles (figureOf s ks bs) ≡ take (cycleCount s) ks) × (figureBends (figureOf s ks bs) ≡ take (bendCount s) bs)
+figure-parts (Vertex p) ks bs = (refl, refl)
+figure-parts (Open s e n) ks bs = (refl, refl)
+figure-parts (Closed n) ks bs = (refl, refl)
+figure-parts (Face k) ks bs = (refl, refl)
 
 pub cycles-of-cells : (cs : List Cell) (ks : List Cycle) (bs : List Position) → spread entryCycles (cellsOf cs ks bs) ≡ take (cycleSum cs) ks
 cycles-of-cells [] ks bs = refl
 cycles-of-cells (c ∷ cs) ks bs =
-    ap₂ (λ (x xs : List Cycle). x ++ xs) (figure-cycles (c .shape) ks bs) (cycles-of-cells cs (drop (cycleCount (c .shape)) ks) (drop (bendCount (c .shape)) bs))
+    ap₂ (λ (x xs : List Cycle). x ++ xs) (figure-parts (c .shape) ks bs .0)
+    (cycles-of-cells cs (drop (cycleCount (c .shape)) ks) (drop (bendCount (c .shape)) bs))
     ∙ sym (take-add (cycleCount (c .shape)) (cycleSum cs) ks)
-
-figure-bends : (s : Shape) (ks : List Cycle) (bs : List Position) → figureBends (figureOf s ks bs) ≡ take (bendCount s) bs
-figure-bends (Vertex p) ks bs = refl
-figure-bends (Open s e n) ks bs = refl
-figure-bends (Closed n) ks bs = refl
-figure-bends (Face k) ks bs = refl
 
 pub bends-of-cells : (cs : List Cell) (ks : List Cycle) (bs : List Position) → spread entryBends (cellsOf cs ks bs) ≡ take (bendSum cs) bs
 bends-of-cells [] ks bs = refl
 bends-of-cells (c ∷ cs) ks bs =
-    ap₂ (λ (x xs : List Position). x ++ xs) (figure-bends (c .shape) ks bs) (bends-of-cells cs (drop (cycleCount (c .shape)) ks) (drop (bendCount (c .shape)) bs))
+    ap₂ (λ (x xs : List Position). x ++ xs) (figure-parts (c .shape) ks bs .1)
+    (bends-of-cells cs (drop (cycleCount (c .shape)) ks) (drop (bendCount (c .shape)) bs))
     ∙ sym (take-add (bendCount (c .shape)) (bendSum cs) bs)
 
 -- cells put into arrays, and viewed again
@@ -186,25 +183,19 @@ cells-back (x ∷ xs) ks bs =
     ∙ ap (λ (r : List Entry). x ∷ r) (cells-back xs ks bs)
 
 -- the sums are the lengths
-cycle-count : (f : Figure) → cycleCount (shapeOf f) ≡ length (figureCycles f)
-cycle-count (vertex p) = refl
-cycle-count (openEdge s e b) = refl
-cycle-count (closedEdge b) = refl
-cycle-count (face k) = refl
-
-bend-count : (f : Figure) → bendCount (shapeOf f) ≡ length (figureBends f)
-bend-count (vertex p) = refl
-bend-count (openEdge s e b) = refl
-bend-count (closedEdge b) = refl
-bend-count (face k) = refl
+counts : (f : Figure) → (cycleCount (shapeOf f) ≡ length (figureCycles f)) × (bendCount (shapeOf f) ≡ length (figureBends f))
+counts (vertex p) = (refl, refl)
+counts (openEdge s e b) = (refl, refl)
+counts (closedEdge b) = (refl, refl)
+counts (face k) = (refl, refl)
 
 pub cycle-sum : (xs : List Entry) → cycleSum (map entryCell xs) ≡ length (spread entryCycles xs)
 cycle-sum [] = refl
-cycle-sum (x ∷ xs) = ap₂ _+_ (cycle-count (x .figure)) (cycle-sum xs) ∙ sym (length-append (entryCycles x) (spread entryCycles xs))
+cycle-sum (x ∷ xs) = ap₂ _+_ (counts (x .figure) .0) (cycle-sum xs) ∙ sym (length-append (entryCycles x) (spread entryCycles xs))
 
 pub bend-sum : (xs : List Entry) → bendSum (map entryCell xs) ≡ length (spread entryBends xs)
 bend-sum [] = refl
-bend-sum (x ∷ xs) = ap₂ _+_ (bend-count (x .figure)) (bend-sum xs) ∙ sym (length-append (entryBends x) (spread entryBends xs))
+bend-sum (x ∷ xs) = ap₂ _+_ (counts (x .figure) .1) (bend-sum xs) ∙ sym (length-append (entryBends x) (spread entryBends xs))
 
 pub width-sum : (ks : List Cycle) → allReal ks ≡ true → widthSum (map numOf ks) ≡ length (spread cycleWords ks)
 width-sum [] h = refl

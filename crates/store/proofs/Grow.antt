@@ -15,7 +15,7 @@ use Rattle.store.specs.Sizes.{Sizes}
 use Rattle.complex.specs.Cells.{Cycle, LiveCell as Entry, Figure, Sheet}
 use Rattle.store.specs.Sheet.{real, allReal}
 use Rattle.store.specs.View.{sheetOf, Fits, cycleTotal, bendTotal, stepTotal}
-use Rattle.store.specs.Edits.{appended, withCells}
+use Rattle.store.specs.Edits.{appended}
 use Rattle.store.proofs.Lists.{map-append}
 use Rattle.store.specs.Places.{shapeOf, entryCell, figureCycles, figureBends, entryCycles, entryBends, numOf, cycleWords}
 use Rattle.number.specs.Readers.{spread}
@@ -31,9 +31,6 @@ unfolding sheetOf
 next-is d = refl
 
 module _ {A : Type 0} where
-  pub begins-same : {l x : List A} (l′ : List A) (n : ℕ) → n ≡ length x → take n l′ ≡ take n l → Begins l x → Begins l′ x
-  begins-same {l} {x} l′ n e g b = record { front = ap (λ (k : ℕ). take k l′) (sym e) ∙ g ∙ begins-take n (sym e) b }
-
   -- what follows a front
   pub begins-more : {l x : List A} (l′ y : List A) (n : ℕ) → n ≡ length x → n + length y ≤ length l′ → take (n + length y) l′ ≡ take n l ++ y → Begins l x → Begins l′ (x ++ y)
   begins-more {l} {x} l′ y n e h g b = take-begins (n + length y) h (g ∙ ap (λ (r : List A). r ++ y) (begins-take n (sym e) b))
@@ -51,22 +48,6 @@ real-append (k ∷ ks) ls h g = go (real k) (allReal ks) h (real-append ks ls)
     go : (a b : Bool) → (a && b) ≡ true → (b ≡ true → allReal ls ≡ true → allReal (ks ++ ls) ≡ true) → (a && allReal (ks ++ ls)) ≡ true
     go true b e ih = ih e g
     go false b e ih = e
-
--- the view depends on the places in use alone
-module _ (d r : Drawing) (z : Sizes d) (f : Fits d) where
-  pub frame : r .next ≡ d .next → take (r .count) (r .cells) ≡ take (d .count) (d .cells) → take (cycleTotal d) (r .cycles) ≡ take (cycleTotal d) (d .cycles)
-      → take (stepTotal d) (r .steps) ≡ take (stepTotal d) (d .steps) → take (bendTotal d) (r .bends) ≡ take (bendTotal d) (d .bends) → sheetOf r ≡ sheetOf d
-  frame n c k t b =
-      let xs = sheetOf d .cells in
-      let s = stands d z f in
-      sheet-is r (sheetOf d) (n ∙ sym (next-is d))
-      (viewed r xs (record {
-        cells = c ∙ s .cells;
-        cycles = begins-same (r .cycles) (cycleTotal d) (cycle-total d xs s ∙ sym (length-map (spread entryCycles xs) numOf)) k (s .cycles);
-        steps = begins-same (r .steps) (stepTotal d) (step-total d xs s) t (s .steps);
-        bends = begins-same (r .bends) (bendTotal d) (bend-total d xs s) b (s .bends);
-        real = s .real;
-      }))
 
 -- the drawing d with a cell put after its own, and other pools
 abbrev pub grown : Drawing → Figure → List ℕ → List ℕ → List Position → Drawing
@@ -126,9 +107,3 @@ module _ (d : Drawing) (z : Sizes d) (f : Fits d) (h : d .count < 256) (x : Figu
       (rw e (omega (arith, f .cycles))) (rw e (no-more (d .cycles) (cycleTotal d)))
       (rw e (omega (arith, f .steps))) (rw e (no-more (d .steps) (stepTotal d)))
       hb b (ap allReal e)
-
--- other cells in a drawing that has other cells already
-pub cells-alone : (d out out′ : Drawing) (l : List Cell) → out ≡ withCells d (d .next) (d .count) (out .cells) → out′ ≡ withCells out (out .next) (out .count) l
-    → out′ ≡ withCells d (d .next) (d .count) (out′ .cells)
-cells-alone d out out′ l e f =
-    f ∙ ap (λ (q : Drawing). withCells q (q .next) (q .count) l) e ∙ ap (λ (q : Drawing). withCells d (d .next) (d .count) (q .cells)) (sym f)

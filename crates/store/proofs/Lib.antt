@@ -1,5 +1,6 @@
 pub mod Lists
 pub mod Encode
+pub mod Ceilings
 pub mod Stands
 pub mod Sizes
 pub mod Grow

@@ -5,8 +5,8 @@ use mathlib.Core.List.{List, [], _∷_, _++_, map, append-assoc, append-nil}
 use mathlib.Core.Bool.{Bool, true, false, cond}
 use native.Mathlib.Omega.{arith}
 use native.Mathlib.Numerals.{add-one}
-use lib.ListN.{length, take, drop, set, getD, replicate, length-set, length-replicate, length-drop}
-use lib.Seq.{take-suc, take-add, take-all, take-suc-set, length-take-le, getD-drop, drop-drop, drop-set-lt, paste, take-paste, length-paste}
+use lib.ListN.{length, take, drop, set, getD, replicate, length-replicate, length-drop}
+use lib.Seq.{take-suc, take-add, take-all, take-suc-set, length-take-le, paste, take-paste, length-paste}
 use Rattle.complex.specs.Lists.{total, isEmpty}
 use Rattle.store.specs.View.{width, widthSum}
 use Rattle.store.specs.Edits.{kept, placesOf, spreadFlags, zipped, Compacted}
@@ -99,29 +99,6 @@ module _ (f : Bool → ℕ → ℕ) where
   zipped-append [] ms′ (n ∷ ns) ns′ h = absurd (omega arith)
   zipped-append (m ∷ ms) ms′ [] ns′ h = absurd (omega arith)
   zipped-append (m ∷ ms) ms′ (n ∷ ns) ns′ h = ap (λ (r : List ℕ). f m n ∷ r) (zipped-append ms ms′ ns ns′ (omega arith))
-
-  -- the first i places of l are f of those of l₀ and their flags, and the others are as they were
-  pub record Zipping (flags : List Bool) (l₀ : List ℕ) (i : ℕ) (l : List ℕ) : Type 0 where
-    pub size : length l ≡ length l₀
-    pub rest : drop i l ≡ drop i l₀
-    pub front : take i l ≡ zipped f (take i flags) (take i l₀)
-
-  pub zipping-turn : (flags : List Bool) (l₀ : List ℕ) (i : ℕ) (l : List ℕ) (v : ℕ) (y : Bool) → i < length flags → i < length l₀ → v ≡ f (getD flags i y) (getD l i 0)
-      → Zipping flags l₀ i l → Zipping flags l₀ (i + 1) (set l i v)
-  zipping-turn flags l₀ i l v y hf hl e p =
-      let s = p .size in
-      let same : getD l i 0 ≡ getD l₀ i 0 =
-      ap (λ (n : ℕ). getD l n 0) (omega arith) ∙ sym (getD-drop i l 0 0) ∙ ap (λ (q : List ℕ). getD q 0 0) (p .rest) ∙ getD-drop i l₀ 0 0 ∙ ap (λ (n : ℕ). getD l₀ n 0) (omega arith)
-      in
-      record {
-        size = length-set l i v ∙ p .size;
-        rest = drop-set-lt (i + 1) l i v (omega arith) ∙ sym (drop-drop 1 i l) ∙ ap (drop 1) (p .rest) ∙ drop-drop 1 i l₀;
-        front =
-            ap (λ (n : ℕ). take n (set l i v)) (add-one i) ∙ take-suc-set l i v (omega arith)
-            ∙ ap₂ (λ (x : List ℕ) (w : ℕ). x ++ (w ∷ [])) (p .front) (e ∙ ap (f (getD flags i y)) same)
-            ∙ sym (rw (add-one, take-suc flags i y hf, take-suc l₀ i 0 hl)
-            (zipped-append (take i flags) (getD flags i y ∷ []) (take i l₀) (getD l₀ i 0 ∷ []) (length-take-le i flags (omega arith) ∙ sym (length-take-le i l₀ (omega arith)))));
-      }
 
 -- ---- the places that a count stands for
 pub places-none : (n : ℕ) → placesOf 0 n ≡ n

@@ -5,7 +5,7 @@ use mathlib.Core.List.{List, [], _∷_, _++_, map}
 use mathlib.Core.Bool.{true}
 use native.Mathlib.Omega.{arith}
 use lib.ListN.{length, take, drop, length-map, length-take, take-append-drop}
-use lib.Seq.{length-take-le, take-at}
+use lib.Seq.{length-take-le}
 use Rattle.coordinate.specs.declared.Position.{Position}
 use Rattle.store.specs.declared.Cell.{Cell}
 use Rattle.store.specs.declared.Drawing.{Drawing}
@@ -27,9 +27,6 @@ module _ {A : Type 0} where
 
   pub begins-length : {l x : List A} → Begins l x → length x ≤ length l
   begins-length {l} {x} b = let e : length (take (length x) l) ≡ length x = ap length (b .front) in let g = length-take (length x) l in omega arith
-
-  pub begins-front : (x r : List A) → Begins (x ++ r) x
-  begins-front x r = record { front = take-at x r (length x) refl }
 
   pub take-begins : {l x : List A} (n : ℕ) → n ≤ length l → take n l ≡ x → Begins l x
   take-begins {l} {x} n h e = record { front = ap (λ (k : ℕ). take k l) (sym (ap length e) ∙ length-take-le n l h) ∙ e }

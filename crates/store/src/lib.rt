@@ -37,13 +37,9 @@ pub fn bend_count(s: Shape) -> u32
 {
     match s {
         Shape::Vertex(_) => 0,
-        Shape::Open {
-            start: _,
-            end: _,
-            bends,
-        } => bends,
+        Shape::Open { bends, .. } => bends,
         Shape::Closed { bends } => bends,
-        Shape::Face { cycles: _ } => 0,
+        Shape::Face { .. } => 0,
     }
 }
 
@@ -59,12 +55,8 @@ pub fn cycle_count(s: Shape) -> u32
 {
     match s {
         Shape::Vertex(_) => 0,
-        Shape::Open {
-            start: _,
-            end: _,
-            bends: _,
-        } => 0,
-        Shape::Closed { bends: _ } => 0,
+        Shape::Open { .. } => 0,
+        Shape::Closed { .. } => 0,
         Shape::Face { cycles } => cycles,
     }
 }
@@ -120,13 +112,9 @@ pub fn kind_of(s: Shape) -> u32
 {
     match s {
         Shape::Vertex(_) => 0,
-        Shape::Open {
-            start: _,
-            end: _,
-            bends: _,
-        } => 1,
-        Shape::Closed { bends: _ } => 2,
-        Shape::Face { cycles: _ } => 3,
+        Shape::Open { .. } => 1,
+        Shape::Closed { .. } => 2,
+        Shape::Face { .. } => 3,
     }
 }
 
@@ -136,13 +124,9 @@ pub fn start_of(s: Shape) -> u32
 {
     match s {
         Shape::Vertex(_) => 0,
-        Shape::Open {
-            start,
-            end: _,
-            bends: _,
-        } => start,
-        Shape::Closed { bends: _ } => 0,
-        Shape::Face { cycles: _ } => 0,
+        Shape::Open { start, .. } => start,
+        Shape::Closed { .. } => 0,
+        Shape::Face { .. } => 0,
     }
 }
 
@@ -152,13 +136,9 @@ pub fn end_of(s: Shape) -> u32
 {
     match s {
         Shape::Vertex(_) => 0,
-        Shape::Open {
-            start: _,
-            end,
-            bends: _,
-        } => end,
-        Shape::Closed { bends: _ } => 0,
-        Shape::Face { cycles: _ } => 0,
+        Shape::Open { end, .. } => end,
+        Shape::Closed { .. } => 0,
+        Shape::Face { .. } => 0,
     }
 }
 
