@@ -42,7 +42,7 @@ use Rattle.lent.proofs.Held.{held-sizes, positions-length as places-length}
 use Rattle.call_load.specs.declared.Counts.{Counts}
 use Rattle.call_load.specs.declared.Counts.the-variants.{From, Refused as Unread}
 use Rattle.call_load.specs.Loads.{acrossWith, upWith, RowPut, PartsPut, PartsStored, LoadRoom}
-use Rattle.call_load.specs.Loads.{answerOf, CellsHeld, CellsTold, CountsIn, CountsRead, SheetIn}
+use Rattle.call_load.specs.Loads.{answerOf, CellsHeld, CountsIn, CountsRead, SheetIn}
 use Rattle.call_load.proofs.Rows.{shape-long, shape-held, shape-normal}
 
 -- ---- the bends and the cycles of a shape
@@ -67,11 +67,6 @@ module _ (s : List ℕ) (first : ℕ) (x : Shape) (counts steps : List ℕ) (use
 
     pub bends-room : used .bends + k ≤ 2048
     bends-room = omega (arith, e, P .room)
-
--- the bends as the shape counts them
-pub bends-as : (s : List ℕ) (first : ℕ) (x : Shape) (xs ys : List Float) (u : ℕ) (xs′ ys′ : List Float) (k : ℕ) → k ≡ bendCount x
-    → BendsPut xs ys u (positionsAt s first k) k xs′ ys′ → BendsPut xs ys u (positionsAt s first (bendCount x)) (bendCount x) xs′ ys′
-bends-as s first x xs ys u xs′ ys′ k e = subst (λ (n : ℕ). BendsPut xs ys u (positionsAt s first n) n xs′ ys′) e
 
 -- the places in use with bends put after them
 pub bends-after : (xs ys : List Float) (u b : ℕ) (bs : List Position) (xs′ ys′ : List Float) → length xs ≡ 2048 → length ys ≡ 2048
@@ -315,12 +310,6 @@ module _ (s : List ℕ) (r : Counts) (c : CountsRead s r) where
 
   pub counts-none : r ≡ Unread → readFile s ≡ refused
   counts-none e = subst (CountsRead s) e c
-
-pub told-yes : (q : Read (List LiveCell)) (b : ℕ → Arrays) (r : Bool) → CellsTold q b r → r ≡ true → CellsHeld q b
-told-yes q b r t e = subst (CellsTold q b) e t
-
-pub told-no : (q : Read (List LiveCell)) (b : ℕ → Arrays) (r : Bool) → CellsTold q b r → r ≡ false → CellsOver q
-told-no q b r t e = subst (CellsTold q b) e t
 
 module _ (s t : List ℕ) (next : ℕ) (e : readNumber s ≡ got next t) (n : ℕ) (u : List ℕ) (f : readNumber t ≡ got n u) where
   pub sheet-in : (b : ℕ → Arrays) → CellsHeld (times readCell n u) b → SheetIn s (b next)

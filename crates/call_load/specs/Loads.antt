@@ -1,13 +1,13 @@
 -- What loading a drawing's file leaves in lent arrays. Definitions only.
 use Prim.Native.Nat.{ℕ, _+_, _*_, _≤_}
 use mathlib.Core.Path.{_≡_}
-use mathlib.Core.Bool.{Bool, true, false}
+use mathlib.Core.Bool.{true}
 use mathlib.Core.List.{List, []}
 use lib.Ieee.{Float}
 use lib.ListN.{length, drop, set}
 use Rattle.number.specs.Readers.{Read, got, times}
 use Rattle.number.specs.Numbers.{readNumber}
-use Rattle.number.specs.Said.{Said, done, no, Says}
+use Rattle.number.specs.Said.{Says}
 use Rattle.complex.specs.Cells.{LiveCell}
 use Rattle.complex.specs.Decode.{readCycle}
 use Rattle.complex.specs.Sound.{cellsMost, cyclesMost, stepsMost, bendsMost}
@@ -20,12 +20,10 @@ use Rattle.file_read.specs.declared.ReadAnswer.{ReadAnswer}
 use Rattle.file_read.specs.declared.Used.{Used}
 use Rattle.file_read.specs.declared.Loaded.{Loaded}
 use Rattle.file_read.specs.Filling.{CyclesIn, loadedSays, bendsMore, PartsOver}
-use Rattle.file_read.specs.Outcome.{CellsIn, CellsOver, refused}
+use Rattle.file_read.specs.Outcome.{CellsIn, refused}
 use Rattle.lent.specs.Arrays.{Arrays, heldBy, normal}
 use Rattle.call_load.specs.declared.Counts.{Counts}
 use Rattle.call_load.specs.declared.Counts.the-variants.{From, Refused as Unread}
-use Rattle.call_load.specs.declared.Held.{Held}
-use Rattle.call_load.specs.declared.Held.the-variants.{Cells, Refused}
 
 -- ---- a row
 -- the x's, and the y's, with the position of a vertex in a row; with another cell they stay
@@ -83,10 +81,6 @@ pub record CellsHeld (q : Read (List LiveCell)) (b : ℕ → Arrays) : Type 0 wh
   pub cells : (next : ℕ) → CellsIn q next (answerOf (b next))
   pub rows : (next : ℕ) → normal (b next) ≡ true
 
-abbrev pub CellsTold : Read (List LiveCell) → (ℕ → Arrays) → Bool → Type 0
-CellsTold q b true = CellsHeld q b
-CellsTold q b false = CellsOver q
-
 -- ---- the file
 -- the next id, the number of cells and the place after them
 pub record CountsIn (s : List ℕ) (next n at : ℕ) : Type 0 where
@@ -105,12 +99,3 @@ pub record SheetIn (s : List ℕ) (b : Arrays) : Type 0 where
   pub read : readSheet s ≡ got (sheetOf (heldBy b)) []
   pub fits : Fits (heldBy b)
   pub rows : normal b ≡ true
-
--- the cases of `Held`: 0 with the next id and the number of cells, or 10
-abbrev pub heldSays : Held → Said (ℕ × ℕ)
-heldSays (Cells next n) = done (next, n)
-heldSays Refused = no 10
-
--- b next n are the arrays with the next id and the number of cells
-abbrev pub SheetLoaded : List ℕ → (ℕ → ℕ → Arrays) → Held → Type 0
-SheetLoaded s b r = Says 10 (λ v. SheetIn s (b (v .0) (v .1))) (readFile s ≡ refused) (heldSays r)

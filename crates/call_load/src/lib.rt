@@ -1,15 +1,12 @@
 ghost use mathlib.Core.Path.{_≡_};
-ghost use mathlib.Core.Bool.{_&&_};
 ghost use Prim.Native.Nat.{_+_, _*_, _<_, _≤_};
 ghost use lib.ListN.{length, drop};
-ghost use Rattle.number.specs.Readers.{times, all};
-ghost use Rattle.coordinate.specs.Bounds.{within};
+ghost use Rattle.number.specs.Readers.{times};
 ghost use Rattle.bends.specs.Bends.{positionsAt};
-ghost use Rattle.complex.specs.Sound.{cellsMost};
+ghost use Rattle.complex.specs.Sound.{cellsMost, bendsMost};
 ghost use Rattle.complex.specs.File.{readCell};
-ghost use Rattle.lent.specs.Arrays.{exit};
-ghost use Rattle.call_load.specs.Loads.{RowPut, LoadRoom, PartsStored, CellsTold, CountsRead, SheetLoaded};
-ghost use Rattle.call_load.specs.Bare.{exitWith, RowsTold, RowsLoaded};
+ghost use Rattle.call_load.specs.Loads.{RowPut, LoadRoom, PartsStored, CountsRead};
+ghost use Rattle.call_load.specs.Bare.{BendsTaken, Stays, exitWith, RowsTold, RowsLoaded};
 use file_read::CellFound;
 use file_read::Loaded;
 use file_read::Used;
@@ -22,13 +19,7 @@ const CELLS_MOST: usize = 256;
 
 const BENDS_MOST: usize = 2048;
 
-// The next id and the number of cells, or the bytes are no sound drawing's file.
-pub enum Held {
-    Cells(u32, usize),
-    Refused,
-}
-
-// The next id, the number of cells and whether their bends lie in bounds, or the bytes are no sound drawing's file.
+// The next id, the number of cells and whether the bends that were looked at lie in bounds, or the bytes are no sound drawing's file.
 pub enum Outline {
     Cells(u32, usize, bool),
     Refused,
@@ -40,7 +31,7 @@ enum Counts {
     Refused,
 }
 
-// Whether the bends of some cells lie in bounds, or the cells are no sound drawing's.
+// Whether the bends of some cells that were looked at lie in bounds, or the cells are no sound drawing's.
 enum Looked {
     Bends(bool),
     Refused,
@@ -171,18 +162,35 @@ fn load_parts(
     file_read::load_cycles(s, first + bytes, k, cycles, steps, more)
 }
 
-// Whether n bends from a place on lie in bounds, and those before them do.
-fn bends_good(s: &[u8], first: usize, n: u32, good: bool) -> bool
+// The n bends from a place on are put into arrays from another place on where they are kept; else they are only looked at: whether they, and
+// those before them, lie in bounds.
+fn bends_taken(
+    s: &[u8],
+    first: usize,
+    n: u32,
+    bx: &mut [f64; 2048],
+    by: &mut [f64; 2048],
+    at: usize,
+    keep: bool,
+    good: bool,
+) -> bool
     requires { ⌜ first + 16 * n ≤ length (now s) ⌝ }
-    ensures { λ r. ⌜ r ≡ good && all within (positionsAt (now (s .entry)) first n) ⌝ }
+    requires { ⌜ at + n ≤ bendsMost ⌝ }
+    requires { ⌜ length (now bx) ≡ bendsMost ⌝ }
+    requires { ⌜ length (now by) ≡ bendsMost ⌝ }
+    ensures { λ r. ⌜ BendsTaken keep good (positionsAt (now (s .entry)) first n) at n (now (bx .entry)) (now (by .entry)) (now (bx .exit)) (now (by .exit)) r ⌝ }
 {
+    if keep {
+        kernel_add::put_bends(s, first, n, bx, by, at);
+        return good;
+    }
     if good {
         return bends::bends_within(s, first, n);
     }
     false
 }
 
-// The n cells from a place on, with nothing after them; or they are no sound drawing's.
+// The n cells from a place on, with nothing after them; or they are no sound drawing's. Bends that are not kept are looked at in the bytes.
 fn load_cells(
     s: &[u8],
     at: usize,
@@ -199,10 +207,12 @@ fn load_cells(
     steps: &mut [u32; 2048],
     bx: &mut [f64; 2048],
     by: &mut [f64; 2048],
-) -> bool
+    keep: bool,
+) -> Looked
     requires { ⌜ at ≤ length (now s) ⌝ }
     requires { ⌜ n ≤ cellsMost ⌝ }
-    ensures { λ r. ⌜ CellsTold (times readCell n (drop at (now (s .entry)))) (λ next. exit next n ids kinds starts ends bends counts px py cycles steps bx by) r ⌝ }
+    ensures { λ r. ⌜ RowsTold keep (times readCell n (drop at (now (s .entry)))) (exitWith n ids kinds starts ends bends counts px py cycles steps) (now (bx .exit)) (now (by .exit)) r ⌝ }
+    ensures { λ _. ⌜ Stays keep (now (bx .entry)) (now (by .entry)) (now (bx .exit)) (now (by .exit)) ⌝ }
 {
     lent::known(
         0,
@@ -225,67 +235,6 @@ fn load_cells(
         cycles: 0,
         steps: 0,
     };
-    let mut p = at;
-    let mut i: usize = 0;
-    while i < n {
-        let CellFound::Begun(cell, first) = file_read::head_at(s, p) else {
-            return false;
-        };
-        let shape = cell.shape;
-        let Loaded::Next(q, more) = load_parts(s, first, shape, cycles, steps, used) else {
-            return false;
-        };
-        kernel_add::put_bends(s, first, store::bend_count(shape), bx, by, used.bends);
-        put_cell(ids, kinds, starts, ends, bends, counts, px, py, i, cell);
-        used = more;
-        p = q;
-        i = i + 1;
-    }
-    if p < s.len() {
-        return false;
-    }
-    true
-}
-
-// The n cells from a place on, with nothing after them, without their bends, which are looked at in the bytes; or they are no sound drawing's.
-fn load_bare(
-    s: &[u8],
-    at: usize,
-    n: usize,
-    ids: &mut [u32; 256],
-    kinds: &mut [u32; 256],
-    starts: &mut [u32; 256],
-    ends: &mut [u32; 256],
-    bends: &mut [u32; 256],
-    counts: &mut [u32; 256],
-    px: &mut [f64; 256],
-    py: &mut [f64; 256],
-    cycles: &mut [u32; 512],
-    steps: &mut [u32; 2048],
-) -> Looked
-    requires { ⌜ at ≤ length (now s) ⌝ }
-    requires { ⌜ n ≤ cellsMost ⌝ }
-    ensures { λ r. ⌜ RowsTold (times readCell n (drop at (now (s .entry)))) (exitWith n ids kinds starts ends bends counts px py cycles steps) r ⌝ }
-{
-    lent_row::known(
-        0,
-        0,
-        ids,
-        kinds,
-        starts,
-        ends,
-        bends,
-        counts,
-        px,
-        py,
-        cycles,
-        steps,
-    );
-    let mut used = Used {
-        bends: 0,
-        cycles: 0,
-        steps: 0,
-    };
     let mut good = true;
     let mut place = at;
     let mut i: usize = 0;
@@ -297,7 +246,16 @@ fn load_bare(
         let Loaded::Next(q, more) = load_parts(s, first, shape, cycles, steps, used) else {
             return Looked::Refused;
         };
-        good = bends_good(s, first, store::bend_count(shape), good);
+        good = bends_taken(
+            s,
+            first,
+            store::bend_count(shape),
+            bx,
+            by,
+            used.bends,
+            keep,
+            good,
+        );
         put_cell(ids, kinds, starts, ends, bends, counts, px, py, i, cell);
         used = more;
         place = q;
@@ -326,7 +284,7 @@ fn counts_at(bytes: &[u8]) -> Counts
     Counts::From(next, n, b)
 }
 
-// The drawing whose file the bytes are, sound or not, whatever the arrays held.
+// The drawing whose file the bytes are, sound or not, whatever the arrays held. Where its bends are not kept, their arrays stay.
 pub fn load(
     bytes: &[u8],
     ids: &mut [u32; 256],
@@ -341,13 +299,15 @@ pub fn load(
     steps: &mut [u32; 2048],
     bx: &mut [f64; 2048],
     by: &mut [f64; 2048],
-) -> Held
-    ensures { λ r. ⌜ SheetLoaded (now (bytes .entry)) (λ next n. exit next n ids kinds starts ends bends counts px py cycles steps bx by) r ⌝ }
+    keep: bool,
+) -> Outline
+    ensures { λ r. ⌜ RowsLoaded keep (now (bytes .entry)) (λ next n xs ys. exitWith n ids kinds starts ends bends counts px py cycles steps xs ys next) (now (bx .exit)) (now (by .exit)) r ⌝ }
+    ensures { λ _. ⌜ Stays keep (now (bx .entry)) (now (by .entry)) (now (bx .exit)) (now (by .exit)) ⌝ }
 {
     let Counts::From(next, n, b) = counts_at(bytes) else {
-        return Held::Refused;
+        return Outline::Refused;
     };
-    if load_cells(
+    let Looked::Bends(good) = load_cells(
         bytes,
         b,
         n,
@@ -363,45 +323,7 @@ pub fn load(
         steps,
         bx,
         by,
-    ) {
-        return Held::Cells(next, n);
-    }
-    Held::Refused
-}
-
-// The rows, cycles and steps of the drawing whose file the bytes are, sound or not, whatever the arrays held; its bends are only looked at.
-pub fn load_rows(
-    bytes: &[u8],
-    ids: &mut [u32; 256],
-    kinds: &mut [u32; 256],
-    starts: &mut [u32; 256],
-    ends: &mut [u32; 256],
-    bends: &mut [u32; 256],
-    counts: &mut [u32; 256],
-    px: &mut [f64; 256],
-    py: &mut [f64; 256],
-    cycles: &mut [u32; 512],
-    steps: &mut [u32; 2048],
-) -> Outline
-    ensures { λ r. ⌜ RowsLoaded (now (bytes .entry)) (λ next n xs ys. exitWith n ids kinds starts ends bends counts px py cycles steps xs ys next) r ⌝ }
-{
-    let Counts::From(next, n, b) = counts_at(bytes) else {
-        return Outline::Refused;
-    };
-    let Looked::Bends(good) = load_bare(
-        bytes,
-        b,
-        n,
-        ids,
-        kinds,
-        starts,
-        ends,
-        bends,
-        counts,
-        px,
-        py,
-        cycles,
-        steps,
+        keep,
     ) else {
         return Outline::Refused;
     };

@@ -28,21 +28,22 @@ use Rattle.lent_sound.specs.declared.Walked.the-variants.{Sound, Fault}
 use Rattle.lent_sound.specs.Walk.{walkRight}
 use Rattle.lent_sound.proofs.Whole.{sound-rows}
 use Rattle.call_asked.specs.Entries.{Asked}
-use Rattle.call_load.specs.declared.Held.{Held}
-use Rattle.call_load.specs.declared.Held.the-variants.{Cells, Refused}
 use Rattle.call_load.specs.declared.Outline.{Outline}
-use Rattle.call_load.specs.declared.Outline.the-variants.{Cells as Rowed, Refused as Unrowed}
-use Rattle.call_load.specs.Loads.{SheetIn, SheetLoaded}
+use Rattle.call_load.specs.declared.Outline.the-variants.{Cells, Refused}
+use Rattle.call_load.specs.Loads.{SheetIn}
 use Rattle.call_load.specs.Bare.{RowsIn, RowsLoaded}
 use Rattle.call_read.specs.Taken.{FileIn, OpenedIn, ReadIn}
 
--- ---- what loading says
-module _ (s : List ℕ) (b : ℕ → ℕ → Arrays) (r : Held) (l : SheetLoaded s b r) where
-  pub loaded-some : (next n : ℕ) → r ≡ Cells next n → SheetIn s (b next n)
-  loaded-some next n e = subst (SheetLoaded s b) e l
+-- ---- what loading with the bends says
+module _ (s : List ℕ) (b : ℕ → ℕ → List Float → List Float → Arrays) (xs ys : List Float) (r : Outline) (l : RowsLoaded true s b xs ys r) where
+  pub loaded-some : (next n : ℕ) (g : Bool) → r ≡ Cells next n g → SheetIn s (b next n xs ys)
+  loaded-some next n g e =
+      let R = subst (RowsLoaded true s b xs ys) e l in
+      subst (λ (us : List Float). SheetIn s (b next n us ys)) (R .kept .0)
+      (subst (λ (vs : List Float). SheetIn s (b next n (R .bx) vs)) (R .kept .1) (R .sheet))
 
   pub loaded-none : r ≡ Refused → readFile s ≡ refused
-  loaded-none e = subst (SheetLoaded s b) e l .1
+  loaded-none e = subst (RowsLoaded true s b xs ys) e l
 
 -- ---- the file
 pub no-file : (s : List ℕ) → readFile s ≡ refused → readFile s .number ≡ 10
@@ -96,14 +97,14 @@ module _ (s : List ℕ) (b : Arrays) (S : SheetIn s b) where
       go false e = absurd (no-refusal s y (file-fault e))
 
 -- ---- a file whose bends were only looked at
-module _ (s : List ℕ) (b : ℕ → ℕ → List Float → List Float → Arrays) (r : Outline) (l : RowsLoaded s b r) where
-  pub rows-some : (next n : ℕ) (g : Bool) → r ≡ Rowed next n g → RowsIn s (b next n) g
-  rows-some next n g e = subst (RowsLoaded s b) e l
+module _ (s : List ℕ) (b : ℕ → ℕ → List Float → List Float → Arrays) (xs ys : List Float) (r : Outline) (l : RowsLoaded false s b xs ys r) where
+  pub rows-some : (next n : ℕ) (g : Bool) → r ≡ Cells next n g → RowsIn false s (b next n) xs ys g
+  rows-some next n g e = subst (RowsLoaded false s b xs ys) e l
 
-  pub rows-none : r ≡ Unrowed → false ≡ eqb (readFile s .number) 0
-  rows-none e = sym (no-number s (subst (RowsLoaded s b) e l))
+  pub rows-none : r ≡ Refused → false ≡ eqb (readFile s .number) 0
+  rows-none e = sym (no-number s (subst (RowsLoaded false s b xs ys) e l))
 
-module _ (s : List ℕ) (b : List Float → List Float → Arrays) (g : Bool) (R : RowsIn s b g) where
+module _ (s : List ℕ) (b : List Float → List Float → Arrays) (xs ys : List Float) (g : Bool) (R : RowsIn false s b xs ys g) where
   abbrev held : Arrays
   held = b (R .bx) (R .by)
 
@@ -112,7 +113,7 @@ module _ (s : List ℕ) (b : List Float → List Float → Arrays) (g : Bool) (R
   rows-decide =
       sound-rows held (R .long)
       ∙ ap (λ (t : Bool). t && walkRight false held)
-      (ap (λ (k : ℕ). all within (take k (heldBy held .bends))) (bends-held held (R .long) (R .sheet .rows)) ∙ sym (R .right))
+      (ap (λ (k : ℕ). all within (take k (heldBy held .bends))) (bends-held held (R .long) (R .sheet .rows)) ∙ sym (R .kept))
 
   told : (t : Bool) → soundArrays held ≡ t → t ≡ eqb (readFile s .number) 0
   told true e = sym (eq-eqb (readFile s .number) 0 (ap (λ (j : Judgement). j .number) (file-whole s held (R .sheet) e)))
@@ -125,12 +126,12 @@ module _ (s : List ℕ) (b : List Float → List Float → Arrays) (g : Bool) (R
   rows-bent n = told false (rows-decide ∙ and-false _ n)
 
 -- ---- a refusal
-pub not-in : (s : List ℕ) (a : Arrays) → eqb (readFile s .number) 0 ≡ false → ReadIn s a a 10
-not-in s a n =
+pub not-in : (s : List ℕ) (a b : Arrays) → b ≡ a → eqb (readFile s .number) 0 ≡ false → ReadIn s a b 10
+not-in s a b same n =
     let e = read-refused s (eqb-false (readFile s .number) 0 n) in
     record {
       number = ap (λ (j : Judgement). j .number) (sym e);
-      back = λ z. refl;
+      back = λ z. same;
       sheet = λ z. absurd (omega (arith, z));
       sound = λ z. absurd (omega (arith, z));
     }

@@ -3,7 +3,6 @@ ghost use lib.Dec.{eqb};
 ghost use Rattle.complex.specs.File.{readFile};
 ghost use Rattle.lent.specs.Arrays.{entry, exit};
 ghost use Rattle.call_read.specs.Taken.{OpenedIn, ReadIn};
-use call_load::Held;
 use call_load::Outline;
 use lent_sound::Walked;
 
@@ -27,7 +26,7 @@ pub fn open(
 ) -> Walked
     ensures { λ r. ⌜ OpenedIn (now (bytes .entry)) (exit (now (next .exit)) (now (count .exit)) ids kinds starts ends bends counts px py cycles steps bx by) r ⌝ }
 {
-    let Held::Cells(id, n) = call_load::load(
+    let Outline::Cells(id, n, _) = call_load::load(
         bytes,
         ids,
         kinds,
@@ -41,6 +40,7 @@ pub fn open(
         steps,
         bx,
         by,
+        true,
     ) else {
         return Walked::Fault;
     };
@@ -64,9 +64,10 @@ pub fn open(
     )
 }
 
-// Question 10 alone, on arrays of its own but for those of the bends, which are not looked at: bends are looked at in the bytes.
-fn readable(bytes: &[u8], bx: &[f64; 2048], by: &[f64; 2048]) -> bool
+// Question 10 alone, on arrays of its own but for those of the bends, which stay: bends are looked at in the bytes.
+fn readable(bytes: &[u8], bx: &mut [f64; 2048], by: &mut [f64; 2048]) -> bool
     ensures { λ r. ⌜ r ≡ eqb (readFile (now (bytes .entry)) .number) 0 ⌝ }
+    ensures { λ _. ⌜ (now (bx .exit) ≡ now (bx .entry)) × (now (by .exit) ≡ now (by .entry)) ⌝ }
 {
     let mut ids = [0u32; 256];
     let mut kinds = [0u32; 256];
@@ -78,7 +79,7 @@ fn readable(bytes: &[u8], bx: &[f64; 2048], by: &[f64; 2048]) -> bool
     let mut py = [0.0; 256];
     let mut cycles = [0u32; 512];
     let mut steps = [0u32; 2048];
-    let Outline::Cells(next, cells, good) = call_load::load_rows(
+    let Outline::Cells(next, cells, good) = call_load::load(
         bytes,
         &mut ids,
         &mut kinds,
@@ -90,6 +91,9 @@ fn readable(bytes: &[u8], bx: &[f64; 2048], by: &[f64; 2048]) -> bool
         &mut py,
         &mut cycles,
         &mut steps,
+        bx,
+        by,
+        false,
     ) else {
         return false;
     };
@@ -137,7 +141,7 @@ pub fn read(
     ensures { λ r. ⌜ ReadIn (now (bytes .entry)) (entry (now (next .entry)) (now (count .entry)) ids kinds starts ends bends counts px py cycles steps bx by) (exit (now (next .exit)) (now (count .exit)) ids kinds starts ends bends counts px py cycles steps bx by) r ⌝ }
 {
     if readable(bytes, bx, by) {
-        let Held::Cells(free, cells) = call_load::load(
+        let Outline::Cells(free, cells, _) = call_load::load(
             bytes,
             ids,
             kinds,
@@ -151,6 +155,7 @@ pub fn read(
             steps,
             bx,
             by,
+            true,
         ) else {
             return 10;
         };

@@ -1,8 +1,11 @@
 -- `load` meets its contract. Assumes nothing.
 use borrow.Author.Needs.{needs}
 use mathlib.Core.Path.{refl}
+use denote.Ref.{now}
 use Rattle.file_read.proofs.Verdict.{cells-over}
-use Rattle.call_load.proofs.Loads.{counts-some, counts-none, told-yes, told-no, sheet-in}
+use Rattle.call_load.specs.Loads.{CountsIn}
+use Rattle.call_load.proofs.Loads.{counts-some, counts-none}
+use Rattle.call_load.proofs.Bare.{bare-yes, bare-no, rows-in}
 use Rattle.call_load.proofs.load.Statement.{statement}
 use Rattle.call_load.proofs.load.Tie as tie
 
@@ -16,7 +19,9 @@ enum-told : tie.Need-enum-told
 enum-told c = search needs
 
 returns : tie.Need-returns
-returns c = let k = c .before .before in (refl, counts-none _ (k .counts-at .result) (k .counts-at .ensures) (c .enum-told .given .1))
+returns c =
+    let k = c .before .before in
+    (counts-none _ (k .counts-at .result) (k .counts-at .ensures) (c .enum-told .given .1), λ _. (refl, refl))
 
 load-cells-requires : tie.Need-load-cells-requires
 load-cells-requires c κs =
@@ -25,21 +30,31 @@ load-cells-requires c κs =
     let C = counts-some _ (k .counts-at .result) (k .counts-at .ensures) _ _ _ (kt .before .next .given .1) in
     (C .inside, C .few)
 
+enum-known-good : tie.Need-enum-known-good
+enum-known-good c = search needs
+
+enum-told-2 : tie.Need-enum-told-2
+enum-told-2 c = search needs
+
 returns-2 : tie.Need-returns-2
 returns-2 c =
-    let l = c .before in
-    let kt = c .before .before .before .before .before .before .before .before .before .before .before .before .before .before in
+    let l = c .before .before in
+    let kt = l .before .before .before .before .before .before .before .before .before .before .before .before .before in
     let k = kt .before .before .before in
-    let C = counts-some _ (k .counts-at .result) (k .counts-at .ensures) _ _ _ (kt .before .next .given .1) in
-    sheet-in _ _ _ (C .first) _ _ (C .second) _ (told-yes _ _ (l .load-cells .result) (l .load-cells .ensures) (c .if1 .taken))
+    let C = counts-some _ (k .counts-at .result) (k .counts-at .ensures) _ _ _ (kt .before .next .given .1) in (
+      cells-over _ _ _ (C .first) _ _ (C .second) (bare-no _ _ _ _ _ (l .load-cells .result) (l .load-cells .ensures .0) (c .enum-told2 .given .1)),
+      l .load-cells .ensures .1,
+    )
 
 returns-3 : tie.Need-returns-3
 returns-3 c =
-    let l = c .before in
-    let kt = c .before .before .before .before .before .before .before .before .before .before .before .before .before .before in
+    let l = c .before .before .before in
+    let kt = l .before .before .before .before .before .before .before .before .before .before .before .before .before in
     let k = kt .before .before .before in
-    let C = counts-some _ (k .counts-at .result) (k .counts-at .ensures) _ _ _ (kt .before .next .given .1) in
-    (refl, cells-over _ _ _ (C .first) _ _ (C .second) (told-no _ _ (l .load-cells .result) (l .load-cells .ensures) (c .if1 .left)))
+    let C = counts-some _ (k .counts-at .result) (k .counts-at .ensures) _ _ _ (kt .before .next .given .1) in (
+      rows-in _ _ _ _ _ C _ _ _ _ (bare-yes _ _ _ _ _ (l .load-cells .result) (l .load-cells .ensures .0) _ (c .before .good2 .given .1)),
+      l .load-cells .ensures .1,
+    )
 
 pub load-spec : {M : Type 1} → statement M
 load-spec =
@@ -50,5 +65,7 @@ load-spec =
     enum-told
     returns
     load-cells-requires
+    enum-known-good
+    enum-told-2
     returns-2
     returns-3)

@@ -15,7 +15,7 @@ enum-told : tie.Need-enum-told
 enum-told c = search needs
 
 returns : tie.Need-returns
-returns c = let l = c .before .before in no-file _ (loaded-none _ _ (l .load .result) (l .load .ensures) (c .enum-told .given .1))
+returns c = let l = c .before .before in no-file _ (loaded-none _ _ _ _ (l .load .result) (l .load .ensures .0) (c .enum-told .given .1))
 
 asked-requires : tie.Need-asked-requires
 asked-requires c κs = search needs
@@ -24,7 +24,7 @@ returns-2 : tie.Need-returns-2
 returns-2 c =
     let i = c .before .before .before .before .before .before .before .before .before .before .before .before .before .before in
     let l = i .before .before in
-    opened-in _ _ (loaded-some _ _ (l .load .result) (l .load .ensures) _ _ (i .id .given .1)) (c .asked .result) (c .asked .ensures)
+    opened-in _ _ (loaded-some _ _ _ _ (l .load .result) (l .load .ensures .0) _ _ _ (i .id .given .1)) (c .asked .result) (c .asked .ensures)
 
 pub open-spec : {M : Type 1} → statement M
 open-spec = tie.close (tie.spec load-requires enum-known-id enum-told returns asked-requires returns-2)
