@@ -105,59 +105,42 @@ module _ (cycles steps : List ℕ) (p : Place) (l : Lies cycles steps p) where
   set-about x =
       ap (λ (ks : List Cycle). set ks (p .cycle) x) list-about ∙ set-at front own back x (p .cycle) list-length
 
-  -- ---- the two runs
-  pub ahead-run : {numbers : List ℕ} {u : Used} {places : List ℕ} → RunJoins cycles steps p front numbers u places
-      → RunRoom cycles (p .spans .cycles .first) (p .cycle) steps (p .spans .steps .first) (p .at - p .spans .steps .first) numbers u places
-  ahead-run {numbers} {u} {places} j =
-      let f = few-left (j .building) front (j .room) in
+  -- ---- a run of k cycles with its m steps, and the two runs
+  part-run : (first k from m : ℕ) → length (take k (drop first cycles)) ≡ k → first + k ≤ 512 → from + m ≤ 2048 → widthSum (take k (drop first cycles)) ≡ m
+      → {numbers : List ℕ} {u : Used} {places : List ℕ} → RunJoins cycles steps p (cyclesFrom (take k (drop first cycles)) (drop from steps)) numbers u places
+      → RunRoom cycles first k steps from m numbers u places
+  part-run first k from m el hc hs ew {numbers} {u} {places} j =
+      let ns = take k (drop first cycles) in
+      let f = few-left (j .building) (cyclesFrom ns (drop from steps)) (j .room) in
       let fc = f .0 in
       let fs = f .1 in
-      let w = l .within in
-      let h = l .cycle in
-      let e = l .place in
-      let wd = widths in
-      let i = w .inCycles in
-      let g = w .inSteps in
-      let z = w .stepsSize in
-      let n = list-length in
-      let m = list-steps ahead (drop (p .spans .steps .first) steps) (omega (arith, length-drop (p .spans .steps .first) steps)) in
+      let z = l .within .stepsSize in
+      let n = length-cycles ns (drop from steps) ∙ el in
+      let o = list-steps ns (drop from steps) (omega (arith, length-drop from steps)) in
       record {
         building = j .building;
-        cyclesSize = w .cyclesSize;
+        cyclesSize = l .within .cyclesSize;
         stepsSize = z;
-        inCycles = omega arith;
-        inSteps = omega arith;
-        wide = omega arith;
+        inCycles = hc;
+        inSteps = hs;
+        wide = ew;
         cycleRoom = omega arith;
         stepRoom = omega arith;
       }
 
+  pub ahead-run : {numbers : List ℕ} {u : Used} {places : List ℕ} → RunJoins cycles steps p front numbers u places
+      → RunRoom cycles (p .spans .cycles .first) (p .cycle) steps (p .spans .steps .first) (p .at - p .spans .steps .first) numbers u places
+  ahead-run j =
+      part-run (p .spans .cycles .first) (p .cycle) (p .spans .steps .first) (p .at - p .spans .steps .first) ahead-length
+      (omega (arith, l .cycle, l .within .inCycles)) (omega (arith, l .place, widths, l .within .inSteps)) (omega (arith, l .place)) j
+
   pub behind-run : {numbers : List ℕ} {u : Used} {places : List ℕ} → RunJoins cycles steps p back numbers u places
       → RunRoom cycles (p .spans .cycles .first + (p .cycle + 1)) left-over
       steps (p .at + p .count) (p .spans .steps .first + p .spans .steps .count - (p .at + p .count)) numbers u places
-  behind-run {numbers} {u} {places} j =
-      let f = few-left (j .building) back (j .room) in
-      let fc = f .0 in
-      let fs = f .1 in
-      let w = l .within in
-      let h = l .cycle in
-      let e = l .place in
-      let wd = widths in
-      let i = w .inCycles in
-      let g = w .inSteps in
-      let z = w .stepsSize in
-      let n = length-cycles behind (drop (p .at + p .count) steps) ∙ behind-length in
-      let m = list-steps behind (drop (p .at + p .count) steps) (omega (arith, length-drop (p .at + p .count) steps)) in
-      record {
-        building = j .building;
-        cyclesSize = w .cyclesSize;
-        stepsSize = z;
-        inCycles = omega arith;
-        inSteps = omega arith;
-        wide = omega arith;
-        cycleRoom = omega arith;
-        stepRoom = omega arith;
-      }
+  behind-run j =
+      part-run (p .spans .cycles .first + (p .cycle + 1)) left-over (p .at + p .count) (p .spans .steps .first + p .spans .steps .count - (p .at + p .count))
+      behind-length
+      (omega (arith, l .cycle, l .within .inCycles)) (omega (arith, l .place, widths, l .within .inSteps)) (omega (arith, l .place, widths)) j
 
   -- the second ends where the face's steps end
   pub behind-fits : p .at + p .count ≤ p .spans .steps .first + p .spans .steps .count

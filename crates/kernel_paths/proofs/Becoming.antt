@@ -10,11 +10,20 @@ use Rattle.rows_spans.specs.Building.{Built, built, RoomFor}
 use Rattle.rows_corners.proofs.Lists.{built-as, built-then}
 use Rattle.rows_stretches.specs.declared.Stretch.{Stretch}
 use Rattle.rows_stretches.specs.declared.Place.{Place}
-use Rattle.rows_stretches.specs.Paths.{stretchOf, allBut, between, noSteps, PathRoom, listAt, Besides, mergedList, Merging, partedList, Parting}
+use Rattle.rows_stretches.specs.Paths.{stretchOf, allBut, between, noSteps, InCycle, PathRoom, listAt, Lies, Besides, mergedList, Merging, partedList, Parting}
 use Rattle.rows_stretches.proofs.Paths.{few-front}
 use Rattle.rows_stretches.proofs.Lists.{few-after, others-of, merged-is, merged-room, first-in, second-in}
 use Rattle.rows_stretches.proofs.Lists.{last-of, parted-is, parted-room, here-in, there-in, nothing-in}
 use Rattle.kernel_paths.specs.Runs.{Puts}
+
+-- two stretches take the place of p where there is room for what comes then
+puts-first : {cycles steps : List ℕ} {p : Place} {a b : Stretch} {v : ℕ} {numbers : List ℕ} {u : Used} {places : List ℕ} → Lies cycles steps p
+    → Built [] numbers u places → InCycle a → InCycle b → (ks : List Cycle)
+    → RoomFor (length numbers) (length places) (set (listAt cycles steps p) (p .cycle) (pathOr v (stretchOf steps a ++ stretchOf steps b)) ++ ks)
+    → Puts cycles steps p a b v numbers u places
+puts-first {cycles} {steps} {p} {a} {b} {v} {numbers} {u} {places} l n ia ib ks f =
+    let front = set (listAt cycles steps p) (p .cycle) (pathOr v (stretchOf steps a ++ stretchOf steps b)) in
+    record { lies = l; building = n .building; first = ia; second = ib; room = few-after n front (few-front front ks f) refl refl }
 
 -- ---- two faces become one
 module _ (cycles steps : List ℕ) (p : Place) (s : ℕ) (q : Place) (t v : ℕ) (m : Merging cycles steps p s q t v)
@@ -28,13 +37,8 @@ module _ (cycles steps : List ℕ) (p : Place) (s : ℕ) (q : Place) (t v : ℕ)
 
   pub merged-puts : Puts cycles steps p a b v numbers u places
   merged-puts =
-      record {
-        lies = m .first;
-        building = n .building;
-        first = first-in cycles steps p s q t v m a b ea eb;
-        second = second-in cycles steps p s q t v m a b ea eb;
-        room = few-after n front (few-front front rest (merged-room cycles steps p s q t v m a b ea eb f)) refl refl;
-      }
+      puts-first (m .first) n (first-in cycles steps p s q t v m a b ea eb) (second-in cycles steps p s q t v m a b ea eb) rest
+      (merged-room cycles steps p s q t v m a b ea eb f)
 
   module _ {numbers₁ : List ℕ} {u₁ : Used} {places₁ : List ℕ} (x : Built (built numbers u places ++ front) numbers₁ u₁ places₁) where
     pub merged-others : length numbers₁ ≡ length numbers → length places₁ ≡ length places → Besides cycles steps q numbers₁ u₁ places₁
@@ -57,13 +61,8 @@ module _ (cycles steps : List ℕ) (p : Place) (s t v w : ℕ) (m : Parting cycl
 
   pub parted-puts : Puts cycles steps p a (noSteps p) v numbers u places
   parted-puts =
-      record {
-        lies = m .first;
-        building = n .building;
-        first = here-in cycles steps p s t v w m a b ea eb;
-        second = nothing-in cycles steps p s t v w m a b ea eb;
-        room = few-after n fore (few-front fore last (parted-room cycles steps p s t v w m a b ea eb f)) refl refl;
-      }
+      puts-first (m .first) n (here-in cycles steps p s t v w m a b ea eb) (nothing-in cycles steps p s t v w m a b ea eb) last
+      (parted-room cycles steps p s t v w m a b ea eb f)
 
   module _ {numbers₁ : List ℕ} {u₁ : Used} {places₁ : List ℕ} (x : Built (built numbers u places ++ fore) numbers₁ u₁ places₁) where
     pub parted-path : length numbers₁ ≡ length numbers → length places₁ ≡ length places → PathRoom steps b (noSteps p) w numbers₁ u₁ places₁

@@ -19,6 +19,13 @@ packed k = k .before .before .before .before .before .before .before .before .be
 abbrev flagged : tie.After-keep-rows → tie.After-dead-rows
 flagged q = q .before .before .before .before .before .before .before .before .before .before .before .before .before .before
 
+-- from where the face's row is known back to where the rows have gone, and to the start
+abbrev sized : tie.After-find → tie.After-known
+sized x = x .before .before
+
+abbrev start : tie.After-known → tie.Start
+start k = flagged (packed k) .before .before .before
+
 dead-rows-requires : tie.Need-dead-rows-requires
 dead-rows-requires c κs =
     let s = c .before .before in
@@ -38,49 +45,41 @@ known-requires c κs = search needs
 find-requires : tie.Need-find-requires
 find-requires c κs =
     let k = c .before in
-    let q = packed k in
-    let d = flagged q in
-    let s = d .before .before .before in
+    let s = start k in
     let a = s .args in
     find-asks (arrays s) (s .pre .1 .0) (a .i) (a .a) (a .j) (a .b) (a .f) (a .numbers .now) (a .u) (a .places .now)
-    (s .pre .0) _ (d .dead-rows .ensures) _ (k .known .ensures) (q .keep-rows .ensures)
+    (s .pre .0) _ (flagged (packed k) .dead-rows .ensures) _ (k .known .ensures) (packed k .keep-rows .ensures)
 
 spans-of-requires : tie.Need-spans-of-requires
 spans-of-requires c κs =
     let x = c .before .before .before .before in
-    let k = x .before .before in
-    let q = packed k in
-    let d = flagged q in
-    let s = d .before .before .before in
+    let k = sized x in
+    let s = start k in
     let a = s .args in
     spans-ask (arrays s) (s .pre .1 .0) (a .i) (a .a) (a .j) (a .b) (a .f) (a .numbers .now) (a .u) (a .places .now)
-    (s .pre .0) _ (d .dead-rows .ensures) _ (k .known .ensures) (q .keep-rows .ensures)
+    (s .pre .0) _ (flagged (packed k) .dead-rows .ensures) _ (k .known .ensures) (packed k .keep-rows .ensures)
     (x .find .result) (x .find .ensures)
 
 replace-cycles-requires : tie.Need-replace-cycles-requires
 replace-cycles-requires c κs =
     let y = c .before .before .before .before .before .before .before .before .before .before .before .before in
     let x = y .before .before .before .before .before in
-    let k = x .before .before in
-    let q = packed k in
-    let d = flagged q in
-    let s = d .before .before .before in
+    let k = sized x in
+    let s = start k in
     let a = s .args in
     replaces (arrays s) (s .pre .1 .0) (a .i) (a .a) (a .j) (a .b) (a .f) (a .numbers .now) (a .u) (a .places .now)
-    (s .pre .0) _ (d .dead-rows .ensures) _ (k .known .ensures) (q .keep-rows .ensures)
+    (s .pre .0) _ (flagged (packed k) .dead-rows .ensures) _ (k .known .ensures) (packed k .keep-rows .ensures)
     (x .find .result) (x .find .ensures) (y .spans-of .result) (y .spans-of .ensures)
 
 returns : tie.Need-returns
 returns c =
     let y = c .before .before .before .before .before .before .before .before .before .before .before .before .before in
     let x = y .before .before .before .before .before in
-    let k = x .before .before in
-    let q = packed k in
-    let d = flagged q in
-    let s = d .before .before .before in
+    let k = sized x in
+    let s = start k in
     let a = s .args in
     holds (arrays s) (s .pre .1 .0) (a .i) (a .a) (a .j) (a .b) (a .f) (a .numbers .now) (a .u) (a .places .now)
-    (s .pre .0) _ (d .dead-rows .ensures) _ (k .known .ensures) (q .keep-rows .ensures)
+    (s .pre .0) _ (flagged (packed k) .dead-rows .ensures) _ (k .known .ensures) (packed k .keep-rows .ensures)
     (x .find .result) (x .find .ensures) (y .spans-of .result) (y .spans-of .ensures) _ (c .replace-cycles .ensures)
 
 pub reface-spec : {M : Type 1} → statement M

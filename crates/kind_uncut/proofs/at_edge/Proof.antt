@@ -1,20 +1,11 @@
 -- `at_edge` meets its contract: by the case of the edge. Assumes nothing.
 use borrow.Author.Needs.{needs}
 use mathlib.Core.Path.{sym, ap, _∙_}
-use denote.Ref.{now}
-use Rattle.store.specs.View.{sheetOf}
 use Rattle.ask_uncut.specs.Cases.{edgeSays}
 use Rattle.ask_uncut.proofs.Cases.{asked-case}
-use Rattle.lent.specs.Arrays.{Arrays, heldBy, lent}
 use Rattle.kind_uncut.proofs.Refused.{obeyed-6}
 use Rattle.kind_uncut.proofs.at_edge.Statement.{statement}
 use Rattle.kind_uncut.proofs.at_edge.Tie as tie
-
-abbrev arrays : (c : tie.Start) → Arrays
-arrays c =
-    let a = c .args in
-    lent (now (a .next)) (now (a .count)) (a .ids) (a .kinds) (a .starts) (a .ends) (a .bends) (a .counts)
-    (a .px) (a .py) (a .cycles) (a .steps) (a .bx) (a .by)
 
 enum-told : tie.Need-enum-told
 enum-told c = search needs
@@ -29,13 +20,13 @@ uncut-edge-requires : tie.Need-uncut-edge-requires
 uncut-edge-requires c κs =
     let k = c .before .before .before .before .before .before .before .before .before .before .before .before .before .before .before in
     let s = k .before .before in
-    (s .pre .0, asked-case (sheetOf (heldBy (arrays s))) (s .args .e) (sym (ap (edgeSays (s .args .e)) (k .c .given .1)) ∙ s .pre .1))
+    (s .pre .0, asked-case _ _ (sym (ap (edgeSays (s .args .e)) (k .c .given .1)) ∙ s .pre .1))
 
 returns : tie.Need-returns
 returns c =
     let k = c .before in
     let s = k .before .before in
-    obeyed-6 (arrays s) (s .args .t) (s .pre .0) (s .args .e) (sym (ap (edgeSays (s .args .e)) (k .enum-told .given .1)) ∙ s .pre .1) _ (c .line-of .ensures)
+    obeyed-6 _ _ (s .pre .0) _ (sym (ap (edgeSays (s .args .e)) (k .enum-told .given .1)) ∙ s .pre .1) _ (c .line-of .ensures)
 
 returns-2 : tie.Need-returns-2
 returns-2 c = c .uncut-edge .ensures

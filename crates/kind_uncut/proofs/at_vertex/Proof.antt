@@ -1,20 +1,11 @@
 -- `at_vertex` meets its contract: by the case of the vertex. Assumes nothing.
 use borrow.Author.Needs.{needs}
 use mathlib.Core.Path.{sym, ap, _∙_}
-use denote.Ref.{now}
-use Rattle.store.specs.View.{sheetOf}
 use Rattle.ask_uncut_ends.specs.Cases.{vertexSays}
 use Rattle.ask_uncut.proofs.Cases.{asked-case}
-use Rattle.lent.specs.Arrays.{Arrays, heldBy, lent}
 use Rattle.kind_uncut.proofs.Refused.{obeyed-6}
 use Rattle.kind_uncut.proofs.at_vertex.Statement.{statement}
 use Rattle.kind_uncut.proofs.at_vertex.Tie as tie
-
-abbrev arrays : (c : tie.Start) → Arrays
-arrays c =
-    let a = c .args in
-    lent (now (a .next)) (now (a .count)) (a .ids) (a .kinds) (a .starts) (a .ends) (a .bends) (a .counts)
-    (a .px) (a .py) (a .cycles) (a .steps) (a .bx) (a .by)
 
 enum-told : tie.Need-enum-told
 enum-told c = search needs
@@ -29,7 +20,7 @@ lonely-requires : tie.Need-lonely-requires
 lonely-requires c κs =
     let k = c .before .before .before .before .before .before .before .before .before .before .before .before .before .before in
     let s = k .before .before in
-    (s .pre .0, asked-case (sheetOf (heldBy (arrays s))) (s .args .v) (sym (ap vertexSays (k .enum-told2 .given .1)) ∙ s .pre .1))
+    (s .pre .0, asked-case _ _ (sym (ap vertexSays (k .enum-told2 .given .1)) ∙ s .pre .1))
 
 enum-known-c : tie.Need-enum-known-c
 enum-known-c c = search needs
@@ -38,7 +29,7 @@ looped-requires : tie.Need-looped-requires
 looped-requires c κs =
     let k = c .before .before .before .before .before .before .before .before .before .before .before .before .before .before .before in
     let s = k .before .before in
-    (s .pre .0, asked-case (sheetOf (heldBy (arrays s))) (s .args .v) (sym (ap vertexSays (k .c .given .1)) ∙ s .pre .1))
+    (s .pre .0, asked-case _ _ (sym (ap vertexSays (k .c .given .1)) ∙ s .pre .1))
 
 enum-known-c-2 : tie.Need-enum-known-c-2
 enum-known-c-2 c = search needs
@@ -47,13 +38,13 @@ jointed-requires : tie.Need-jointed-requires
 jointed-requires c κs =
     let k = c .before .before .before .before .before .before .before .before .before .before .before .before .before .before .before in
     let s = k .before .before in
-    (s .pre .0, asked-case (sheetOf (heldBy (arrays s))) (s .args .v) (sym (ap vertexSays (k .c2 .given .1)) ∙ s .pre .1))
+    (s .pre .0, asked-case _ _ (sym (ap vertexSays (k .c2 .given .1)) ∙ s .pre .1))
 
 returns : tie.Need-returns
 returns c =
     let k = c .before in
     let s = k .before .before in
-    obeyed-6 (arrays s) (s .args .t) (s .pre .0) (s .args .v) (sym (ap vertexSays (k .enum-told .given .1)) ∙ s .pre .1) _ (c .line-of .ensures)
+    obeyed-6 _ _ (s .pre .0) _ (sym (ap vertexSays (k .enum-told .given .1)) ∙ s .pre .1) _ (c .line-of .ensures)
 
 returns-2 : tie.Need-returns-2
 returns-2 c = c .lonely .ensures

@@ -1,9 +1,11 @@
 -- `uncut` meets its contract: by the case that is found. Assumes nothing.
 use borrow.Author.Needs.{needs}
-use mathlib.Core.Path.{sym, ap, _∙_}
+use mathlib.Core.Path.{_≡_, sym, ap, _∙_}
 use denote.Ref.{now}
-use Rattle.ask_uncut.specs.Decided.{caseSays}
-use Rattle.lent.specs.Arrays.{Arrays, lent}
+use Rattle.store.specs.View.{sheetOf}
+use Rattle.ask_uncut.specs.declared.Case.{Case}
+use Rattle.ask_uncut.specs.Decided.{caseSays, uncutAsked}
+use Rattle.lent.specs.Arrays.{Arrays, heldBy, lent}
 use Rattle.kind_uncut.proofs.Refused.{obeyed-4}
 use Rattle.kind_uncut.proofs.uncut.Statement.{statement}
 use Rattle.kind_uncut.proofs.uncut.Tie as tie
@@ -16,6 +18,10 @@ arrays c =
 
 abbrev start : tie.After-case-in → tie.Start
 start t = t .before .before .before .before .before .before .before .before .before .before .before .before .before .before .before
+
+-- what is asked, by the case that was found
+asked : (t : tie.After-case-in) (x : Case) → t .case-in .result ≡ x → caseSays (start t .args .i) x ≡ uncutAsked (sheetOf (heldBy (arrays (start t)))) (start t .args .i)
+asked t x e = sym (ap (caseSays (start t .args .i)) e) ∙ t .case-in .ensures
 
 case-in-requires : tie.Need-case-in-requires
 case-in-requires c κs =
@@ -34,9 +40,7 @@ enum-known-c c = search needs
 at-vertex-requires : tie.Need-at-vertex-requires
 at-vertex-requires c κs =
     let k = c .before .before .before .before .before .before .before .before .before .before .before .before .before .before .before in
-    let t = k .before .before in
-    let s = start t in
-    (s .pre, sym (ap (caseSays (s .args .i)) (k .c .given .1)) ∙ t .case-in .ensures)
+    (start (k .before .before) .pre, asked (k .before .before) _ (k .c .given .1))
 
 enum-known-c-2 : tie.Need-enum-known-c-2
 enum-known-c-2 c = search needs
@@ -44,17 +48,13 @@ enum-known-c-2 c = search needs
 at-edge-requires : tie.Need-at-edge-requires
 at-edge-requires c κs =
     let k = c .before .before .before .before .before .before .before .before .before .before .before .before .before .before .before in
-    let t = k .before .before in
-    let s = start t in
-    (s .pre, sym (ap (caseSays (s .args .i)) (k .c2 .given .1)) ∙ t .case-in .ensures)
+    (start (k .before .before) .pre, asked (k .before .before) _ (k .c2 .given .1))
 
 returns : tie.Need-returns
 returns c =
-    let k = c .before in
-    let t = k .before .before in
+    let t = c .before .before .before in
     let s = start t in
-    obeyed-4 (arrays s) (s .args .t) (s .pre) (s .args .i) (sym (ap (caseSays (s .args .i)) (k .enum-told .given .1)) ∙ t .case-in .ensures)
-    _ (c .line-of .ensures)
+    obeyed-4 (arrays s) (s .args .t) (s .pre) (s .args .i) (asked t _ (c .before .enum-told .given .1)) _ (c .line-of .ensures)
 
 returns-2 : tie.Need-returns-2
 returns-2 c = c .at-vertex .ensures

@@ -68,26 +68,11 @@ head-of-requires-2 c κs = let s = c .before .before .before .before .before in 
 enum-told : tie.Need-enum-told
 enum-told c = search needs
 
-merged-cycles-requires : tie.Need-merged-cycles-requires
-merged-cycles-requires c κs =
-    let m = c .before .before in
-    merged-asks (stands (m .before .before)) (m .enum-told .given .1) (start (m .before .before) .pre .1 .1)
-
 enum-told-2 : tie.Need-enum-told-2
 enum-told-2 c = search needs
 
-parted-cycles-requires : tie.Need-parted-cycles-requires
-parted-cycles-requires c κs =
-    let m = c .before .before in
-    parted-asks (stands (m .before .before)) (m .enum-told2 .given .1) (start (m .before .before) .pre .1 .1)
-
 enum-told-3 : tie.Need-enum-told-3
 enum-told-3 c = search needs
-
-ringed-cycles-requires : tie.Need-ringed-cycles-requires
-ringed-cycles-requires c κs =
-    let m = c .before .before in
-    ringed-asks (stands (m .before .before)) (m .enum-told3 .given .1) (start (m .before .before) .pre .1 .1)
 
 same-length : tie.Need-same-length
 same-length c = search needs
@@ -95,29 +80,45 @@ same-length c = search needs
 same-length-2 : tie.Need-same-length-2
 same-length-2 c = search needs
 
-returns : tie.Need-returns
-returns c =
-    let r = c .before .before .before .before in
-    let m = r .before .before .before in
-    merged-built (stands (m .before .before)) (m .enum-told .given .1) (r .merged-cycles .ensures)
-
 same-length-3 : tie.Need-same-length-3
 same-length-3 c = search needs
 
 same-length-4 : tie.Need-same-length-4
 same-length-4 c = search needs
 
-returns-2 : tie.Need-returns-2
-returns-2 c =
-    let r = c .before .before .before .before in
-    let m = r .before .before .before in
-    parted-built (stands (m .before .before)) (m .enum-told2 .given .1) (r .parted-cycles .ensures)
-
 same-length-5 : tie.Need-same-length-5
 same-length-5 c = search needs
 
 same-length-6 : tie.Need-same-length-6
 same-length-6 c = search needs
+
+-- ---- two faces, one cycle, rings
+merged-cycles-requires : tie.Need-merged-cycles-requires
+merged-cycles-requires c κs =
+    let m = c .before .before in
+    merged-asks (stands (m .before .before)) (m .enum-told .given .1) (start (m .before .before) .pre .1 .1)
+
+parted-cycles-requires : tie.Need-parted-cycles-requires
+parted-cycles-requires c κs =
+    let m = c .before .before in
+    parted-asks (stands (m .before .before)) (m .enum-told2 .given .1) (start (m .before .before) .pre .1 .1)
+
+ringed-cycles-requires : tie.Need-ringed-cycles-requires
+ringed-cycles-requires c κs =
+    let m = c .before .before in
+    ringed-asks (stands (m .before .before)) (m .enum-told3 .given .1) (start (m .before .before) .pre .1 .1)
+
+returns : tie.Need-returns
+returns c =
+    let r = c .before .before .before .before in
+    let m = r .before .before .before in
+    merged-built (stands (m .before .before)) (m .enum-told .given .1) (r .merged-cycles .ensures)
+
+returns-2 : tie.Need-returns-2
+returns-2 c =
+    let r = c .before .before .before .before in
+    let m = r .before .before .before in
+    parted-built (stands (m .before .before)) (m .enum-told2 .given .1) (r .parted-cycles .ensures)
 
 returns-3 : tie.Need-returns-3
 returns-3 c =

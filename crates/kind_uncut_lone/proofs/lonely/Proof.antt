@@ -25,6 +25,19 @@ found c = c .before .before .before .before .before .before .before .before .bef
 abbrev start : tie.After-find → tie.Start
 start r = r .before .before .before .before .before .before .before .before .before .before .before .before .before .before .before .before .before .before .before .before
 
+-- from there to the list, to where the cycles stand, to the row that holds the cycle, and to its place
+abbrev listed : tie.After-find → tie.After-all-but
+listed r = r .before .before .before .before
+
+abbrev spanned : tie.After-find → tie.After-spans-at
+spanned r = listed r .before .before .before .before .before
+
+abbrev held : tie.After-find → tie.After-row-holding
+held r = spanned r .before .before .before .before
+
+abbrev placed : tie.After-find → tie.After-lone-place
+placed r = held r .before .before
+
 lone-place-requires : tie.Need-lone-place-requires
 lone-place-requires c κs = let s = c .before .before .before .before in place-asks (arrays s) (s .args .t) (s .pre .0) (s .args .v) (s .pre .1)
 
@@ -88,28 +101,20 @@ slice-aggregate-reface-2 c = search needs
 reface-requires : tie.Need-reface-requires
 reface-requires c κs =
     let r = c .before .before .before .before .before .before .before .before .before .before .before .before .before .before in
-    let u = r .before .before .before .before in
-    let p = u .before .before .before .before .before in
-    let h = p .before .before .before .before in
-    let j = h .before .before in
-    let s = j .before .before .before .before .before in (
-      refaces (arrays s) (s .args .t) (s .pre .0) (s .args .v) (s .pre .1) (j .lone-place .result) (j .lone-place .ensures)
-          (h .row-holding .result) (h .row-holding .ensures)
-          _ refl (p .spans-at .result) (p .spans-at .ensures) _ (u .all-but .result) _ (u .all-but .ensures) (r .find .result) (r .find .ensures),
+    let s = start r in (
+      refaces (arrays s) (s .args .t) (s .pre .0) (s .args .v) (s .pre .1) (placed r .lone-place .result) (placed r .lone-place .ensures)
+          (held r .row-holding .result) (held r .row-holding .ensures)
+          _ refl (spanned r .spans-at .result) (spanned r .spans-at .ensures) _ (listed r .all-but .result) _ (listed r .all-but .ensures) (r .find .result) (r .find .ensures),
       (s .pre .0 .long, ready-rows (arrays s) (s .args .t) (s .pre .0)),
     )
 
 less : (c : tie.After-reface) → c .reface .result ≤ now (start (found c) .args .count)
 less c =
     let r = found c in
-    let u = r .before .before .before .before in
-    let p = u .before .before .before .before .before in
-    let h = p .before .before .before .before in
-    let j = h .before .before in
-    let s = j .before .before .before .before .before in
-    fewer (arrays s) (s .args .t) (s .pre .0) (s .args .v) (s .pre .1) (j .lone-place .result) (j .lone-place .ensures)
-    (h .row-holding .result) (h .row-holding .ensures)
-    _ refl (p .spans-at .result) (p .spans-at .ensures) _ (u .all-but .result) _ (u .all-but .ensures)
+    let s = start r in
+    fewer (arrays s) (s .args .t) (s .pre .0) (s .args .v) (s .pre .1) (placed r .lone-place .result) (placed r .lone-place .ensures)
+    (held r .row-holding .result) (held r .row-holding .ensures)
+    _ refl (spanned r .spans-at .result) (spanned r .spans-at .ensures) _ (listed r .all-but .result) _ (listed r .all-but .ensures)
     (r .find .result) (r .find .ensures) _ (c .reface .ensures) refl
 
 sub-removed : tie.Need-sub-removed
@@ -121,14 +126,10 @@ cast-removed c = let s = start (found c) in omega (arith, ready-fits (arrays s) 
 returns : tie.Need-returns
 returns c =
     let r = found c in
-    let u = r .before .before .before .before in
-    let p = u .before .before .before .before .before in
-    let h = p .before .before .before .before in
-    let j = h .before .before in
-    let s = j .before .before .before .before .before in
-    obeyed (arrays s) (s .args .t) (s .pre .0) (s .args .v) (s .pre .1) (j .lone-place .result) (j .lone-place .ensures)
-    (h .row-holding .result) (h .row-holding .ensures)
-    _ refl (p .spans-at .result) (p .spans-at .ensures) _ (u .all-but .result) _ (u .all-but .ensures)
+    let s = start r in
+    obeyed (arrays s) (s .args .t) (s .pre .0) (s .args .v) (s .pre .1) (placed r .lone-place .result) (placed r .lone-place .ensures)
+    (held r .row-holding .result) (held r .row-holding .ensures)
+    _ refl (spanned r .spans-at .result) (spanned r .spans-at .ensures) _ (listed r .all-but .result) _ (listed r .all-but .ensures)
     (r .find .result) (r .find .ensures) _ (c .reface .ensures) refl _ refl
 
 pub lonely-spec : {M : Type 1} → statement M
