@@ -12,7 +12,6 @@ ghost use Rattle.sound.specs.Rows.{rowsOf, leadsIn, joinsIn};
 ghost use Rattle.decode_parts.specs.Lists.{numbersRead, cyclesRead, Stand};
 ghost use Rattle.ask_face_named.specs.Walks.{Rowed, Walked, passesIn};
 use ask_face_named::Walk;
-use number::Number;
 
 // The places of the hints at rows.
 const HINTS: usize = 256;
@@ -48,13 +47,12 @@ fn repeated(script: &[u8], at: usize, m: u32, s: u32) -> Walk
     let mut place = at;
     let mut left = m;
     while 0 < left {
-        let Number::Value(t, next) = number::read_number(script, place) else {
-            return Walk::No;
-        };
+        let taken = script::take_number(script, place);
+        let t = taken.value;
         if s != t {
             return Walk::No;
         }
-        place = next;
+        place = taken.next;
         left -= 1;
     }
     Walk::To(place)
@@ -84,9 +82,8 @@ fn leads(
     let mut left = m;
     let mut here = u;
     while 0 < left {
-        let Number::Value(s, next) = number::read_number(script, place) else {
-            return Walk::No;
-        };
+        let taken = script::take_number(script, place);
+        let s = taken.value;
         let row = row_of(ids, n, hints, s / 2);
         if n <= row {
             return Walk::No;
@@ -95,7 +92,7 @@ fn leads(
             return Walk::No;
         }
         here = rows_halfedge::side(ends, starts, n, row, s);
-        place = next;
+        place = taken.next;
         left -= 1;
     }
     if here == w {
@@ -123,9 +120,8 @@ fn path_joins(
     ensures { λ r. ⌜ Walked readNumber (now (script .entry)) at m (joinsIn (rowsOf n (now (ids .entry)) (now (kinds .entry)) (now (starts .entry)) (now (ends .entry))) (numbersRead (now (script .entry)) at m)) r ⌝ }
     ensures { λ _. ⌜ length (now (hints .exit)) ≡ 256 ⌝ }
 {
-    let Number::Value(s, _) = number::read_number(script, at) else {
-        return Walk::No;
-    };
+    let taken = script::take_number(script, at);
+    let s = taken.value;
     let row = row_of(ids, n, hints, s / 2);
     if n <= row {
         return Walk::No;
@@ -154,9 +150,9 @@ fn cycle_joins(
     ensures { λ r. ⌜ Walked readCycle (now (script .entry)) at 1 (all (passesIn (rowsOf n (now (ids .entry)) (now (kinds .entry)) (now (starts .entry)) (now (ends .entry))) false) (cyclesRead (now (script .entry)) at 1)) r ⌝ }
     ensures { λ _. ⌜ length (now (hints .exit)) ≡ 256 ⌝ }
 {
-    let Number::Value(m, first) = number::read_number(script, at) else {
-        return Walk::No;
-    };
+    let size = script::take_number(script, at);
+    let m = size.value;
+    let first = size.next;
     if m == 0 {
         return ask_face_named::lone_named(script, first, ids, kinds, n);
     }

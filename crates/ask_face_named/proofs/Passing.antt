@@ -1,14 +1,14 @@
 -- A cycle of a script passes as its numbers do, and as the sheet has it. Assumes nothing.
-use Prim.Native.Nat.{ℕ, zero, suc, _<_}
+use Prim.Native.Nat.{ℕ, zero, suc, _-_, _<_}
 use native.Mathlib.Omega.{arith}
 use mathlib.Core.Path.{_≡_, refl, sym, ap, ap₂, _∙_, subst}
 use mathlib.Core.Bool.{Bool, true, false, _&&_, _||_, cond}
 use mathlib.Core.List.{List, [], _∷_, map}
 use lib.Dec.{eqb}
-use lib.ListN.{length, drop, getD, length-map}
+use lib.ListN.{length, getD, length-map}
 use lib.Seq.{take-all}
 use borrow.Author.Tests.{eqb-true}
-use Rattle.number.specs.Readers.{Read, got, andThen}
+use Rattle.number.specs.Readers.{Read}
 use Rattle.number.specs.Numbers.{readNumber}
 use Rattle.complex.specs.Lists.{all}
 use Rattle.complex.specs.Cells.{Halfedge, Cycle, lone, path}
@@ -19,14 +19,15 @@ use Rattle.store.specs.Edits.{placesOf}
 use Rattle.store.proofs.Lists.{places-of-some}
 use Rattle.store.proofs.Encode.{halves}
 use Rattle.sound.specs.Rows.{Rows, isVertexIn, rowIn, tailIn, headIn, goesOn, leadsIn, isClosedIn, joinsIn, cycleGood}
-use Rattle.decode_parts.specs.Lists.{listOf, numbersRead, cyclesRead, Reaches, Stand}
-use Rattle.decode_parts.proofs.Fields.{NumberAt}
+use Rattle.decode_parts.specs.Lists.{FieldAt, thingsRead, numbersRead, cyclesRead, Reaches, Stand}
+use Rattle.decode_parts.proofs.Rest.{Leaves}
 use Rattle.decode_parts.proofs.Stands.{stand-length}
-use Rattle.script.proofs.Steps.{first-thing}
+use Rattle.script.proofs.Steps.{one-stands, reach-field, field-list, Asking, asking-stop, asking-turn}
 use Rattle.script.proofs.Cycles.{cycleFrom, from-number, from-places, numbers-stand, cycle-is, cycle-reach}
-use Rattle.ask_face_named.specs.Walks.{Walked, edgeIn, stepNamed, passesIn}
+use Rattle.ask_face_named.specs.Walks.{Valued, Rowed, Walked, edgeIn, stepNamed, passesIn}
 use Rattle.ask_face_named.specs.declared.Walk.{Walk}
 use Rattle.ask_face_named.specs.declared.Walk.the-variants.{To, No}
+use Rattle.ask_face_named.proofs.Walking.{first-no, first-yes}
 
 and-none : (b : Bool) → b ≡ (b && true)
 and-none true = refl
@@ -37,18 +38,32 @@ same-both true b = refl
 same-both false b = refl
 
 -- ---- what a walk says, by its result
-module _ {A : Type 0} (r : List ℕ → Read A) (s : List ℕ) (at n : ℕ) (b : Bool) where
+module _ {A : Type 0} {r : List ℕ → Read A} {s : List ℕ} {at n : ℕ} {b : Bool} where
   pub walked-to : {w : Walk} {next : ℕ} → Walked r s at n b w → w ≡ To next → (b ≡ true) × Reaches r s at n next
-  walked-to h e = subst (Walked r s at n b) e h
+  walked-to h e = subst (Walked r s at n b) e h .says
 
   pub walked-no : {w : Walk} → Walked r s at n b w → w ≡ No → b ≡ false
-  walked-no h e = subst (Walked r s at n b) e h
+  walked-no h e = subst (Walked r s at n b) e h .says
 
   -- the same of another list that ends where this one does
-  pub walked-as : {B : Type 0} (q : List ℕ → Read B) (at′ n′ : ℕ) (b′ : Bool) → b ≡ b′ → ((next : ℕ) → Reaches r s at n next → Reaches q s at′ n′ next)
-      → (w : Walk) → Walked r s at n b w → Walked q s at′ n′ b′ w
-  walked-as q at′ n′ b′ e f (To next) h = (sym e ∙ h .0, f next (h .1))
-  walked-as q at′ n′ b′ e f No h = sym e ∙ h
+  pub walked-as : {C : Type 0} {q : List ℕ → Read C} {at′ n′ : ℕ} {b′ : Bool} → b ≡ b′ → ((next : ℕ) → Reaches r s at n next → Reaches q s at′ n′ next)
+      → {w : Walk} → Walked r s at n b w → Walked q s at′ n′ b′ w
+  walked-as e f {w = To next} h = record { says = (sym e ∙ h .says .0, f next (h .says .1)) }
+  walked-as e f {w = No} h = record { says = sym e ∙ h .says }
+
+-- ---- a question about each thing of a list, asked of the first thing by itself
+module _ {A : Type 0} {r : List ℕ → Read A} {s : List ℕ} {at n place left : ℕ} {p : A → Bool} {b : Bool} (a : Asking r s at n place left (all p) b) (L : Leaves r)
+    (some : 0 < left) where
+  one-answer : {x : A} {next : ℕ} → FieldAt r s place x next → p x ≡ all p (thingsRead r s place 1)
+  one-answer {x} f = and-none (p x) ∙ sym (ap (all p) (field-list f))
+
+  pub first-fails : all p (thingsRead r s place 1) ≡ false → false ≡ b
+  first-fails e =
+      let k = reach-field (one-stands (a .walk .stand) some L .reach) in
+      asking-stop a L some (k .1) (λ xs. first-no p (k .0) xs (one-answer (k .1) ∙ e))
+
+  pub first-passes : {next : ℕ} → Reaches r s place 1 next → all p (thingsRead r s place 1) ≡ true → Asking r s at n next (left - 1) (all p) b
+  first-passes h e = let k = reach-field h in asking-turn a L some (k .1) (λ xs. first-yes p (k .0) xs (one-answer (k .1) ∙ e))
 
 -- ---- one cycle, by its number of steps
 module _ (t : Rows) where
@@ -63,16 +78,22 @@ module _ (t : Rows) where
   joined m ns e =
       sym (ap₂ (cycleGood t) (from-number (suc m) ns e) (from-places (suc m) ns e) ∙ ap (joinsIn t) (take-all (suc m) ns (omega arith)))
 
-  -- the cycle that begins at a place, with its number of steps there
-  module _ (names : Bool) (s : List ℕ) (at m first : ℕ) (n : NumberAt s at m first) (stand : Stand readCycle s at 1) where
-    pub steps-stand : Stand readNumber s first (placesOf 1 m)
-    steps-stand = numbers-stand s at m first (n .read) (n .fits) stand
+-- the cycle that begins at a place, with its number of steps there
+module _ {s : List ℕ} {at m first : ℕ} (size : FieldAt readNumber s at m first) where
+  -- it ends where its numbers end
+  reach-cycle : {n next : ℕ} → n ≡ placesOf 1 m → Reaches readNumber s first n next → Reaches readCycle s at 1 next
+  reach-cycle {next = next} e r =
+      cycle-reach s at m first (size .read) next (size .after) (subst (λ (k : ℕ). Reaches readNumber s first k next) e r)
 
-    the-cycle : cyclesRead s at 1 ≡ cycleFrom m (numbersRead s first (placesOf 1 m)) ∷ []
-    the-cycle = let a = n .after in cycle-is s at m first (n .read) (steps-stand .end) (omega arith) (steps-stand .reach)
+  pub reach-lone : m ≡ 0 → (next : ℕ) → Reaches readNumber s first 1 next → Reaches readCycle s at 1 next
+  reach-lone e next r = reach-cycle (ap (placesOf 1) (sym e)) r
 
-    whole : (r : Bool) → r ≡ passesIn t names (cycleFrom m (numbersRead s first (placesOf 1 m))) → r ≡ all (passesIn t names) (cyclesRead s at 1)
-    whole r e = e ∙ and-none (passesIn t names (cycleFrom m (numbersRead s first (placesOf 1 m)))) ∙ ap (all (passesIn t names)) (sym the-cycle)
+  pub reach-path : (m ≡ 0 → ⊥) → (next : ℕ) → Reaches readNumber s first m next → Reaches readCycle s at 1 next
+  reach-path e next r = reach-cycle (sym (places-of-some 1 m e)) r
+
+  module _ (stand : Stand readCycle s at 1) where
+    steps-stand : Stand readNumber s first (placesOf 1 m)
+    steps-stand = numbers-stand s at m first (size .read) (size .fits) stand
 
     pub stands-one : m ≡ 0 → Stand readNumber s first 1
     stands-one e = subst (λ (k : ℕ). Stand readNumber s first (placesOf 1 k)) e steps-stand
@@ -80,39 +101,37 @@ module _ (t : Rows) where
     pub stands-some : (m ≡ 0 → ⊥) → Stand readNumber s first m
     stands-some e = subst (Stand readNumber s first) (places-of-some 1 m e) steps-stand
 
-    pub reach-lone : m ≡ 0 → (next : ℕ) → Reaches readNumber s first 1 next → Reaches readCycle s at 1 next
-    reach-lone e next r =
-        let a = n .after in
-        cycle-reach s at m first (n .read) next (omega arith) (subst (λ (k : ℕ). Reaches readNumber s first (placesOf 1 k) next) (sym e) r)
+    the-cycle : cyclesRead s at 1 ≡ cycleFrom m (numbersRead s first (placesOf 1 m)) ∷ []
+    the-cycle = cycle-is s at m first (size .read) (steps-stand .end) (size .after) (steps-stand .reach)
 
-    pub reach-path : (m ≡ 0 → ⊥) → (next : ℕ) → Reaches readNumber s first m next → Reaches readCycle s at 1 next
-    reach-path e next r =
-        let a = n .after in
-        cycle-reach s at m first (n .read) next (omega arith) (subst (λ (k : ℕ). Reaches readNumber s first k next) (sym (places-of-some 1 m e)) r)
+    module _ (t : Rows) (names : Bool) where
+      whole : (r : Bool) → r ≡ passesIn t names (cycleFrom m (numbersRead s first (placesOf 1 m))) → r ≡ all (passesIn t names) (cyclesRead s at 1)
+      whole r e = e ∙ and-none (passesIn t names (cycleFrom m (numbersRead s first (placesOf 1 m)))) ∙ ap (all (passesIn t names)) (sym the-cycle)
 
-    pub passes-lone : m ≡ 0 → (r : Bool) → r ≡ isVertexIn (t .ids) (t .kinds) (getD (numbersRead s first 1) 0 0)
-        → r ≡ all (passesIn t names) (cyclesRead s at 1)
-    passes-lone e r q =
-        whole r (q ∙ lone-passes names (numbersRead s first 1) ∙ ap (λ (k : ℕ). passesIn t names (cycleFrom k (numbersRead s first (placesOf 1 k)))) (sym e))
+      pub passes-lone : m ≡ 0 → (r : Bool) → r ≡ isVertexIn (t .ids) (t .kinds) (getD (numbersRead s first 1) 0 0)
+          → r ≡ all (passesIn t names) (cyclesRead s at 1)
+      passes-lone e r q =
+          whole r (q ∙ lone-passes t names (numbersRead s first 1)
+          ∙ ap (λ (k : ℕ). passesIn t names (cycleFrom k (numbersRead s first (placesOf 1 k)))) (sym e))
 
-    pub passes-named : (m ≡ 0 → ⊥) → names ≡ true → (r : Bool) → r ≡ all (stepNamed (t .ids) (t .kinds)) (numbersRead s first m)
-        → r ≡ all (passesIn t names) (cyclesRead s at 1)
-    passes-named z e r q = whole r (q ∙ go m z ∙ ap (λ (u : Bool). passesIn t u (cycleFrom m (numbersRead s first (placesOf 1 m)))) (sym e))
-      where
-        go : (m : ℕ) → (m ≡ 0 → ⊥) → all (stepNamed (t .ids) (t .kinds)) (numbersRead s first m) ≡ passesIn t true
-            (cycleFrom m (numbersRead s first (placesOf 1 m)))
-        go zero z = absurd (z refl)
-        go (suc m) z = names-map (numbersRead s first (suc m))
+      pub passes-named : (m ≡ 0 → ⊥) → names ≡ true → (r : Bool) → r ≡ all (stepNamed (t .ids) (t .kinds)) (numbersRead s first m)
+          → r ≡ all (passesIn t names) (cyclesRead s at 1)
+      passes-named z e r q = whole r (q ∙ go m z ∙ ap (λ (u : Bool). passesIn t u (cycleFrom m (numbersRead s first (placesOf 1 m)))) (sym e))
+        where
+          go : (m : ℕ) → (m ≡ 0 → ⊥) → all (stepNamed (t .ids) (t .kinds)) (numbersRead s first m) ≡ passesIn t true
+              (cycleFrom m (numbersRead s first (placesOf 1 m)))
+          go zero z = absurd (z refl)
+          go (suc m) z = names-map t (numbersRead s first (suc m))
 
-    pub passes-joined : (z : m ≡ 0 → ⊥) → names ≡ false → (r : Bool) → r ≡ joinsIn t (numbersRead s first m) → r ≡ all (passesIn t names) (cyclesRead s at 1)
-    passes-joined z e r q =
-        whole r (q ∙ go m z (stand-length readNumber s first m (stands-some z))
-        ∙ ap (λ (u : Bool). passesIn t u (cycleFrom m (numbersRead s first (placesOf 1 m)))) (sym e))
-      where
-        go : (m : ℕ) → (m ≡ 0 → ⊥) → length (numbersRead s first m) ≡ m
-            → joinsIn t (numbersRead s first m) ≡ passesIn t false (cycleFrom m (numbersRead s first (placesOf 1 m)))
-        go zero z l = absurd (z refl)
-        go (suc m) z l = joined m (numbersRead s first (suc m)) l
+      pub passes-joined : (z : m ≡ 0 → ⊥) → names ≡ false → (r : Bool) → r ≡ joinsIn t (numbersRead s first m) → r ≡ all (passesIn t names) (cyclesRead s at 1)
+      passes-joined z e r q =
+          whole r (q ∙ go m z (stand-length readNumber s first m (stands-some z))
+          ∙ ap (λ (u : Bool). passesIn t u (cycleFrom m (numbersRead s first (placesOf 1 m)))) (sym e))
+        where
+          go : (m : ℕ) → (m ≡ 0 → ⊥) → length (numbersRead s first m) ≡ m
+              → joinsIn t (numbersRead s first m) ≡ passesIn t false (cycleFrom m (numbersRead s first (placesOf 1 m)))
+          go zero z l = absurd (z refl)
+          go (suc m) z l = joined t m (numbersRead s first (suc m)) l
 
 -- ---- a cycle that joins names vertices and edges
 or-true : (b : Bool) → (b || true) ≡ true
@@ -173,18 +192,6 @@ module _ (t : Rows) where
       let p = both-true (passesIn t false k) (all (passesIn t false) ks) e in
       ap₂ _&&_ (cycle-named k (p .0)) (cycles-named ks (p .1))
 
--- ---- the first of several cycles
-one-read : (s : List ℕ) (at : ℕ) (k : Cycle) (u : List ℕ) → readCycle (drop at s) ≡ got k u → cyclesRead s at 1 ≡ k ∷ []
-one-read s at k u e = ap (λ (q : Read Cycle). listOf (andThen q λ y v. got (y ∷ []) v)) e
-
-module _ (p : Cycle → Bool) (s : List ℕ) (at left : ℕ) where
-  -- by the list of one
-  pub first-fails : 0 < left → Stand readCycle s at left → all p (cyclesRead s at 1) ≡ false → false ≡ all p (cyclesRead s at left)
-  first-fails some stand e =
-      let f = first-thing readCycle s at left some stand in
-      sym (ap (all p) (f .whole) ∙ ap (λ (b : Bool). b && all p (f .tail))
-      (and-none (p (f .head)) ∙ sym (ap (all p) (one-read s at (f .head) (f .between) (f .one))) ∙ e))
-
-  pub first-passes : (k : Cycle) (u : List ℕ) (ks : List Cycle) → readCycle (drop at s) ≡ got k u → cyclesRead s at left ≡ k ∷ ks
-      → all p (cyclesRead s at 1) ≡ true → all p ks ≡ all p (cyclesRead s at left)
-  first-passes k u ks f w e = sym (ap (all p) w ∙ ap (λ (b : Bool). b && all p ks) (and-none (p k) ∙ sym (ap (all p) (one-read s at k u f)) ∙ e))
+-- ---- the arrays of rows, by their ids and kinds alone
+pub rowed-valued : {n : ℕ} {is ks ss es : List ℕ} → Rowed n is ks ss es → Valued n is ks
+rowed-valued p = record { few = p .few; ids = p .ids; values = p .kinds; rising = p .rising }

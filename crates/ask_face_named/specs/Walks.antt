@@ -32,9 +32,12 @@ pub record Rowed (n : ℕ) (is ks ss es : List ℕ) : Type 0 where
   pub rising : Rising (take n is)
 
 -- what a walk along n things, each read by r, says: b holds and they reach to a place, or b does not hold
-abbrev pub Walked : {A : Type 0} → (List ℕ → Read A) → List ℕ → ℕ → ℕ → Bool → Walk → Type 0
-Walked r s at n b (To next) = (b ≡ true) × Reaches r s at n next
-Walked r s at n b No = b ≡ false
+abbrev pub walkSays : {A : Type 0} → (List ℕ → Read A) → List ℕ → ℕ → ℕ → Bool → Walk → Type 0
+walkSays r s at n b (To next) = (b ≡ true) × Reaches r s at n next
+walkSays r s at n b No = b ≡ false
+
+pub record Walked {A : Type 0} (r : List ℕ → Read A) (s : List ℕ) (at n : ℕ) (b : Bool) (w : Walk) : Type 0 where
+  pub says : walkSays r s at n b w
 
 -- whether the cell e is an edge, where is are the cells' ids and ks their kinds
 abbrev pub edgeIn : List ℕ → List ℕ → ℕ → Bool

@@ -10,8 +10,6 @@ ghost use Rattle.complex.specs.Decode.{readCycle};
 ghost use Rattle.sound.specs.Rows.{rowsOf, isVertexIn};
 ghost use Rattle.decode_parts.specs.Lists.{numbersRead, cyclesRead, Stand};
 ghost use Rattle.ask_face_named.specs.Walks.{Valued, Rowed, Walked, stepNamed, passesIn};
-use decode_parts::Skip;
-use number::Number;
 
 // A walk along a list of a script that asks something of it: the place after the list, or a no.
 pub enum Walk {
@@ -25,12 +23,10 @@ pub fn lone_named(script: &[u8], at: usize, ids: &[u32; 256], kinds: &[u32; 256]
     requires { ⌜ Valued n (now ids) (now kinds) ⌝ }
     ensures { λ r. ⌜ Walked readNumber (now (script .entry)) at 1 (isVertexIn (take n (now (ids .entry))) (take n (now (kinds .entry))) (getD (numbersRead (now (script .entry)) at 1) 0 0)) r ⌝ }
 {
-    let Number::Value(v, next) = number::read_number(script, at) else {
-        return Walk::No;
-    };
-    let kind = store::value_at(4, ids, kinds, n, v);
+    let taken = script::take_number(script, at);
+    let kind = store::value_at(4, ids, kinds, n, taken.value);
     if kind == 0 {
-        return Walk::To(next);
+        return Walk::To(taken.next);
     }
     Walk::No
 }
@@ -69,13 +65,11 @@ fn steps_named(
     let mut place = at;
     let mut left = m;
     while 0 < left {
-        let Number::Value(s, next) = number::read_number(script, place) else {
-            return false;
-        };
-        if !step_named(ids, kinds, n, s) {
+        let taken = script::take_number(script, place);
+        if !step_named(ids, kinds, n, taken.value) {
             return false;
         }
-        place = next;
+        place = taken.next;
         left -= 1;
     }
     true
@@ -95,9 +89,9 @@ fn cycle_named(
     requires { ⌜ Rowed n (now ids) (now kinds) (now starts) (now ends) ⌝ }
     ensures { λ r. ⌜ r ≡ all (passesIn (rowsOf n (now (ids .entry)) (now (kinds .entry)) (now (starts .entry)) (now (ends .entry))) true) (cyclesRead (now (script .entry)) at 1) ⌝ }
 {
-    let Number::Value(m, first) = number::read_number(script, at) else {
-        return false;
-    };
+    let size = script::take_number(script, at);
+    let m = size.value;
+    let first = size.next;
     if m == 0 {
         let Walk::To(_) = lone_named(script, first, ids, kinds, n) else {
             return false;
@@ -128,10 +122,7 @@ pub fn cycles_named(
         if !cycle_named(script, at, ids, kinds, starts, ends, n) {
             return false;
         }
-        let Skip::To(next) = decode_parts::skip_cycle(script, at) else {
-            return false;
-        };
-        at = next;
+        at = script::cycle_end(script, at);
         left -= 1;
     }
     true

@@ -10,11 +10,12 @@ use Rattle.bends.specs.Bends.{readBends, positionsAt}
 use Rattle.complex.specs.Cells.{Figure, openEdge}
 use Rattle.complex.specs.Decode.{readOpenEdge, readCreate, readCutFaceOpen, readCutFaceClosed}
 use Rattle.complex.specs.Decode as bytes
-use Rattle.decode_parts.specs.Lists.{numbersRead}
-use Rattle.decode_fields.specs.Fields.{readPair, readTwoNumbers, readThreeNumbers, readCutLists, Found, cutSays, CutLie}
+use Rattle.decode_parts.specs.Lists.{Found, numbersRead}
+use Rattle.decode_fields.specs.Fields.{readPair, readTwoNumbers, readThreeNumbers, readCutLists, cutSays, CutLie}
 use Rattle.decode_fields.specs.declared.CutLists.{CutLists}
 use Rattle.decode_fields.specs.declared.CutLists.the-variants.{Listed, Malformed}
-use Rattle.decode_fields.proofs.Pairs.{heard, pair-half, pair-both, pair-then}
+use Rattle.decode_parts.proofs.Fields.{heard}
+use Rattle.decode_fields.proofs.Pairs.{pair-half, pair-both, pair-then}
 use Rattle.decode_command.specs.declared.Decoded.{Decoded}
 use Rattle.decode_command.specs.View.{Decodes}
 use Rattle.decode_command.proofs.Decides.{read-as, of-create}

@@ -11,7 +11,8 @@ use Rattle.coordinate.specs.Positions.{readPosition}
 use Rattle.complex.specs.Cells.{Figure}
 use Rattle.complex.specs.Decode.{readCreate, readTwo, readPlace, readGlueEdges, glueEdges}
 use Rattle.complex.specs.Decode as bytes
-use Rattle.decode_fields.specs.Fields.{readPair, readTwoNumbers, readThreeNumbers, Found}
+use Rattle.decode_parts.specs.Lists.{Found}
+use Rattle.decode_fields.specs.Fields.{readPair, readTwoNumbers, readThreeNumbers}
 use Rattle.decode_fields.proofs.Pairs.{pair-then}
 use Rattle.decode_command.specs.declared.Command.{Command}
 use Rattle.decode_command.specs.declared.Decoded.{Decoded}

@@ -1,10 +1,9 @@
--- What a script begins with from a place on, read by a reader: the fields and the place after them. Definitions only.
+-- Fields that stand one after another. Definitions only.
 use Prim.Native.Nat.{ℕ, _+_, _*_, _≤_}
-use mathlib.Core.Path.{_≡_}
 use mathlib.Core.List.{List}
-use lib.ListN.{length, drop}
-use Rattle.number.specs.Readers.{Read, got, bad, andThen}
-use Rattle.number.specs.Said.{Said, done, no, Says}
+use lib.ListN.{length}
+use Rattle.number.specs.Readers.{Read, got, andThen}
+use Rattle.number.specs.Said.{Said, done, no}
 use Rattle.number.specs.Numbers.{readNumber, counted}
 use Rattle.coordinate.specs.declared.Position.{Position}
 use Rattle.bends.specs.Bends.{readBends, positionsAt}
@@ -29,17 +28,6 @@ readThreeNumbers = readPair readTwoNumbers readNumber
 -- the bend list and the moved cycles of a cut
 abbrev pub readCutLists : List ℕ → Read (List Position × List ℕ)
 readCutLists = readPair readBends (counted readNumber)
-
-module _ {A : Type 0} (r : List ℕ → Read A) (s : List ℕ) (at : ℕ) where
-  -- r finds x, which stands up to the place `next`
-  pub record FieldAt (x : A) (next : ℕ) : Type 0 where
-    pub read : r (drop at s) ≡ got x (drop next s)
-    pub after : at ≤ next
-    pub fits : next ≤ length s
-
-  -- question 2 of what r reads: 0 with it and the place after it, or 2
-  pub record Found (v : Said (A × ℕ)) : Type 0 where
-    pub is : Says 2 (λ f. FieldAt (f .0) (f .1)) (r (drop at s) ≡ bad) v
 
 -- ---- the cases of the enums: 0 with the fields and the place after them, or 2
 abbrev pub twoSays : Two → Said ((ℕ × ℕ) × ℕ)

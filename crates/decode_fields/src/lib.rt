@@ -1,7 +1,8 @@
 // Fields of a command, by their shape: two numbers, three numbers, the lists of a cut.
 ghost use Prim.Native.Nat.{_≤_};
 ghost use lib.ListN.{length};
-ghost use Rattle.decode_fields.specs.Fields.{readTwoNumbers, readThreeNumbers, readCutLists, Found, twoSays, threeSays, cutSays, CutLie};
+ghost use Rattle.decode_parts.specs.Lists.{Found};
+ghost use Rattle.decode_fields.specs.Fields.{readTwoNumbers, readThreeNumbers, readCutLists, twoSays, threeSays, cutSays, CutLie};
 use bends::BendList;
 use decode_parts::Skip;
 use number::Number;

@@ -10,7 +10,7 @@ use Rattle.number.specs.Numbers.{readNumber}
 use Rattle.number.proofs.Laws.{not-done, done-one}
 use Rattle.complex.specs.Cells.{lone, path}
 use Rattle.complex.specs.Decode.{stepOf, readStep, readCycle}
-use Rattle.decode_parts.specs.Lists.{listOf, skipped, thingsRead}
+use Rattle.decode_parts.specs.Lists.{FieldAt, Found, listOf, skipped, thingsRead}
 use Rattle.decode_parts.proofs.Rest.{Rest, Leaves, leaves-times, cycle-none, cycle-lone, cycle-path, steps-read}
 
 -- a change of what was read moves no place
@@ -48,6 +48,23 @@ module _ {A : Type 0} where
         let n : 0 ≡ left = omega arith in
         ap done e ∙ ap (λ (k : ℕ). skipped (length s) (times r k (drop at s))) n
 
+  -- ---- a walk that answers the place after the list
+  -- of n things from `at` on, those that are left from `place` on end where all of them end
+  module _ (r : List ℕ → Read A) where
+    pub record Skipping (s : List ℕ) (at n place left : ℕ) : Type 0 where
+      pub fits : place ≤ length s
+      pub ends : skipped (length s) (times r left (drop place s)) ≡ skipped (length s) (times r n (drop at s))
+
+  module _ {r : List ℕ → Read A} {s : List ℕ} {at n place left : ℕ} (k : Skipping r s at n place left) where
+    pub skipping-stop : 0 < left → Found r s place (no 2) → no 2 ≡ skipped (length s) (times r n (drop at s))
+    skipping-stop some h = skip-stop r s place left some (h .is .1) ∙ k .ends
+
+    pub skipping-turn : 0 < left → {x : A} {next : ℕ} → Found r s place (done (x, next)) → Skipping r s at n next (left - 1)
+    skipping-turn some {x} {next} h = record { fits = h .is .fits; ends = skip-turn r s place left some x next (h .is .read) ∙ k .ends }
+
+    pub skipping-end : left ≤ 0 → done place ≡ skipped (length s) (times r n (drop at s))
+    skipping-end none = skip-end r s place left (k .fits) none ∙ k .ends
+
   -- ---- the place after what was read
   module _ (r : List ℕ → Read A) (L : Leaves r) (s : List ℕ) where
     place-is : (at next : ℕ) (t : List ℕ) → Rest s at t → length s - length t ≡ next → (t ≡ drop next s) × (at ≤ next) × (next ≤ length s)
@@ -81,22 +98,22 @@ module _ {A : Type 0} where
         go bad f p = absurd (not-done 2 next p)
 
 -- ---- a cycle: its length, then its vertex or its steps
-module _ (s : List ℕ) (at : ℕ) where
-  pub cycle-stop : readNumber (drop at s) ≡ bad → no 2 ≡ skipped (length s) (readCycle (drop at s))
-  cycle-stop e = ap (skipped (length s)) (sym (cycle-none (drop at s) e))
+pub cycle-stop : (s : List ℕ) (at : ℕ) → Found readNumber s at (no 2) → no 2 ≡ skipped (length s) (readCycle (drop at s))
+cycle-stop s at h = ap (skipped (length s)) (sym (cycle-none (drop at s) (h .is .1)))
 
-  module _ (m first : ℕ) (size : readNumber (drop at s) ≡ got m (drop first s)) where
-    pub cycle-vertex : m ≡ 0 → skipped (length s) (times readNumber 1 (drop first s)) ≡ skipped (length s) (readCycle (drop at s))
-    cycle-vertex z =
-        one (readNumber (drop first s)) ∙ ap (skipped (length s)) (sym (cycle-lone (drop at s) (drop first s) (size ∙ ap (λ (n : ℕ). got n (drop first s)) z)))
-      where
-        one : (q : Read ℕ) → skipped (length s) (andThen q λ x u. got (x ∷ []) u) ≡ skipped (length s) (andThen q λ v u. got (lone v) u)
-        one (got v u) = refl
-        one bad = refl
+module _ {s : List ℕ} {at m first : ℕ} (size : FieldAt readNumber s at m first) where
+  pub cycle-vertex : m ≡ 0 → skipped (length s) (times readNumber 1 (drop first s)) ≡ skipped (length s) (readCycle (drop at s))
+  cycle-vertex z =
+      one (readNumber (drop first s))
+      ∙ ap (skipped (length s)) (sym (cycle-lone (drop at s) (drop first s) (size .read ∙ ap (λ (n : ℕ). got n (drop first s)) z)))
+    where
+      one : (q : Read ℕ) → skipped (length s) (andThen q λ x u. got (x ∷ []) u) ≡ skipped (length s) (andThen q λ v u. got (lone v) u)
+      one (got v u) = refl
+      one bad = refl
 
-    pub cycle-steps : (m ≡ 0 → ⊥) → skipped (length s) (times readNumber m (drop first s)) ≡ skipped (length s) (readCycle (drop at s))
-    cycle-steps z =
-        sym (skipped-changed (map stepOf) (length s) (times readNumber m (drop first s)))
-        ∙ ap (skipped (length s)) (sym (steps-read m (drop first s)))
-        ∙ sym (skipped-changed path (length s) (times readStep m (drop first s)))
-        ∙ ap (skipped (length s)) (sym (cycle-path (drop at s) (drop first s) m size z))
+  pub cycle-steps : (m ≡ 0 → ⊥) → skipped (length s) (times readNumber m (drop first s)) ≡ skipped (length s) (readCycle (drop at s))
+  cycle-steps z =
+      sym (skipped-changed (map stepOf) (length s) (times readNumber m (drop first s)))
+      ∙ ap (skipped (length s)) (sym (steps-read m (drop first s)))
+      ∙ sym (skipped-changed path (length s) (times readStep m (drop first s)))
+      ∙ ap (skipped (length s)) (sym (cycle-path (drop at s) (drop first s) m (size .read) z))

@@ -1,10 +1,10 @@
--- Lists that stay in a script, held as a place and a count. Definitions only.
+-- What stands at a place of a script; lists that stay there, held as a place and a count. Definitions only.
 use Prim.Native.Nat.{ℕ, _+_, _-_, _*_, _≤_}
 use mathlib.Core.Path.{_≡_}
 use mathlib.Core.List.{List, []}
 use lib.ListN.{length, drop}
 use Rattle.number.specs.Readers.{Read, got, bad, times}
-use Rattle.number.specs.Said.{Said, done, no, foundOr}
+use Rattle.number.specs.Said.{Said, done, no, foundOr, Says}
 use Rattle.number.specs.Numbers.{readNumber}
 use Rattle.coordinate.specs.declared.Position.{Position}
 use Rattle.bends.specs.declared.BendList.{BendList}
@@ -15,6 +15,19 @@ use Rattle.complex.specs.Decode.{readCycle}
 use Rattle.decode_parts.specs.declared.Skip.{Skip}
 use Rattle.decode_parts.specs.declared.Skip.the-variants as skip
 
+-- ---- what stands at a place of a script
+module _ {A : Type 0} (r : List ℕ → Read A) (s : List ℕ) (at : ℕ) where
+  -- r finds x, which stands up to the place `next`
+  pub record FieldAt (x : A) (next : ℕ) : Type 0 where
+    pub read : r (drop at s) ≡ got x (drop next s)
+    pub after : at ≤ next
+    pub fits : next ≤ length s
+
+  -- question 2 of what r reads: 0 with it and the place after it, or 2
+  pub record Found (v : Said (A × ℕ)) : Type 0 where
+    pub is : Says 2 (λ f. FieldAt (f .0) (f .1)) (r (drop at s) ≡ bad) v
+
+-- ---- lists
 -- the cases of `Skip`: 0 with the place after a list, or 2
 abbrev pub skipSays : Skip → Said ℕ
 skipSays (skip.To next) = done next

@@ -1,30 +1,27 @@
 -- Numbers and cycles on their way from a script to arrays. Assumes nothing.
 use mathlib.Core.Path.{_≡_, refl, sym, ap, _∙_, subst}
-use mathlib.Core.Bool.{true, false≢true}
 use mathlib.Core.List.{List, [], _∷_, map, append-nil}
 use Prim.Native.Nat.{ℕ, _+_, _-_, _≤_, _<_}
 use native.Mathlib.Numerals.{add-one}
 use native.Mathlib.Omega.{arith}
-use lib.ListN.{length, getD, set, drop, length-set}
-use lib.Seq.{sets, length-sets, getD-set-same}
-use Rattle.number.specs.Readers.{Read, got, bad, andThen, times, spread}
+use lib.ListN.{length, set, drop, length-set}
+use lib.Seq.{sets, length-sets}
+use Rattle.number.specs.Readers.{Read, got, bad, spread}
 use Rattle.number.specs.Numbers.{readNumber}
-use Rattle.number.proofs.Laws.{not-bad, got-rest}
 use Rattle.number.proofs.Counted.{times-length}
 use Rattle.coordinate.proofs.Bytes.{sets-append}
 use Rattle.complex.specs.Lists.{total}
-use Rattle.complex.specs.Cells.{Cycle, lone, path}
+use Rattle.complex.specs.Cells.{Cycle}
 use Rattle.complex.specs.Sound.{stepCount}
 use Rattle.complex.specs.Decode.{readCycle}
-use Rattle.store.specs.Sheet.{real}
 use Rattle.store.specs.Places.{numOf, cycleWords}
 use Rattle.store.specs.Edits.{placesOf}
 use Rattle.store.proofs.Encode.{places-size}
-use Rattle.decode_parts.specs.Lists.{listOf, thingsRead, numbersRead, cyclesRead, Reaches, Stand}
-use Rattle.decode_parts.proofs.Rest.{Leaves, leaves-number, leaves-cycle}
-use Rattle.script.specs.Walks.{Copied, ScriptRoom, Loaded}
-use Rattle.script.proofs.Steps.{first-thing, Walking, walking-start, walking-turn, walking-end}
-use Rattle.script.proofs.Cycles.{cycleFrom, from-number, from-places, cycle-size, real-read, numbers-stand, cycle-is, cycle-reach}
+use Rattle.decode_parts.specs.Lists.{FieldAt, numbersRead, cyclesRead, Reaches, Stand}
+use Rattle.decode_parts.proofs.Rest.{leaves-number, leaves-cycle, cycle-none}
+use Rattle.script.specs.Walks.{Copied, ScriptRoom}
+use Rattle.script.proofs.Steps.{stuck, first-thing, turn, one-stands, none-after, field-reaches, reach-field, field-list, Walking, walking-start, walking-turn, walking-end}
+use Rattle.script.proofs.Cycles.{cycleFrom, from-number, from-places, cycle-size, numbers-stand, cycle-is, cycle-reach}
 
 -- ---- numbers
 -- what is left to copy makes, from here on, what all of it makes
@@ -34,14 +31,13 @@ pub record Copying (s : List ℕ) (at n to : ℕ) (out₀ out : List ℕ) (place
   pub size : length out ≡ length out₀
   pub numbers : sets out row (numbersRead s place left) ≡ sets out₀ to (numbersRead s at n)
 
-pub copying-start : (s : List ℕ) (at n to : ℕ) (out : List ℕ) → Stand readNumber s at n → Copying s at n to out out at n to
-copying-start s at n to out h = record { walk = walking-start readNumber s at n h; rows = refl; size = refl; numbers = refl }
+pub copying-start : {s : List ℕ} {at n to : ℕ} {out : List ℕ} → Stand readNumber s at n → Copying s at n to out out at n to
+copying-start h = record { walk = walking-start h; rows = refl; size = refl; numbers = refl }
 
-module _ (s : List ℕ) (at n to : ℕ) (out₀ out : List ℕ) (place left row : ℕ) (c : Copying s at n to out₀ out place left row) where
-  pub copying-turn : 0 < left → (x next : ℕ) → readNumber (drop place s) ≡ got x (drop next s) → next ≤ length s
-      → Copying s at n to out₀ (set out row x) next (left - 1) (row + 1)
-  copying-turn some x next e h =
-      let w = walking-turn readNumber leaves-number s at n place left (c .walk) some x next e h in
+module _ {s : List ℕ} {at n to : ℕ} {out₀ out : List ℕ} {place left row : ℕ} (c : Copying s at n to out₀ out place left row) where
+  pub copying-turn : 0 < left → {x next : ℕ} → FieldAt readNumber s place x next → Copying s at n to out₀ (set out row x) next (left - 1) (row + 1)
+  copying-turn some {x} {next} f =
+      let w = walking-turn (c .walk) leaves-number some f in
       let r = c .rows in
       record {
         walk = w .1;
@@ -53,80 +49,77 @@ module _ (s : List ℕ) (at n to : ℕ) (out₀ out : List ℕ) (place left row 
             ∙ c .numbers;
       }
 
-  pub copying-end : at ≤ length s → left ≤ 0 → Copied s at n to out₀ out place
-  copying-end h z =
+  pub copying-end : left ≤ 0 → Copied s at n to out₀ out place
+  copying-end z =
       let e : left ≡ 0 = omega arith in
       record {
         numbers = ap (λ (k : ℕ). sets out row (numbersRead s place k)) (sym e) ∙ c .numbers;
-        reach = walking-end readNumber leaves-number s at n place left (c .walk) h z;
+        reach = walking-end (c .walk) leaves-number z;
       }
-
--- ---- one thing of a list
-module _ {A : Type 0} (r : List ℕ → Read A) (s : List ℕ) (at : ℕ) where
-  one-got : (x : A) (t : List ℕ) → r (drop at s) ≡ got x t → times r 1 (drop at s) ≡ got (x ∷ []) t
-  one-got x t e = ap (λ (q : Read A). andThen q λ y u. got (y ∷ []) u) e
-
-  pub record One (next : ℕ) : Type 0 where
-    pub thing : A
-    pub read : r (drop at s) ≡ got thing (drop next s)
-    pub list : thingsRead r s at 1 ≡ thing ∷ []
-
-  pub reach-one : (next : ℕ) → Reaches r s at 1 next → One next
-  reach-one next h = go (r (drop at s)) refl
-    where
-      go : (q : Read A) → r (drop at s) ≡ q → One next
-      go (got x t) f =
-          let w = one-got x t f in
-          let l : thingsRead r s at 1 ≡ x ∷ [] = ap listOf w in
-          record { thing = x; read = f ∙ ap (got x) (got-rest (x ∷ []) (thingsRead r s at 1) t (drop next s) (sym w ∙ h .read)); list = l }
-      go bad f = absurd (not-bad (thingsRead r s at 1) (drop next s) (sym (ap (λ (q : Read A). andThen q λ y u. got (y ∷ []) u) f) ∙ h .read))
-
-  -- the first of several stands by itself
-  pub one-stands : (left : ℕ) → 0 < left → Leaves r → Stand r s at left → Stand r s at 1
-  one-stands left some L h =
-      let a = h .reach .after in
-      let b = h .reach .fits in
-      let f = first-thing r s at left some h in
-      let l = L s at (f .head) (f .between) (omega arith) (f .one) in
-      let w = one-got (f .head) (f .between) (f .one) in
-      record {
-        end = l .next;
-        reach = record { read = w ∙ (λ i. got (listOf (sym w i)) (l .is i)); after = l .after; fits = l .fits };
-      }
-
--- ---- cycles and their places
-real-size : (k : Cycle) → real k ≡ true → placesOf 1 (numOf k) ≡ stepCount k
-real-size (lone v) e = refl
-real-size (path []) e = absurd (false≢true e)
-real-size (path (h ∷ hs)) e = refl
 
 -- ---- one cycle
-module _ (s : List ℕ) (at m first n : ℕ) (number : readNumber (drop at s) ≡ got m (drop first s)) (wide : n ≡ placesOf 1 m) where
-  -- its numbers stand, and are as many as the places that it takes
-  pub cycle-stands : first ≤ length s → Stand readCycle s at 1 → Stand readNumber s first n
-  cycle-stands h stand = subst (Stand readNumber s first) (sym wide) (numbers-stand s at m first number h stand)
+-- the length that it begins with stands
+pub length-stands : {s : List ℕ} {at left : ℕ} → Stand readCycle s at left → 0 < left → Stand readNumber s at 1
+length-stands {s} {at} {left} stand some = go (readNumber (drop at s)) refl
+  where
+    inside : at ≤ length s
+    inside = let a = stand .reach .after in let f = stand .reach .fits in omega arith
 
-  pub cycle-total : Stand readCycle s at 1 → total stepCount (cyclesRead s at 1) ≡ n
-  cycle-total stand =
-      let o = reach-one readCycle s at (stand .end) (stand .reach) in
-      let e : total stepCount (cyclesRead s at 1) ≡ stepCount (o .thing) + 0 = ap (total stepCount) (o .list) in
-      let z = cycle-size m (drop at s) (drop first s) (drop (stand .end) s) (o .thing) number (o .read) in
-      omega arith
+    go : (q : Read ℕ) → readNumber (drop at s) ≡ q → Stand readNumber s at 1
+    go (got m t) e =
+        let l = leaves-number s at m t inside e in
+        record { end = l .next; reach = field-reaches (record { read = e ∙ ap (got m) (l .is); after = l .after; fits = l .fits }) }
+    go bad e = absurd (stuck stand some (cycle-none (drop at s) e))
 
-  pub loaded : (counts : List ℕ) (i : ℕ) (steps : List ℕ) (used : ℕ) (steps′ : List ℕ) (next : ℕ) → at ≤ first → Copied s first n used steps steps′ next
-      → Loaded s at counts i steps used (set counts i m) steps′ next
-  loaded counts i steps used steps′ next far done =
+module _ {s : List ℕ} {at left m first : ℕ} (stand : Stand readCycle s at left) (some : 0 < left) (size : FieldAt readNumber s at m first) where
+  -- its steps, and those of the cycles after it
+  pub first-steps : (rest : ℕ) × ((total stepCount (cyclesRead s at left) ≡ placesOf 1 m + rest) × (left ≡ 1 → rest ≡ 0))
+  first-steps =
+      let f = first-thing stand some in
+      let z = cycle-size m (drop at s) (drop first s) (f .between) (f .head) (size .read) (f .one) in
+      let w : total stepCount (cyclesRead s at left) ≡ stepCount (f .head) + total stepCount (f .tail) = ap (total stepCount) (f .whole) in (
+        total stepCount (f .tail),
+        (omega arith, λ e. ap (total stepCount) (none-after readCycle left e (f .between) (drop (stand .end) s) (f .tail) (f .others))),
+      )
+
+  -- the same where it ends
+  module _ {next : ℕ} (reach : Reaches readCycle s at 1 next) where
+    pub steps-after : total stepCount (cyclesRead s at left) ≡ placesOf 1 m + total stepCount (cyclesRead s next (left - 1))
+    steps-after =
+        let k = reach-field reach in
+        let z = cycle-size m (drop at s) (drop first s) (drop next s) (k .0) (size .read) (k .1 .read) in
+        let w : total stepCount (cyclesRead s at left) ≡ stepCount (k .0) + total stepCount (cyclesRead s next (left - 1)) = ap (total stepCount)
+        (turn stand some leaves-cycle (k .1) .0) in
+        omega arith
+
+    pub cycles-after : Stand readCycle s next (left - 1)
+    cycles-after = turn stand some leaves-cycle (reach-field reach .1) .1
+
+-- its numbers, as many as the places that it takes, on their way to the arrays
+module _ {s : List ℕ} {at m first n : ℕ} (size : FieldAt readNumber s at m first) (wide : n ≡ placesOf 1 m) where
+  pub cycle-stands : Stand readCycle s at 1 → Stand readNumber s first n
+  cycle-stands stand = subst (Stand readNumber s first) (sym wide) (numbers-stand s at m first (size .read) (size .fits) stand)
+
+  -- one cycle of the script stands in the arrays
+  record Loaded (counts : List ℕ) (i : ℕ) (steps : List ℕ) (used : ℕ) (counts′ steps′ : List ℕ) (next : ℕ) : Type 0 where
+    lengths : counts′ ≡ sets counts i (map numOf (cyclesRead s at 1))
+    places : steps′ ≡ sets steps used (spread cycleWords (cyclesRead s at 1))
+    reach : Reaches readCycle s at 1 next
+
+  loaded : (counts : List ℕ) (i : ℕ) (steps : List ℕ) (used : ℕ) (steps′ : List ℕ) (next : ℕ) → Copied s first n used steps steps′ next
+      → Loaded counts i steps used (set counts i m) steps′ next
+  loaded counts i steps used steps′ next done =
       let c = subst (λ (k : ℕ). Copied s first k used steps steps′ next) wide done in
       let ns = numbersRead s first (placesOf 1 m) in
       let z : length ns ≡ placesOf 1 m = times-length readNumber (placesOf 1 m) (drop first s) (drop next s) ns (c .reach .read) in
-      let e = cycle-is s at m first number next far (c .reach) in
+      let e = cycle-is s at m first (size .read) next (size .after) (c .reach) in
       record {
         lengths = ap (set counts i) (sym (from-number m ns z)) ∙ ap (λ (ks : List Cycle). sets counts i (map numOf ks)) (sym e);
         places =
             c .numbers
             ∙ ap (sets steps used) (sym (from-places m ns z) ∙ sym (append-nil (cycleWords (cycleFrom m ns))))
             ∙ ap (λ (ks : List Cycle). sets steps used (spread cycleWords ks)) (sym e);
-        reach = cycle-reach s at m first number next far (c .reach);
+        reach = cycle-reach s at m first (size .read) next (size .after) (c .reach);
       }
 
 -- ---- a face's cycles
@@ -145,7 +138,7 @@ pub loading-start : (s : List ℕ) (first n : ℕ) (counts : List ℕ) (row : �
     → Loading s first n counts row steps place counts steps first n row place
 loading-start s first n counts row steps place h =
     record {
-      walk = walking-start readCycle s first n h;
+      walk = walking-start h;
       rows = refl;
       sum = refl;
       countsSize = refl;
@@ -157,80 +150,54 @@ loading-start s first n counts row steps place h =
 module _ {s : List ℕ} {first n : ℕ} {counts₀ : List ℕ} {row : ℕ} {steps₀ : List ℕ} {place : ℕ} {counts steps : List ℕ} {at left i used : ℕ}
     (room : ScriptRoom s first n counts₀ row steps₀ place) (l : Loading s first n counts₀ row steps₀ place counts steps at left i used) where
   module _ (some : 0 < left) where
-    pub loading-room : ScriptRoom s at 1 counts i steps used
-    loading-room =
-        let h = l .walk .stand in
-        let o = one-stands readCycle s at left some leaves-cycle h in
-        let p = reach-one readCycle s at (o .end) (o .reach) in
-        let w = walking-turn readCycle leaves-cycle s first n at left (l .walk) some (p .thing) (o .end) (p .read) (o .reach .fits) in
-        let a : total stepCount (cyclesRead s at 1) ≡ stepCount (p .thing) + 0 = ap (total stepCount) (p .list) in
-        let b : total stepCount (cyclesRead s at left) ≡ stepCount (p .thing) + total stepCount (cyclesRead s (o .end) (left - 1)) = ap (total stepCount)
-        (w .0) in
-        let r = l .rows in
-        let u = l .sum in
-        let c = l .countsSize in
-        let d = l .stepsSize in
-        let e = room .rows in
-        let f = room .places in
-        record { stand = o; rows = omega arith; places = omega arith }
+    pub loading-one : Stand readCycle s at 1
+    loading-one = one-stands (l .walk .stand) some leaves-cycle
 
-    module _ {counts′ steps′ : List ℕ} {next : ℕ} (done : Loaded s at counts i steps used counts′ steps′ next) {k : ℕ}
-        (places-is : k ≡ placesOf 1 (getD counts′ i 0)) where
-      -- the cycle that was loaded
-      o : One readCycle s at next
-      o = reach-one readCycle s at next (done .reach)
-
-      stored : counts′ ≡ set counts i (numOf (o .thing))
-      stored = done .lengths ∙ ap (λ (ks : List Cycle). sets counts i (map numOf ks)) (o .list)
-
-      width : k ≡ stepCount (o .thing)
-      width =
-          let r = l .rows in
-          let c = l .countsSize in
-          let e = room .rows in
-          places-is
-          ∙ ap (λ (ns : List ℕ). placesOf 1 (getD ns i 0)) stored
-          ∙ ap (placesOf 1) (getD-set-same counts i (numOf (o .thing)) 0 (omega arith))
-          ∙ real-size (o .thing) (real-read (drop at s) (drop next s) (o .thing) (o .read))
-
-      written : steps′ ≡ sets steps used (cycleWords (o .thing))
-      written = done .places ∙ ap (λ (ks : List Cycle). sets steps used (spread cycleWords ks)) (o .list) ∙ ap (sets steps used) (append-nil (cycleWords (o .thing)))
-
-      pub loading-sum : used + k ≤ length steps₀
-      loading-sum =
-          let w = walking-turn readCycle leaves-cycle s first n at left (l .walk) some (o .thing) next (o .read) (done .reach .fits) in
-          let b : total stepCount (cyclesRead s at left) ≡ stepCount (o .thing) + total stepCount (cyclesRead s next (left - 1)) = ap (total stepCount)
-          (w .0) in
+    module _ {m from k : ℕ} (size : FieldAt readNumber s at m from) (wide : k ≡ placesOf 1 m) where
+      -- its places are left in the array
+      pub loading-fit : used + k ≤ length steps₀
+      loading-fit =
+          let f = first-steps (l .walk .stand) some size .1 .0 in
           let u = l .sum in
-          let f = room .places in
-          let z = width in
+          let r = room .places in
           omega arith
 
-      pub loading-turn : Loading s first n counts₀ row steps₀ place counts′ steps′ next (left - 1) (i + 1) (used + k)
-      loading-turn =
-          let w = walking-turn readCycle leaves-cycle s first n at left (l .walk) some (o .thing) next (o .read) (done .reach .fits) in
-          let b : total stepCount (cyclesRead s at left) ≡ stepCount (o .thing) + total stepCount (cyclesRead s next (left - 1)) = ap (total stepCount)
-          (w .0) in
-          let r = l .rows in
-          let u = l .sum in
-          let z = width in
-          let y : used + k ≡ used + length (cycleWords (o .thing)) = ap (λ (j : ℕ). used + j) (z ∙ sym (places-size (o .thing))) in
-          record {
-            walk = w .1;
-            rows = omega arith;
-            sum = omega arith;
-            countsSize = ap length (done .lengths) ∙ length-sets counts i (map numOf (cyclesRead s at 1)) ∙ l .countsSize;
-            stepsSize = ap length (done .places) ∙ length-sets steps used (spread cycleWords (cyclesRead s at 1)) ∙ l .stepsSize;
-            lengths =
-                (λ j. sets (stored j) (add-one i j) (map numOf (cyclesRead s next (left - 1))))
-                ∙ ap (λ (ks : List Cycle). sets counts i (map numOf ks)) (sym (w .0))
-                ∙ l .lengths;
-            places =
-                (λ j. sets (written j) (y j) (spread cycleWords (cyclesRead s next (left - 1))))
-                ∙ sets-append steps used (cycleWords (o .thing)) (spread cycleWords (cyclesRead s next (left - 1)))
-                ∙ ap (λ (ks : List Cycle). sets steps used (spread cycleWords ks)) (sym (w .0))
-                ∙ l .places;
-          }
+      module _ {steps′ : List ℕ} {next : ℕ} (done : Copied s from k used steps steps′ next) where
+        here : Loaded size wide counts i steps used (set counts i m) steps′ next
+        here = loaded size wide counts i steps used steps′ next done
+
+        cycle : (x : Cycle) × FieldAt readCycle s at x next
+        cycle = reach-field (here .reach)
+
+        pub loading-turn : Loading s first n counts₀ row steps₀ place (set counts i m) steps′ next (left - 1) (i + 1) (used + k)
+        loading-turn =
+            let x = cycle .0 in
+            let w = walking-turn (l .walk) leaves-cycle some (cycle .1) in
+            let b = steps-after (l .walk .stand) some size (here .reach) in
+            let z : stepCount x ≡ placesOf 1 m = cycle-size m (drop at s) (drop from s) (drop next s) x (size .read) (cycle .1 .read) in
+            let o : cyclesRead s at 1 ≡ x ∷ [] = field-list (cycle .1) in
+            let stored : set counts i m ≡ set counts i (numOf x) = here .lengths ∙ ap (λ (ks : List Cycle). sets counts i (map numOf ks)) o in
+            let written : steps′ ≡ sets steps used (cycleWords x) = here .places
+            ∙ ap (λ (ks : List Cycle). sets steps used (spread cycleWords ks)) o ∙ ap (sets steps used) (append-nil (cycleWords x)) in
+            let r = l .rows in
+            let u = l .sum in
+            let y : used + k ≡ used + length (cycleWords x) = ap (λ (j : ℕ). used + j) (wide ∙ sym z ∙ sym (places-size x)) in
+            record {
+              walk = w .1;
+              rows = omega arith;
+              sum = omega arith;
+              countsSize = length-set counts i m ∙ l .countsSize;
+              stepsSize = ap length (here .places) ∙ length-sets steps used (spread cycleWords (cyclesRead s at 1)) ∙ l .stepsSize;
+              lengths =
+                  (λ j. sets (stored j) (add-one i j) (map numOf (cyclesRead s next (left - 1))))
+                  ∙ ap (λ (ks : List Cycle). sets counts i (map numOf ks)) (sym (w .0))
+                  ∙ l .lengths;
+              places =
+                  (λ j. sets (written j) (y j) (spread cycleWords (cyclesRead s next (left - 1))))
+                  ∙ sets-append steps used (cycleWords x) (spread cycleWords (cyclesRead s next (left - 1)))
+                  ∙ ap (λ (ks : List Cycle). sets steps used (spread cycleWords ks)) (sym (w .0))
+                  ∙ l .places;
+            }
 
   module _ (none : left ≤ 0) where
     nothing : cyclesRead s at left ≡ []

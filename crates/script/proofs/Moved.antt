@@ -23,15 +23,15 @@ or-true true = refl
 or-true false = refl
 
 -- ---- rising places
-module _ (lo n : ℕ) (ns : List ℕ) (hi : ℕ) where
-  pub rise-low : n < lo → false ≡ places lo (n ∷ ns) hi
-  rise-low h = ap (λ (b : Bool). b && (ltb n hi && places (suc n) ns hi)) (sym (lt-leb lo n h))
+module _ {lo n : ℕ} (ns : List ℕ) where
+  pub rise-low : (hi : ℕ) → n < lo → false ≡ places lo (n ∷ ns) hi
+  rise-low hi h = ap (λ (b : Bool). b && (ltb n hi && places (suc n) ns hi)) (sym (lt-leb lo n h))
 
-  pub rise-high : lo ≤ n → hi ≤ n → false ≡ places lo (n ∷ ns) hi
-  rise-high l h = λ i. sym (le-leb lo n l) i && (sym (le-ltb n hi h) i && places (suc n) ns hi)
+  pub rise-high : {hi : ℕ} → lo ≤ n → hi ≤ n → false ≡ places lo (n ∷ ns) hi
+  rise-high {hi} l h = λ i. sym (le-leb lo n l) i && (sym (le-ltb n hi h) i && places (suc n) ns hi)
 
-  pub rise-next : lo ≤ n → n < hi → places (n + 1) ns hi ≡ places lo (n ∷ ns) hi
-  rise-next l h =
+  pub rise-next : {hi : ℕ} → lo ≤ n → n < hi → places (n + 1) ns hi ≡ places lo (n ∷ ns) hi
+  rise-next {hi} l h =
       ap (λ (k : ℕ). places k ns hi) (add-one n)
       ∙ (λ i. sym (le-leb lo n l) i && (sym (lt-ltb n hi h) i && places (suc n) ns hi))
 
@@ -45,11 +45,11 @@ places-below lo (n ∷ ns) hi most h e =
     true-of (below most (n ∷ ns)) (pair (ltb n most) (below most ns) (lt→ltb n most (omega arith)) (truth r))
 
 -- ---- a number among others
-pub has-here : (n : ℕ) (ms : List ℕ) (m : ℕ) → n ≡ m → true ≡ holds n (m ∷ ms)
-has-here n ms m e = ap (λ (b : Bool). b || holds n ms) (sym (eq-eqb n m e))
+pub has-here : {n m : ℕ} (ms : List ℕ) → n ≡ m → true ≡ holds n (m ∷ ms)
+has-here {n} {m} ms e = ap (λ (b : Bool). b || holds n ms) (sym (eq-eqb n m e))
 
-pub has-later : (n : ℕ) (ms : List ℕ) (m : ℕ) → (n ≡ m → ⊥) → holds n ms ≡ holds n (m ∷ ms)
-has-later n ms m e = ap (λ (b : Bool). b || holds n ms) (sym (ne-eqb n m e))
+pub has-later : {n m : ℕ} (ms : List ℕ) → (n ≡ m → ⊥) → holds n ms ≡ holds n (m ∷ ms)
+has-later {n} {m} ms e = ap (λ (b : Bool). b || holds n ms) (sym (ne-eqb n m e))
 
 -- ---- flags
 -- the numbers ms are flagged, but for those that are left
@@ -82,10 +82,10 @@ module _ {ms : List ℕ} {n : ℕ} {left : List ℕ} {flags : List Bool} (m : Ma
           let z = m .size in
           ap (λ (b : Bool). b || holds i left) (ap (λ (j : ℕ). getD (set flags n true) j false) e ∙ getD-set-same flags n true false (omega arith))
           ∙ sym (or-true (getD flags i false))
-          ∙ ap (λ (b : Bool). getD flags i false || b) (has-here i left n e)
+          ∙ ap (λ (b : Bool). getD flags i false || b) (has-here left e)
 
       other : (i ≡ n → ⊥) → (getD (set flags n true) i false || holds i left) ≡ (getD flags i false || holds i (n ∷ left))
-      other e = ap (λ (b : Bool). b || holds i left) (getD-set-other flags n i true false e) ∙ ap (λ (b : Bool). getD flags i false || b) (has-later i left n e)
+      other e = ap (λ (b : Bool). b || holds i left) (getD-set-other flags n i true false e) ∙ ap (λ (b : Bool). getD flags i false || b) (has-later left e)
 
   pub marking-turn : {k : ℕ} → k ≡ n → Marking ms left (set flags k true)
   marking-turn {k} e =

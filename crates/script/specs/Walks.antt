@@ -2,16 +2,14 @@
 use Prim.Native.Nat.{ℕ, _+_, _≤_, _<_}
 use mathlib.Core.Path.{_≡_}
 use mathlib.Core.Bool.{Bool, false}
-use mathlib.Core.List.{List, map}
+use mathlib.Core.List.{List}
 use lib.Dec.{ltb}
 use lib.ListN.{length, getD}
 use lib.Seq.{sets}
-use Rattle.number.specs.Readers.{spread}
 use Rattle.number.specs.Numbers.{readNumber}
 use Rattle.complex.specs.Lists.{all, total, holds}
 use Rattle.complex.specs.Sound.{stepCount}
 use Rattle.complex.specs.Decode.{readCycle}
-use Rattle.store.specs.Places.{numOf, cycleWords}
 use Rattle.decode_parts.specs.Lists.{numbersRead, cyclesRead, Reaches, Stand}
 
 -- every number is below n
@@ -33,10 +31,3 @@ pub record ScriptRoom (s : List ℕ) (at n : ℕ) (counts : List ℕ) (i : ℕ) 
   pub stand : Stand readCycle s at n
   pub rows : i + n ≤ length counts
   pub places : used + total stepCount (cyclesRead s at n) ≤ length steps
-
--- one cycle of the script stands in the arrays
-pub record Loaded (s : List ℕ) (at : ℕ) (counts₀ : List ℕ) (i : ℕ) (steps₀ : List ℕ) (used : ℕ)
-    (counts steps : List ℕ) (next : ℕ) : Type 0 where
-  pub lengths : counts ≡ sets counts₀ i (map numOf (cyclesRead s at 1))
-  pub places : steps ≡ sets steps₀ used (spread cycleWords (cyclesRead s at 1))
-  pub reach : Reaches readCycle s at 1 next

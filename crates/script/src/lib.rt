@@ -10,12 +10,41 @@ ghost use Rattle.complex.specs.Lists.{total, holds, places};
 ghost use Rattle.complex.specs.Sound.{stepCount};
 ghost use Rattle.complex.specs.Decode.{readCycle};
 ghost use Rattle.store.specs.Places.{numOf, cycleWords};
-ghost use Rattle.decode_parts.specs.Lists.{numbersRead, cyclesRead, Stand};
-ghost use Rattle.script.specs.Walks.{below, Marks, Copied, ScriptRoom, Loaded};
+ghost use Rattle.decode_parts.specs.Lists.{FieldAt, numbersRead, cyclesRead, Reaches, Stand};
+ghost use Rattle.script.specs.Walks.{below, Marks, Copied, ScriptRoom};
 use decode_parts::Skip;
 use number::Number;
 // Walks along the lists that a command leaves in its script: the moved cycles of a cut, and the
 // cycles of a face.
+
+// ---- one thing of a list that stands in the script
+
+// A number, and the place after it.
+pub struct Taken {
+    pub value: u32,
+    pub next: usize,
+}
+
+pub fn take_number(script: &[u8], at: usize) -> Taken
+    requires { ⌜ Stand readNumber (now script) at 1 ⌝ }
+    ensures { λ r. ⌜ FieldAt readNumber (now (script .entry)) at (r .value) (r .next) ⌝ }
+{
+    let Number::Value(value, next) = number::read_number(script, at) else {
+        return Taken { value: 0, next: at };
+    };
+    Taken { value, next }
+}
+
+// The place after a cycle.
+pub fn cycle_end(script: &[u8], at: usize) -> usize
+    requires { ⌜ Stand readCycle (now script) at 1 ⌝ }
+    ensures { λ r. ⌜ Reaches readCycle (now (script .entry)) at 1 r ⌝ }
+{
+    let Skip::To(next) = decode_parts::skip_cycle(script, at) else {
+        return at;
+    };
+    next
+}
 
 // ---- moved cycles
 
@@ -28,9 +57,8 @@ pub fn moved_rise(script: &[u8], place: usize, count: u32, limit: u32) -> bool
     let mut left = count;
     let mut least: u32 = 0;
     while 0 < left {
-        let Number::Value(cycle, next) = number::read_number(script, at) else {
-            return false;
-        };
+        let taken = take_number(script, at);
+        let cycle = taken.value;
         if cycle < least {
             return false;
         }
@@ -38,7 +66,7 @@ pub fn moved_rise(script: &[u8], place: usize, count: u32, limit: u32) -> bool
             return false;
         }
         least = cycle + 1;
-        at = next;
+        at = taken.next;
         left -= 1;
     }
     true
@@ -51,13 +79,12 @@ pub fn moved_has(script: &[u8], place: usize, count: u32, cycle: u32) -> bool
     let mut at = place;
     let mut left = count;
     while 0 < left {
-        let Number::Value(other, next) = number::read_number(script, at) else {
-            return false;
-        };
+        let taken = take_number(script, at);
+        let other = taken.value;
         if cycle == other {
             return true;
         }
-        at = next;
+        at = taken.next;
         left -= 1;
     }
     false
@@ -73,12 +100,10 @@ pub fn mark_moved(script: &[u8], place: usize, count: u32, flags: &mut [bool; 51
     let mut at = place;
     let mut left = count;
     while 0 < left {
-        let Number::Value(cycle, next) = number::read_number(script, at) else {
-            return;
-        };
-        let i = store::wide(cycle);
+        let taken = take_number(script, at);
+        let i = store::wide(taken.value);
         flags[i] = true;
-        at = next;
+        at = taken.next;
         left -= 1;
     }
 }
@@ -96,21 +121,16 @@ pub fn count_cycle_steps(script: &[u8], first: usize, count: u32, max: u32) -> u
     let mut left = count;
     let mut sum: usize = 0;
     while 0 < left {
-        let Number::Value(m, _) = number::read_number(script, at) else {
-            return 0;
-        };
-        let n = store::places(1, m);
+        let size = take_number(script, at);
+        let n = store::places(1, size.value);
         if most - sum < n {
             return most + 1;
         }
         if left == 1 {
             return sum + n;
         }
-        let Skip::To(next) = decode_parts::skip_cycle(script, at) else {
-            return 0;
-        };
         sum = sum + n;
-        at = next;
+        at = cycle_end(script, at);
         left -= 1;
     }
     sum
@@ -127,37 +147,13 @@ fn copy_numbers(script: &[u8], at: usize, count: usize, out: &mut [u32; 2048], t
     let mut left = count;
     let mut row = to;
     while 0 < left {
-        let Number::Value(n, next) = number::read_number(script, place) else {
-            return place;
-        };
-        out[row] = n;
+        let taken = take_number(script, place);
+        out[row] = taken.value;
         row = row + 1;
-        place = next;
+        place = taken.next;
         left = left - 1;
     }
     place
-}
-
-// A cycle's length goes to row i of `counts`, its places to `steps` from `used` on.
-fn load_cycle(
-    script: &[u8],
-    at: usize,
-    counts: &mut [u32; 512],
-    i: usize,
-    steps: &mut [u32; 2048],
-    used: usize,
-) -> usize
-    requires { ⌜ ScriptRoom (now script) at 1 (now counts) i (now steps) used ⌝ }
-    requires { ⌜ length (now counts) ≡ 512 ⌝ }
-    requires { ⌜ length (now steps) ≡ 2048 ⌝ }
-    ensures { λ r. ⌜ Loaded (now (script .entry)) at (now (counts .entry)) i (now (steps .entry)) used (now (counts .exit)) (now (steps .exit)) r ⌝ }
-{
-    let Number::Value(m, first) = number::read_number(script, at) else {
-        return at;
-    };
-    counts[i] = m;
-    let n = store::places(1, m);
-    copy_numbers(script, first, n, steps, used)
 }
 
 // The cycles of a face go to lent arrays, their lengths from a row of `counts` on and their places
@@ -183,9 +179,13 @@ pub fn put_cycles(
     let mut i = row;
     let mut used = place;
     while 0 < left {
-        at = load_cycle(script, at, counts, i, steps, used);
-        let m = counts[i];
-        used = used + store::places(1, m);
+        let size = take_number(script, at);
+        let m = size.value;
+        counts[i] = m;
+        let width = store::places(1, m);
+        let start = size.next;
+        at = copy_numbers(script, start, width, steps, used);
+        used = used + width;
         i = i + 1;
         left -= 1;
     }

@@ -3,8 +3,7 @@ use mathlib.Core.Path.{refl}
 use borrow.Author.Needs.{needs}
 use Rattle.bends.specs.Bends.{readBends}
 use Rattle.complex.specs.Cells.{closedEdge}
-use Rattle.decode_parts.proofs.Fields.{list-at}
-use Rattle.decode_fields.proofs.Pairs.{list-found, no-list}
+use Rattle.decode_parts.proofs.Fields.{list-at, list-found, no-list}
 use Rattle.decode_command.proofs.Decides.{unread, whole, of-create}
 use Rattle.decode.proofs.decode_closed.Statement.{statement}
 use Rattle.decode.proofs.decode_closed.Tie as tie

@@ -2,9 +2,10 @@
 use mathlib.Core.Path.{refl}
 use borrow.Author.Needs.{needs}
 use Rattle.number.specs.Numbers.{readNumber}
-use Rattle.decode_parts.proofs.Fields.{number-at}
-use Rattle.decode_fields.specs.Fields.{readCutLists, Found}
-use Rattle.decode_fields.proofs.Pairs.{number-heard, pair-none}
+use Rattle.decode_parts.proofs.Fields.{number-at, number-heard}
+use Rattle.decode_parts.specs.Lists.{Found}
+use Rattle.decode_fields.specs.Fields.{readCutLists}
+use Rattle.decode_fields.proofs.Pairs.{pair-none}
 use Rattle.decode_command.proofs.Decides.{unread, whole}
 use Rattle.decode.proofs.Heads.{lists-none, lists-both, of-cut-closed}
 use Rattle.decode.proofs.decode_cut_face_closed.Statement.{statement}

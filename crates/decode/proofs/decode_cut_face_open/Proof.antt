@@ -2,8 +2,10 @@
 use mathlib.Core.Path.{refl}
 use borrow.Author.Needs.{needs}
 use Rattle.number.specs.Said.{done}
-use Rattle.decode_fields.specs.Fields.{readPair, readTwoNumbers, readThreeNumbers, readCutLists, Found, twoSays, threeSays}
-use Rattle.decode_fields.proofs.Pairs.{heard, pair-none, pair-half, pair-both}
+use Rattle.decode_parts.specs.Lists.{Found}
+use Rattle.decode_fields.specs.Fields.{readPair, readTwoNumbers, readThreeNumbers, readCutLists, twoSays, threeSays}
+use Rattle.decode_parts.proofs.Fields.{heard}
+use Rattle.decode_fields.proofs.Pairs.{pair-none, pair-half, pair-both}
 use Rattle.decode_command.proofs.Decides.{unread, whole}
 use Rattle.decode.proofs.Heads.{lists-none, lists-both, of-cut-open}
 use Rattle.decode.proofs.decode_cut_face_open.Statement.{statement}

@@ -6,9 +6,9 @@ use Rattle.number.specs.Numbers.{readNumber, counted}
 use Rattle.complex.specs.Cells.{face}
 use Rattle.complex.specs.Decode.{readCycle}
 use Rattle.decode_parts.proofs.Rest.{leaves-cycle}
-use Rattle.decode_parts.proofs.Fields.{things-at, things-none, stands}
-use Rattle.decode_fields.specs.Fields.{Found}
-use Rattle.decode_fields.proofs.Pairs.{number-heard, counted-none, counted-half, counted-both}
+use Rattle.decode_parts.proofs.Fields.{things-at, things-none, stands, number-heard}
+use Rattle.decode_parts.specs.Lists.{Found}
+use Rattle.decode_fields.proofs.Pairs.{counted-none, counted-half, counted-both}
 use Rattle.decode_command.proofs.Decides.{unread, whole, of-create}
 use Rattle.decode.proofs.decode_face.Statement.{statement}
 use Rattle.decode.proofs.decode_face.Tie as tie

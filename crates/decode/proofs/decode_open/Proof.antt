@@ -3,9 +3,10 @@ use mathlib.Core.Path.{refl}
 use borrow.Author.Needs.{needs}
 use Rattle.number.specs.Said.{done}
 use Rattle.bends.specs.Bends.{readBends}
-use Rattle.decode_parts.proofs.Fields.{list-at}
-use Rattle.decode_fields.specs.Fields.{readTwoNumbers, Found, twoSays}
-use Rattle.decode_fields.proofs.Pairs.{heard, list-found, no-list, pair-none, pair-half, pair-both}
+use Rattle.decode_parts.proofs.Fields.{list-at, heard, list-found, no-list}
+use Rattle.decode_parts.specs.Lists.{Found}
+use Rattle.decode_fields.specs.Fields.{readTwoNumbers, twoSays}
+use Rattle.decode_fields.proofs.Pairs.{pair-none, pair-half, pair-both}
 use Rattle.decode_command.proofs.Decides.{unread, whole}
 use Rattle.decode.proofs.Heads.{of-open}
 use Rattle.decode.proofs.decode_open.Statement.{statement}

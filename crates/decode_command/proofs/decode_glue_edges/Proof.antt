@@ -2,7 +2,7 @@
 use mathlib.Core.Path.{refl}
 use borrow.Author.Needs.{needs}
 use Rattle.decode_fields.specs.Fields.{threeSays}
-use Rattle.decode_fields.proofs.Pairs.{heard}
+use Rattle.decode_parts.proofs.Fields.{heard}
 use Rattle.decode_command.proofs.Decides.{unread, whole, of-three}
 use Rattle.decode_command.proofs.decode_glue_edges.Statement.{statement}
 use Rattle.decode_command.proofs.decode_glue_edges.Tie as tie

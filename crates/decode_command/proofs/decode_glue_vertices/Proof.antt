@@ -3,7 +3,7 @@ use mathlib.Core.Path.{refl}
 use borrow.Author.Needs.{needs}
 use Rattle.complex.specs.Decode as bytes
 use Rattle.decode_fields.specs.Fields.{twoSays}
-use Rattle.decode_fields.proofs.Pairs.{heard}
+use Rattle.decode_parts.proofs.Fields.{heard}
 use Rattle.decode_command.proofs.Decides.{unread, whole, of-two}
 use Rattle.decode_command.proofs.decode_glue_vertices.Statement.{statement}
 use Rattle.decode_command.proofs.decode_glue_vertices.Tie as tie

@@ -5,8 +5,10 @@ use borrow.Author.Needs.{needs}
 use Rattle.number.specs.Said.{done}
 use Rattle.number.specs.Numbers.{readNumber}
 use Rattle.coordinate.specs.Positions.{readPosition}
-use Rattle.decode_fields.specs.Fields.{readPair, Found}
-use Rattle.decode_fields.proofs.Pairs.{number-heard, position-heard, pair-none, pair-half, pair-both}
+use Rattle.decode_parts.specs.Lists.{Found}
+use Rattle.decode_fields.specs.Fields.{readPair}
+use Rattle.decode_parts.proofs.Fields.{number-heard, position-heard}
+use Rattle.decode_fields.proofs.Pairs.{pair-none, pair-half, pair-both}
 use Rattle.decode_command.specs.View.{placeKind}
 use Rattle.decode_command.proofs.Decides.{unread, whole, of-place}
 use Rattle.decode_command.proofs.decode_place.Statement.{statement}

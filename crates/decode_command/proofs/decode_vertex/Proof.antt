@@ -3,7 +3,7 @@ use mathlib.Core.Path.{refl}
 use borrow.Author.Needs.{needs}
 use Rattle.coordinate.specs.Positions.{readPosition}
 use Rattle.complex.specs.Cells.{vertex}
-use Rattle.decode_fields.proofs.Pairs.{position-heard}
+use Rattle.decode_parts.proofs.Fields.{position-heard}
 use Rattle.decode_command.proofs.Decides.{unread, whole, of-create}
 use Rattle.decode_command.proofs.decode_vertex.Statement.{statement}
 use Rattle.decode_command.proofs.decode_vertex.Tie as tie

@@ -6,12 +6,10 @@ use denote.Ref.{now}
 use Rattle.number.specs.Said.{done}
 use Rattle.number.specs.Numbers.{readNumber, counted}
 use Rattle.bends.specs.Bends.{readBends, positionsAt}
-use Rattle.decode_parts.specs.Lists.{Reaches}
+use Rattle.decode_parts.specs.Lists.{Found, Reaches}
 use Rattle.decode_parts.proofs.Rest.{leaves-number}
-use Rattle.decode_parts.proofs.Fields.{list-at, things-at, things-none, stands}
-use Rattle.decode_fields.specs.Fields.{Found}
-use Rattle.decode_fields.proofs.Pairs.{number-heard, list-found, no-list, pair-none, pair-half, pair-both}
-use Rattle.decode_fields.proofs.Pairs.{counted-none, counted-half, counted-both}
+use Rattle.decode_parts.proofs.Fields.{list-at, things-at, things-none, stands, number-heard, list-found, no-list}
+use Rattle.decode_fields.proofs.Pairs.{pair-none, pair-half, pair-both, counted-none, counted-half, counted-both}
 use Rattle.decode_fields.proofs.cut_lists.Statement.{statement}
 use Rattle.decode_fields.proofs.cut_lists.Tie as tie
 

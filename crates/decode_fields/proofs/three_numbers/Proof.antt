@@ -2,7 +2,8 @@
 use borrow.Author.Needs.{needs}
 use Rattle.number.specs.Numbers.{readNumber}
 use Rattle.decode_fields.specs.Fields.{twoSays}
-use Rattle.decode_fields.proofs.Pairs.{number-heard, heard, pair-none, pair-half, pair-both}
+use Rattle.decode_parts.proofs.Fields.{heard, number-heard}
+use Rattle.decode_fields.proofs.Pairs.{pair-none, pair-half, pair-both}
 use Rattle.decode_fields.proofs.three_numbers.Statement.{statement}
 use Rattle.decode_fields.proofs.three_numbers.Tie as tie
 

@@ -1,7 +1,8 @@
 -- `decode_fields::two_numbers` meets its contract. Assumes nothing.
 use borrow.Author.Needs.{needs}
 use Rattle.number.specs.Numbers.{readNumber}
-use Rattle.decode_fields.proofs.Pairs.{number-heard, pair-none, pair-half, pair-both}
+use Rattle.decode_parts.proofs.Fields.{number-heard}
+use Rattle.decode_fields.proofs.Pairs.{pair-none, pair-half, pair-both}
 use Rattle.decode_fields.proofs.two_numbers.Statement.{statement}
 use Rattle.decode_fields.proofs.two_numbers.Tie as tie
 

@@ -2,7 +2,8 @@
 use mathlib.Core.Path.{_∙_}
 use borrow.Author.Needs.{needs}
 use native.Mathlib.Omega.{arith}
-use Rattle.script.proofs.Loads.{Loading, loading-start, loading-room, loading-sum, loading-turn, loading-used, loading-lengths, loading-places}
+use Rattle.script.proofs.Loads.{length-stands, cycle-stands, Loading, loading-start, loading-one, loading-fit, loading-turn}
+use Rattle.script.proofs.Loads.{loading-used, loading-lengths, loading-places}
 use Rattle.script.proofs.put_cycles.Statement.{statement}
 use Rattle.script.proofs.put_cycles.Tie as tie
 
@@ -13,59 +14,47 @@ Inv-loop script first count counts₀ row steps₀ place at₀ left₀ i₀ used
 abbrev μ-loop : tie.MeasureT-loop
 μ-loop script first count counts₀ row steps₀ place at₀ left₀ i₀ used₀ counts steps at left i used = left
 
-loop-holds : tie.Need-loop-holds Inv-loop μ-loop
-loop-holds c = loading-start _ _ _ _ _ _ _ (c .before .pre .0 .stand)
-
-load-cycle-requires : tie.Need-load-cycle-requires Inv-loop μ-loop
-load-cycle-requires c κs =
-    let i = c .before .before in
-    let l = i .before .loop .inv in
-    let b = i .before .before .before in
-    (loading-room (b .pre .0) l (i .loop-test .taken), (l .countsSize ∙ b .pre .1 .0, l .stepsSize ∙ b .pre .1 .1))
-
-mul-m : tie.Need-mul-m Inv-loop μ-loop
-mul-m c = search needs
-
-element-copy-out-m : tie.Need-element-copy-out-m Inv-loop μ-loop
-element-copy-out-m c =
-    let i = c .before .before .before in
-    let l = i .before .loop .inv .rows in
-    let b = i .before .before .before in
+element-write-counts : tie.Need-element-write-counts Inv-loop μ-loop
+element-write-counts c =
+    let l = c .before .before .loop .inv .rows in
+    let b = c .before .before .before .before in
     let r = b .pre .0 .rows in
     let z = b .pre .1 .0 in
-    let h = i .loop-test .taken in
+    let h = c .before .loop-test .taken in
     omega arith
 
-places-requires : tie.Need-places-requires Inv-loop μ-loop
-places-requires c κs = search needs
+copy-numbers-requires : tie.Need-copy-numbers-requires Inv-loop μ-loop
+copy-numbers-requires c κs =
+    let t = c .before .before in
+    let l = t .before .before .loop .inv in
+    let b = t .before .before .before .before in
+    let n = t .before .loop-test .taken in
+    let w = c .before .places .ensures in
+    let h = loading-fit (b .pre .0) l n (t .take-number .ensures) w in
+    let z = b .pre .1 .1 in
+    (cycle-stands (t .take-number .ensures) w (loading-one (b .pre .0) l n), (omega arith, l .stepsSize ∙ z))
 
 add-used : tie.Need-add-used Inv-loop μ-loop
 add-used c =
-    let i = c .before .before .before .before .before in
-    let b = i .before .before .before in
-    let h = loading-sum (b .pre .0) (i .before .loop .inv) (i .loop-test .taken) (c .before .before .load-cycle .ensures) (c .places .ensures) in
+    let t = c .before .before .before in
+    let b = t .before .before .before .before in
+    let h = loading-fit (b .pre .0) (t .before .before .loop .inv) (t .before .loop-test .taken) (t .take-number .ensures) (c .before .before .places .ensures) in
     let z = b .pre .1 .1 in
     omega arith
 
 add-i : tie.Need-add-i Inv-loop μ-loop
 add-i c =
-    let i = c .before .before .before .before .before in
-    let l = i .before .loop .inv .rows in
-    let b = i .before .before .before in
+    let l = c .before .before .before .before .before .loop .inv .rows in
+    let b = c .before .before .before .before .before .before .before in
     let r = b .pre .0 .rows in
     let z = b .pre .1 .0 in
     omega arith
 
-sub-left : tie.Need-sub-left Inv-loop μ-loop
-sub-left c = search needs
-
-loop-less : tie.Need-loop-less Inv-loop μ-loop
-loop-less c = omega arith
-
 loop-again : tie.Need-loop-again Inv-loop μ-loop
 loop-again c =
-    let i = c .before .before .before .before .before in
-    loading-turn (i .before .before .before .pre .0) (i .before .loop .inv) (i .loop-test .taken) (c .before .before .load-cycle .ensures) (c .places .ensures)
+    let t = c .before .before .before in
+    loading-turn (t .before .before .before .before .pre .0) (t .before .before .loop .inv) (t .before .loop-test .taken) (t .take-number .ensures)
+    (c .before .before .places .ensures) (c .copy-numbers .ensures)
 
 returns : tie.Need-returns Inv-loop μ-loop
 returns c =
@@ -77,17 +66,6 @@ returns c =
 pub put-cycles-spec : {M : Type 1} → statement M
 put-cycles-spec =
     tie.close
-    (tie.spec
-    Inv-loop
-    μ-loop
-    loop-holds
-    load-cycle-requires
-    mul-m
-    element-copy-out-m
-    places-requires
-    add-used
-    add-i
-    sub-left
-    loop-less
-    loop-again
-    returns)
+    (tie.spec Inv-loop μ-loop (λ c. loading-start _ _ _ _ _ _ _ (c .before .pre .0 .stand))
+    (λ c κs. length-stands (c .before .loop .inv .walk .stand) (c .loop-test .taken)) (λ c. search needs) element-write-counts (λ c κs. search needs)
+    copy-numbers-requires add-used add-i (λ c. search needs) (λ c. omega arith) loop-again returns)
