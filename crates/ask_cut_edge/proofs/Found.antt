@@ -1,5 +1,5 @@
 -- The edge that an index finds: its row, its bends, and that its cut can be made. Assumes nothing.
-use Prim.Native.Nat.{ℕ, zero, suc, _+_, _<_, _≤_}
+use Prim.Native.Nat.{ℕ, zero, suc, _+_, _%_, _<_, _≤_}
 use native.Mathlib.Omega.{arith}
 use mathlib.Core.Path.{_≡_, refl, sym, ap, ap₂, _∙_}
 use mathlib.Core.Bool.{true}
@@ -12,6 +12,8 @@ use Rattle.complex.specs.Lists.{total}
 use Rattle.complex.specs.Cells.{vertex, cellAt, isLive, bendsOf, origin}
 use Rattle.complex.specs.Cut.{cutExists}
 use Rattle.complex.specs.Decode.{cutEdge}
+use Rattle.complex.specs.Commands.{question4, question5, question6}
+use Rattle.complex.proofs.Asked.{early, early-none}
 use Rattle.store.specs.declared.Cell.{Cell}
 use Rattle.store.specs.declared.Drawing.{Drawing}
 use Rattle.store.specs.declared.Index.{Index}
@@ -27,7 +29,11 @@ use Rattle.rows_spans.proofs.Replaced.{own-bends as figure-bends}
 use Rattle.rows_new.specs.Appends.{figureAt}
 use Rattle.rows_new.specs.Runs.{runAt}
 use Rattle.rows_new.proofs.Copied.{row-bends, row-range}
-use Rattle.answer.proofs.Asked.{Asked, ids-hold, sizes-hold}
+use Rattle.answer.specs.declared.Totals.{Totals}
+use Rattle.answer.specs.Sizes.{sized, moreLess, changedBy, newCells, changeOf}
+use Rattle.answer.specs.Late.{sizesBy, lateNo}
+use Rattle.answer.proofs.Laws.{totalsIn}
+use Rattle.answer.proofs.Asked.{Asked, asked-of, ids-hold, sizes-hold}
 use Rattle.rows_gone.proofs.Dropped.{live-below, row-among}
 use Rattle.ask_cut_edge.specs.Cuts.{EdgeCuts}
 
@@ -39,6 +45,35 @@ take-map {A} {B} f (suc n) (x ∷ l) = ap (λ (r : List B). f x ∷ r) (take-map
 -- what a look-up in the index asks
 pub find-asks : (d : Drawing) → Sizes d → T (soundDrawing d) → (ix : Index) → Indexes d ix → (d .count ≤ 256) × ((length (ix .ids) ≡ 256) × Rising (take (d .count) (ix .ids)))
 find-asks d z w ix x = (sound-fits d w .cells, (x .sizes .0, looks d z ix x w .rising))
+
+-- ---- the questions that are alike for every edge and place
+pub cut-bytes : (e q : ℕ) → early (cutEdge e q) ≡ 0
+cut-bytes e q = early-none (cutEdge e q) refl
+
+cut-six : (d : Drawing) (e q : ℕ) → question6 (sheetOf d) (cutEdge e q) ≡ true
+unfolding question6
+cut-six d e q = refl
+
+-- r is what 7 and 8 say: k ids are issued, n cells and u steps more are there, and a bend less where the place is one
+pub cut-asked : (d : Drawing) (z : Sizes d) (w : T (soundDrawing d)) (ix : Index) (x : Indexes d ix) (t : Totals) → t ≡ totalsIn d z (sound-fits d w) ix x
+    → (e q k n u r : ℕ) → question4 (sheetOf d) (cutEdge e q) ≡ true → question5 (sheetOf d) (cutEdge e q) ≡ true → newCells (sheetOf d) (cutEdge e q) ≡ k
+    → changeOf (sheetOf d) (cutEdge e q) ≡ moreLess (sized n 0 u 0) (sized 0 0 0 (q % 2))
+    → r ≡ lateNo (d .next) k (changedBy (sizesBy t) (moreLess (sized n 0 u 0) (sized 0 0 0 (q % 2)))) → Asked d (cutEdge e q) r
+cut-asked d z w ix x t et e q k n u r four five new change says =
+    asked-of d z w (cutEdge e q) r
+    (record {
+      index = ix;
+      indexes = x;
+      new = k;
+      totals = t;
+      more = record { cells = n; cycles = 0; steps = u; bends = 0 };
+      less = record { cells = 0; cycles = 0; steps = 0; bends = q % 2 };
+      passed = record { bytes = cut-bytes e q; four = four; five = five; six = cut-six d e q };
+      newIs = new;
+      changeIs = change;
+      totalsAre = et;
+      says = says;
+    })
 
 module _ (d : Drawing) (z : Sizes d) (w : T (soundDrawing d)) (ix : Index) (x : Indexes d ix) (e row : ℕ) (er : row ≡ rowOf e (take (d .count) (ix .ids))) (l : isLive (cellAt (sheetOf d) e) ≡ true) where
   pub row-below : row < 256

@@ -11,10 +11,10 @@ use Rattle.complex.specs.Lists.{total}
 use Rattle.complex.specs.Cells.{Halfedge, cellAt, isOpen, isClosed, isLive, bendsOf}
 use Rattle.complex.specs.Uses.{edgeUse, stepUse, usesBy}
 use Rattle.complex.specs.Decode.{cutEdge}
-use Rattle.complex.specs.Commands.{question4, question5, question6}
+use Rattle.complex.specs.Commands.{question4, question5}
 use Rattle.answer.specs.Sizes.{sized, sizesOf, moreLess, changedBy, newByCut, cutChange, newCells, changeOf}
 use Rattle.complex.specs.Answer.{no, asked3}
-use Rattle.complex.proofs.Asked.{early, early-none, no-5}
+use Rattle.complex.proofs.Asked.{no-5}
 use Rattle.store.specs.declared.Drawing.{Drawing}
 use Rattle.store.specs.declared.Index.{Index}
 use Rattle.store.specs.Index.{Indexes, rowOf}
@@ -29,9 +29,9 @@ use Rattle.rows_uses.proofs.Dealing.{uses-held}
 use Rattle.answer.specs.declared.Totals.{Totals}
 use Rattle.answer.specs.Late.{sizesBy, lateNo}
 use Rattle.answer.proofs.Laws.{totalsIn, totals-are, totals-small}
-use Rattle.answer.proofs.Asked.{next-in, Asked, asked-of}
+use Rattle.answer.proofs.Asked.{next-in, Asked}
 use Rattle.ask_cut_edge.specs.Cuts.{EdgeCuts, OpenEnds, CutCounted}
-use Rattle.ask_cut_edge.proofs.Found.{own-count, read-row, found-cuts}
+use Rattle.ask_cut_edge.proofs.Found.{cut-bytes, cut-asked, own-count, read-row, found-cuts}
 use Rattle.ask_cut_edge.proofs.Opened.{open-figure, open-exists}
 use Rattle.answer.specs.Sizes as whole
 
@@ -80,9 +80,6 @@ module _ (d : Drawing) (z : Sizes d) (w : T (soundDrawing d)) (ix : Index) (x : 
     pub open-live : isLive (cellAt (sheetOf d) e) ≡ true
     open-live = ap isLive (open-figure (cellAt (sheetOf d) e) k)
 
-    bytes : early (cutEdge e q) ≡ 0
-    bytes = early-none (cutEdge e q) refl
-
     four : question4 (sheetOf d) (cutEdge e q) ≡ true
     unfolding question4
     four = ap (λ (b : Bool). b || isClosed (cellAt (sheetOf d) e)) k
@@ -90,10 +87,6 @@ module _ (d : Drawing) (z : Sizes d) (w : T (soundDrawing d)) (ix : Index) (x : 
     five : question5 (sheetOf d) (cutEdge e q) ≡ leb (q / 2 + q % 2) (length (bendsOf (cellAt (sheetOf d) e)))
     unfolding question5
     five = open-exists (cellAt (sheetOf d) e) q k
-
-    six : question6 (sheetOf d) (cutEdge e q) ≡ true
-    unfolding question6
-    six = refl
 
     new-are : newCells (sheetOf d) (cutEdge e q) ≡ 3
     unfolding newCells
@@ -116,7 +109,7 @@ module _ (d : Drawing) (z : Sizes d) (w : T (soundDrawing d)) (ix : Index) (x : 
           }
 
       pub no-place : m < q / 2 + q % 2 → asked3 (sheetOf d) (cutEdge e q) ≡ no 5 (sheetOf d)
-      no-place h = no-5 (sheetOf d) (cutEdge e q) bytes four (five ∙ ap (leb (q / 2 + q % 2)) (sym counted) ∙ lt-leb (q / 2 + q % 2) m h)
+      no-place h = no-5 (sheetOf d) (cutEdge e q) (cut-bytes e q) four (five ∙ ap (leb (q / 2 + q % 2)) (sym counted) ∙ lt-leb (q / 2 + q % 2) m h)
 
       module _ (h : q / 2 + q % 2 ≤ m) where
         exists : leb (q / 2 + q % 2) (length (bendsOf (cellAt (sheetOf d) e))) ≡ true
@@ -124,21 +117,7 @@ module _ (d : Drawing) (z : Sizes d) (w : T (soundDrawing d)) (ix : Index) (x : 
 
         module _ (r : ℕ) (ro : r ≡ lateNo (d .next) 3 (changedBy (sizesBy t) (moreLess (sized 2 0 (total (stepUse e) (cyclesFrom (take (t .cycles) (d .cycles)) (d .steps))) 0) (sized 0 0 0 (q % 2))))) where
           pub asked : Asked d (cutEdge e q) r
-          asked =
-              asked-of d z w (cutEdge e q) r
-              (record {
-                index = ix;
-                indexes = x;
-                new = 3;
-                totals = t;
-                more = record { cells = 2; cycles = 0; steps = total (stepUse e) (cyclesFrom (take (t .cycles) (d .cycles)) (d .steps)); bends = 0 };
-                less = record { cells = 0; cycles = 0; steps = 0; bends = q % 2 };
-                passed = record { bytes = bytes; four = four; five = five ∙ exists; six = six };
-                newIs = new-are;
-                changeIs = change-is;
-                totalsAre = et;
-                says = ro;
-              })
+          asked = cut-asked d z w ix x t et e q 3 2 _ r four (five ∙ exists) new-are change-is ro
 
           pub open-cuts : r ≡ 0 → (base : ℕ) → base ≡ total (placesOf 0) (take row (ix .bends)) → EdgeCuts d e row base m q
           open-cuts r0 base eb = found-cuts d z w ix x e row er open-live q r asked r0 base m eb em (open-exists (cellAt (sheetOf d) e) q k ∙ exists)

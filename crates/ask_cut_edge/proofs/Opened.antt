@@ -241,7 +241,7 @@ place-figure (openEdge a b bs) = refl
 place-figure (closedEdge bs) = refl
 place-figure (face ks) = refl
 
-vertex-live : (o : Option Figure) → T (isVertex o) → isLive o ≡ true
+pub vertex-live : (o : Option Figure) → T (isVertex o) → isLive o ≡ true
 vertex-live none t = absurd t
 vertex-live (some x) t = refl
 

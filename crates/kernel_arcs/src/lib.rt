@@ -52,7 +52,7 @@ fn ahead(
     let k = t.cycles;
     let s = t.steps;
     let none = start(numbers, places);
-    kernel_cycles::copy_cycles(
+    kernel_lists::copy_cycles(
         cycles,
         k.first,
         c as usize,
@@ -89,7 +89,7 @@ fn behind(
     let k = t.cycles;
     let next = c as usize + 1;
     let end = rows_corners::after(p.at, p.m as usize);
-    kernel_cycles::copy_cycles(
+    kernel_lists::copy_cycles(
         cycles,
         k.first + next,
         k.count - next,
@@ -184,7 +184,7 @@ pub fn far_side(
     let u = and_arc(steps, p.at, m, s, m - len, 2 * e, numbers, places, none);
     let k = t.cycles;
     let w = t.steps;
-    kernel_cycles::copy_cycles(
+    kernel_lists::copy_cycles(
         cycles,
         k.first,
         k.count,

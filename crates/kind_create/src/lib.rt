@@ -3,11 +3,9 @@ ghost use lib.ListN.{length};
 ghost use Rattle.bends.specs.Bends.{positionsAt};
 ghost use Rattle.complex.specs.Cells.{vertex, openEdge, closedEdge};
 ghost use Rattle.complex.specs.Decode.{create};
-ghost use Rattle.complex.proofs.Asked.{Passed};
-ghost use Rattle.store.specs.View.{sheetOf};
-ghost use Rattle.lent.specs.Arrays.{heldBy, lent, entry, exit};
+ghost use Rattle.lent.specs.Arrays.{lent, entry, exit};
 ghost use Rattle.lent.specs.Replies.{Ready, Obeyed};
-ghost use Rattle.kind_create.specs.Edges.{EdgeRow, edgeBy};
+ghost use Rattle.kind_create.specs.Edges.{edgeBy, EdgeAsked};
 use answer::Totals;
 use coordinate::Position;
 use lent::Line;
@@ -83,10 +81,7 @@ fn add_edge(
     k: u32,
     first: usize,
 ) -> Line
-    requires { ⌜ Ready (lent (now next) (now count) ids kinds starts ends bends counts px py cycles steps bx by) t ⌝ }
-    requires { ⌜ first + 16 * k ≤ length (now script) ⌝ }
-    requires { ⌜ EdgeRow kind start end ⌝ }
-    requires { ⌜ Passed (sheetOf (heldBy (lent (now next) (now count) ids kinds starts ends bends counts px py cycles steps bx by))) (create (edgeBy kind start end (positionsAt (now script) first k))) ⌝ }
+    requires { ⌜ EdgeAsked (lent (now next) (now count) ids kinds starts ends bends counts px py cycles steps bx by) t (now script) kind start end k first ⌝ }
     ensures { λ r. ⌜ Obeyed (entry (now (next .entry)) (now (count .entry)) ids kinds starts ends bends counts px py cycles steps bx by) (create (edgeBy kind start end (positionsAt (now (script .entry)) first k))) (exit (now (next .exit)) (now (count .exit)) ids kinds starts ends bends counts px py cycles steps bx by) r ⌝ }
 {
     let no = ask_create::cell_no(*next, t, 0, 0, store::wide(k));

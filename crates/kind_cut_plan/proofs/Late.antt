@@ -1,6 +1,6 @@
 -- Questions 7 and 8 of 0A, and the sums of cycles and steps that it is told. Assumes nothing.
 use Prim.Native.Nat.{ℕ}
-use mathlib.Core.Path.{_≡_, ap, _∙_}
+use mathlib.Core.Path.{_≡_, sym, ap, _∙_}
 use lib.Dec.{T}
 use lib.ListN.{take}
 use Rattle.complex.specs.Lists.{total}
@@ -20,6 +20,13 @@ use Rattle.answer.proofs.Asked.{Asked, answer}
 use Rattle.lent.specs.Arrays.{Arrays, heldBy, rowsBy, soundArrays, Lengths}
 use Rattle.lent.proofs.Held.{held-sizes, held-indexes}
 use Rattle.lent.proofs.Replies.{rows-of, drawing-of}
+use Rattle.kind_cut_plan.specs.declared.Plan.{Plan}
+use Rattle.kind_cut_plan.specs.Plans.{Planned}
+
+-- a plan that says no
+pub planned-no : (a : Arrays) (e q n : ℕ) (r : Plan) {Needs : Type 0} → r .no ≡ n → (n ≡ 0 → ⊥)
+    → asked3 (sheetOf (heldBy a)) (cutEdge e q) ≡ no n (sheetOf (heldBy a)) → Planned a e q r Needs
+planned-no a e q n r en nz h = record { refused = λ z. h ∙ ap (λ (k : ℕ). no k (sheetOf (heldBy a))) (sym en); goes = λ z. absurd (nz (sym en ∙ z)) }
 
 -- questions 7 and 8 say no
 pub late-refuses : (a : Arrays) (l : Lengths a) (w : T (soundArrays a)) (e q r : ℕ) → Asked (heldBy a) (cutEdge e q) r → (r ≡ 0 → ⊥)

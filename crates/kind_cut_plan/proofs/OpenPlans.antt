@@ -3,7 +3,7 @@ use Prim.Native.Nat.{ℕ, zero, suc, _+_, _-_, _/_, _%_, _<_, _≤_}
 use native.Mathlib.Omega.{arith}
 use mathlib.Core.Path.{_≡_, refl, sym, ap, _∙_, subst}
 use mathlib.Core.Bool.{true, _&&_}
-use mathlib.Core.Option.{Option, none, some}
+use mathlib.Core.Option.{Option, some}
 use lib.Dec.{T}
 use lib.ListN.{length, getD, take}
 use Rattle.coordinate.specs.declared.Position.{Position}
@@ -17,7 +17,6 @@ use Rattle.answer.specs.Sizes.{sized, sizesOf, moreLess, changedBy, cutChange, 
 use Rattle.answer.specs.Sizes as whole
 use Rattle.complex.specs.Decode.{cutEdge}
 use Rattle.complex.specs.Commands.{result}
-use Rattle.complex.specs.Answer.{no, asked3}
 use Rattle.complex.proofs.Bools.{both}
 use Rattle.complex.proofs.Faces.{without-one}
 use Rattle.complex.proofs.Euler.{over-rebuild}
@@ -41,25 +40,16 @@ use Rattle.answer.proofs.Asked.{sound-in, Asked, asked-six}
 use Rattle.rows_gone.proofs.Dropped.{live-below}
 use Rattle.ask_cut_edge.specs.Cuts.{EdgeCuts, OpenEnds, CutPlaced, vertexPlace, noCell, pointPlace, openBetween}
 use Rattle.ask_cut_edge.proofs.Found.{own-figure, read-row}
-use Rattle.ask_cut_edge.proofs.Opened.{open-figure, point-below, partStep, partCells, first, second, parts-are, stepsAfter, steps-by, placed-read}
+use Rattle.ask_cut_edge.proofs.Opened.{vertex-live, open-figure, point-below, partStep, partCells, first, second, parts-are, stepsAfter, steps-by, placed-read}
 use Rattle.ask_cut_edge.proofs.OpenAnswer.{uses-are, open-live, ends-found, asked, open-cuts}
 use Rattle.lent.specs.Arrays.{Arrays, shapeBy, shapeAt, positionIn, heldBy, rowsBy, soundArrays, Lengths}
 use Rattle.lent.proofs.Held.{held-sizes, held-indexes, positions-at}
 use Rattle.lent.proofs.Replies.{rows-of, drawing-of}
 use Rattle.kernel_keep.proofs.Rows.{cell-at}
-use Rattle.kind_cut_plan.specs.declared.Plan.{Plan}
 use Rattle.kind_cut_plan.specs.OpenPlans.{OpenPlanned}
 use Rattle.kind_cut_plan.proofs.Late.{cycles-are, steps-are}
 
-pub planned-no : (a : Arrays) (e q n : ℕ) (r : Plan) → r .no ≡ n → (n ≡ 0 → ⊥) → asked3 (sheetOf (heldBy a)) (cutEdge e q) ≡ no n (sheetOf (heldBy a))
-    → OpenPlanned a e q r
-planned-no a e q n r en nz h = record { refused = λ z. h ∙ ap (λ (k : ℕ). no k (sheetOf (heldBy a))) (sym en); goes = λ z. absurd (nz (sym en ∙ z)) }
-
 -- ---- a vertex's row
-vertex-live : (o : Option Figure) → T (isVertex o) → isLive o ≡ true
-vertex-live none t = absurd t
-vertex-live (some x) t = refl
-
 vertex-kind : (x : Figure) → T (isVertex (some x)) → kindOf (shapeOf x) ≡ 0
 vertex-kind (vertex p) t = refl
 vertex-kind (openEdge a b bs) t = absurd t
@@ -160,6 +150,10 @@ module _ (a : Arrays) (l : Lengths a) (w : T (soundArrays a)) where
       unfolding sizesAfter
       after-is = refl
 
+      pub ends-at : (row : ℕ) → row ≡ rowOf e (take (a .count) (a .ids)) → (m : ℕ) → m ≡ getD (a .bends) row 0 → (u f : ℕ) → u ≡ getD (a .starts) row 0
+          → f ≡ getD (a .ends) row 0 → OpenEnds (heldBy a) e u f
+      ends-at = ends-found d z s (rowsBy a) x t et e q op
+
       module _ (row : ℕ) (er : row ≡ rowOf e (take (a .count) (a .ids))) (m : ℕ) (em : m ≡ getD (a .bends) row 0) (h : q / 2 + q % 2 ≤ m)
           (r : ℕ) (ro : r ≡ lateNo (a .next) 3 (changedBy (sizesBy t)
           (moreLess (sized 2 0 (total (stepUse e) (cyclesFrom (take (t .cycles) (a .cycles)) (a .steps))) 0) (sized 0 0 0 (q % 2))))) (r0 : r ≡ 0)
@@ -167,8 +161,8 @@ module _ (a : Arrays) (l : Lengths a) (w : T (soundArrays a)) where
         pub cuts : EdgeCuts (heldBy a) e row base m q
         cuts = open-cuts d z s (rowsBy a) x t et e q op row er m em h r ro r0 base eb
 
-        pub ends : OpenEnds (heldBy a) e u f
-        ends = ends-found d z s (rowsBy a) x t et e q op row er m em u f eu ef
+        ends : OpenEnds (heldBy a) e u f
+        ends = ends-at row er m em u f eu ef
 
         pass : Asked (heldBy a) (cutEdge e q) r
         pass = asked d z s (rowsBy a) x t et e q op row er m em h r ro

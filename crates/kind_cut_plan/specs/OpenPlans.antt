@@ -5,13 +5,13 @@ use Rattle.complex.specs.Edits.{reshape, rewired, sameVertex}
 use Rattle.complex.specs.Cut.{inTwo}
 use Rattle.complex.specs.Sound.{over, stepsIn}
 use Rattle.complex.specs.Decode.{cutEdge}
-use Rattle.complex.specs.Answer.{no, asked3}
 use Rattle.answer.proofs.Asked.{Asked}
 use Rattle.store.specs.View.{sheetOf, cycleTotal, stepTotal}
 use Rattle.ask_cut_edge.specs.Cuts.{EdgeCuts, OpenEnds, CutPlaced}
 use Rattle.lent.specs.Arrays.{Arrays, heldBy}
 use Rattle.kernel_drop.specs.Gone.{EdgeRow}
 use Rattle.kind_cut_plan.specs.declared.Plan.{Plan}
+use Rattle.kind_cut_plan.specs.Plans.{Planned}
 
 -- what 0A of the open edge e at place q needs
 pub record OpenGoes (a : Arrays) (e q : ℕ) (r : Plan) : Type 0 where
@@ -25,7 +25,5 @@ pub record OpenGoes (a : Arrays) (e q : ℕ) (r : Plan) : Type 0 where
       ≡ r .uses + r .steps
   pub asked : Asked (heldBy a) (cutEdge e q) 0
 
--- the plan says no with the number of the question, or has what 0A needs
-pub record OpenPlanned (a : Arrays) (e q : ℕ) (r : Plan) : Type 0 where
-  pub refused : (r .no ≡ 0 → ⊥) → asked3 (sheetOf (heldBy a)) (cutEdge e q) ≡ no (r .no) (sheetOf (heldBy a))
-  pub goes : r .no ≡ 0 → OpenGoes a e q r
+abbrev pub OpenPlanned : Arrays → ℕ → ℕ → Plan → Type 0
+OpenPlanned a e q r = Planned a e q r (OpenGoes a e q r)

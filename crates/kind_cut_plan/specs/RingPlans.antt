@@ -4,13 +4,13 @@ use mathlib.Core.Path.{_≡_}
 use mathlib.Core.Bool.{true}
 use Rattle.complex.specs.Cells.{cellAt, isClosed}
 use Rattle.complex.specs.Decode.{cutEdge}
-use Rattle.complex.specs.Answer.{no, asked3}
 use Rattle.store.specs.View.{sheetOf, cycleTotal, stepTotal}
 use Rattle.answer.proofs.Asked.{Asked}
 use Rattle.ask_cut_edge.specs.Cuts.{EdgeCuts, closedPlace}
 use Rattle.lent.specs.Arrays.{Arrays, heldBy}
 use Rattle.kernel_drop.specs.Gone.{EdgeRow}
 use Rattle.kind_cut_plan.specs.declared.Plan.{Plan}
+use Rattle.kind_cut_plan.specs.Plans.{Planned}
 
 -- what 0A of the closed edge e at place q needs
 pub record RingGoes (a : Arrays) (e q : ℕ) (r : Plan) : Type 0 where
@@ -22,7 +22,5 @@ pub record RingGoes (a : Arrays) (e q : ℕ) (r : Plan) : Type 0 where
   pub steps : r .steps ≡ stepTotal (heldBy a)
   pub asked : Asked (heldBy a) (cutEdge e q) 0
 
--- the plan says no with the number of the question, or has what 0A needs
-pub record RingPlanned (a : Arrays) (e q : ℕ) (r : Plan) : Type 0 where
-  pub refused : (r .no ≡ 0 → ⊥) → asked3 (sheetOf (heldBy a)) (cutEdge e q) ≡ no (r .no) (sheetOf (heldBy a))
-  pub goes : r .no ≡ 0 → RingGoes a e q r
+abbrev pub RingPlanned : Arrays → ℕ → ℕ → Plan → Type 0
+RingPlanned a e q r = Planned a e q r (RingGoes a e q r)

@@ -47,7 +47,7 @@ fn and_ring(
         cycles: 0,
         steps: 0,
     };
-    let u = kernel_cycles::copy_cycles(
+    let u = kernel_lists::copy_cycles(
         cycles,
         c.first,
         c.count,
@@ -88,7 +88,7 @@ fn ring_and(
     let u = rows_spans::close_path(counts, none, 1);
     let c = s.cycles;
     let p = s.steps;
-    kernel_cycles::copy_cycles(
+    kernel_lists::copy_cycles(
         cycles,
         c.first,
         c.count,

@@ -38,7 +38,7 @@ fn all_but(
         cycles: 0,
         steps: 0,
     };
-    kernel_cycles::copy_cycles(
+    kernel_lists::copy_cycles(
         cycles,
         k.first,
         k.count,

@@ -5,20 +5,8 @@ use Rattle.kernel_arcs.proofs.Joins.{first-asks, second-asks, last-asks
 use Rattle.kernel_arcs.proofs.and_joined.Statement.{statement}
 use Rattle.kernel_arcs.proofs.and_joined.Tie as tie
 
-cast-m : tie.Need-cast-m
-cast-m c = search needs
-
-cast-n : tie.Need-cast-n
-cast-n c = search needs
-
 copy-arc-requires : tie.Need-copy-arc-requires
 copy-arc-requires c κs = let g = c .before .before .before .before .before .pre in first-asks (g .0) (g .1 .0) (g .1 .1 .1)
-
-mul-put-step : tie.Need-mul-put-step
-mul-put-step c = search needs
-
-put-step-requires : tie.Need-put-step-requires
-put-step-requires c κs = search needs
 
 copy-arc-requires-2 : tie.Need-copy-arc-requires-2
 copy-arc-requires-2 c κs =
@@ -26,12 +14,6 @@ copy-arc-requires-2 c κs =
     let y = w .before .before .before .before in
     let g = y .before .before .before .before .before .before .pre in
     second-asks (g .0) (g .1 .0) (g .1 .1 .1) (y .copy-arc .ensures .0) (y .copy-arc .ensures .1) (w .put-step .ensures .0) (w .put-step .ensures .1)
-
-mul-put-step-2 : tie.Need-mul-put-step-2
-mul-put-step-2 c = search needs
-
-add-put-step : tie.Need-add-put-step
-add-put-step c = search needs
 
 put-step-requires-2 : tie.Need-put-step-requires-2
 put-step-requires-2 c κs =
@@ -42,22 +24,10 @@ put-step-requires-2 c κs =
     last-asks (g .0) (g .1 .0) (g .1 .1 .1) (y .copy-arc .ensures .0) (y .copy-arc .ensures .1) (w .put-step .ensures .0) (w .put-step .ensures .1)
     (v .copy-arc2 .ensures .0) (v .copy-arc2 .ensures .1)
 
-add-close-path : tie.Need-add-close-path
-add-close-path c = search needs
-
-add-close-path-2 : tie.Need-add-close-path-2
-add-close-path-2 c = search needs
-
 close-path-requires : tie.Need-close-path-requires
 close-path-requires c κs =
     let g = c .before .before .before .before .before .before .before .before .before .before .before .before .before .before .before .before .before .before .before .before .before .pre in
     (g .1 .1 .0, (omega arith, omega (arith, g .1 .1 .1, g .1 .0 .stepsSize)))
-
-same-length : tie.Need-same-length
-same-length c = search needs
-
-same-length-2 : tie.Need-same-length-2
-same-length-2 c = search needs
 
 returns : tie.Need-returns
 returns c =
@@ -73,18 +43,18 @@ pub and-joined-spec : {M : Type 1} → statement M
 and-joined-spec =
     tie.close
     (tie.spec
-    cast-m
-    cast-n
+    (λ c. search needs)
+    (λ c. search needs)
     copy-arc-requires
-    mul-put-step
-    put-step-requires
+    (λ c. search needs)
+    (λ c κs. search needs)
     copy-arc-requires-2
-    mul-put-step-2
-    add-put-step
+    (λ c. search needs)
+    (λ c. search needs)
     put-step-requires-2
-    add-close-path
-    add-close-path-2
+    (λ c. search needs)
+    (λ c. search needs)
     close-path-requires
-    same-length
-    same-length-2
+    (λ c. search needs)
+    (λ c. search needs)
     returns)

@@ -11,9 +11,6 @@ use Rattle.kernel_arcs.proofs.bridge_list.Tie as tie
 array-write-flags : tie.Need-array-write-flags
 array-write-flags c = let h = second-below (c .before .before .pre .0) in omega arith
 
-slice-aggregate-ahead : tie.Need-slice-aggregate-ahead
-slice-aggregate-ahead c = search needs
-
 ahead-requires : tie.Need-ahead-requires
 ahead-requires c κs =
     let st = c .before .before .before .before .before in
@@ -41,9 +38,6 @@ and-joined-requires c κs =
     let s = both-steps r in
     (joining r, (b .building, (m .0, omega arith)))
 
-slice-aggregate-behind : tie.Need-slice-aggregate-behind
-slice-aggregate-behind c = search needs
-
 behind-requires : tie.Need-behind-requires
 behind-requires c κs =
     let q = c .before .before .before .before .before .before .before in
@@ -59,12 +53,6 @@ behind-requires c κs =
     (q .and-joined .kept .1 .1 .1 .1 .1 .1 .0 ∙ n .ahead .kept .1 .1 .1 .1 .1 .0) (q .and-joined .kept .1 .1 .1 .1 .1 .1 .1 .0 ∙ n .ahead .kept .1 .1 .1 .1 .1 .1 .0) b in
     (k .within, (k .cycle, (k .place, (l, (b .building, m)))))
 
-same-length : tie.Need-same-length
-same-length c = search needs
-
-same-length-2 : tie.Need-same-length-2
-same-length-2 c = search needs
-
 returns : tie.Need-returns
 returns c =
     let q = c .before .before .before .before .before .before .before .before .before .before .before .before in
@@ -72,7 +60,6 @@ returns c =
     let st = n .before .before .before .before .before .before in
     let a = st .args in
     let r = st .pre .0 in
-    let f = bridge-room r (st .pre .1) in
     let l = enough (r .start .within) (flagged (a .c2)) (flags-size r) in
     let k = r .start in
     let b = new-built (k .within) (flagged (a .c2)) l (a .c1) (k .cycle) (first-stays r) (both r) (n .ahead .ensures) (q .and-joined .ensures) in
@@ -84,11 +71,11 @@ bridge-list-spec =
     tie.close
     (tie.spec
     array-write-flags
-    slice-aggregate-ahead
+    (λ c. search needs)
     ahead-requires
     and-joined-requires
-    slice-aggregate-behind
+    (λ c. search needs)
     behind-requires
-    same-length
-    same-length-2
+    (λ c. search needs)
+    (λ c. search needs)
     returns)

@@ -12,18 +12,12 @@ use Rattle.kernel_arcs.proofs.Sides.{none-used, far-asks}
 use Rattle.kernel_arcs.proofs.far_side.Statement.{statement}
 use Rattle.kernel_arcs.proofs.far_side.Tie as tie
 
-cast-m : tie.Need-cast-m
-cast-m c = search needs
-
 between-requires : tie.Need-between-requires
 between-requires c κs =
     let st = c .before .before .before .before in
     let a = st .args in
     let g = st .pre in
     between-asks (a .steps .now) (g .0 .stepsSize) (a .p) (g .1 .0) (a .s1) (a .s2) (g .1 .1 .0) (g .1 .1 .1 .0)
-
-start-requires : tie.Need-start-requires
-start-requires c κs = search needs
 
 sub-and-arc : tie.Need-sub-and-arc
 sub-and-arc c =
@@ -34,9 +28,6 @@ sub-and-arc c =
     let m = distance-most (a .p .m) (a .s1) (a .s2) (g .1 .1 .0) (g .1 .1 .1 .0) .0 in
     let e = y .between .ensures in
     omega arith
-
-mul-and-arc : tie.Need-mul-and-arc
-mul-and-arc c = search needs
 
 and-arc-requires : tie.Need-and-arc-requires
 and-arc-requires c κs =
@@ -65,12 +56,6 @@ copy-cycles-requires c κs =
     (y .between .result) (y .between .ensures) (q .and-arc .ensures) in
     far-asks (g .0) (a .flags .now) (g .1 .1 .1 .1 .0) _ (g .1 .1 .1 .1 .1 .1) (q .and-arc .kept .1 .1 .1 .1 .1 .1 .0) (q .and-arc .kept .1 .1 .1 .1 .1 .1 .1 .0) b
 
-same-length : tie.Need-same-length
-same-length c = search needs
-
-same-length-2 : tie.Need-same-length-2
-same-length-2 c = search needs
-
 returns : tie.Need-returns
 returns c =
     let q = c .before .before .before .before .before .before .before .before .before .before .before .before .before .before .before in
@@ -87,13 +72,13 @@ pub far-side-spec : {M : Type 1} → statement M
 far-side-spec =
     tie.close
     (tie.spec
-    cast-m
+    (λ c. search needs)
     between-requires
-    start-requires
+    (λ c κs. search needs)
     sub-and-arc
-    mul-and-arc
+    (λ c. search needs)
     and-arc-requires
     copy-cycles-requires
-    same-length
-    same-length-2
+    (λ c. search needs)
+    (λ c. search needs)
     returns)

@@ -8,9 +8,6 @@ use Rattle.kernel_arcs.proofs.Sides.{near-asks, near-put}
 use Rattle.kernel_arcs.proofs.near_side.Statement.{statement}
 use Rattle.kernel_arcs.proofs.near_side.Tie as tie
 
-cast-m : tie.Need-cast-m
-cast-m c = search needs
-
 between-requires : tie.Need-between-requires
 between-requires c κs =
     let st = c .before .before .before .before in
@@ -27,12 +24,6 @@ ahead-requires c κs =
     let k = g .0 in
     let h = k .cycle in
     (k .within, (omega arith, (g .1 .1 .0, before-room (k .within) (a .flags .now) (g .1 .1 .0) (a .c) (k .cycle) (g .1 .1 .1 .0) _ (g .1 .1 .1 .1 .1))))
-
-mul-and-arc : tie.Need-mul-and-arc
-mul-and-arc c = search needs
-
-add-and-arc : tie.Need-add-and-arc
-add-and-arc c = search needs
 
 and-arc-requires : tie.Need-and-arc-requires
 and-arc-requires c κs =
@@ -59,12 +50,6 @@ behind-requires c κs =
     (q .and-arc .kept .1 .1 .1 .1 .1 .1 .0 ∙ n .ahead .kept .1 .1 .1 .1 .1 .0) (q .and-arc .kept .1 .1 .1 .1 .1 .1 .1 .0 ∙ n .ahead .kept .1 .1 .1 .1 .1 .1 .0) b in
     (k .within, (k .cycle, (k .place, (g .1 .1 .0, (b .building, r)))))
 
-same-length : tie.Need-same-length
-same-length c = search needs
-
-same-length-2 : tie.Need-same-length-2
-same-length-2 c = search needs
-
 returns : tie.Need-returns
 returns c =
     let q = c .before .before .before .before .before .before .before .before .before .before .before in
@@ -83,13 +68,13 @@ pub near-side-spec : {M : Type 1} → statement M
 near-side-spec =
     tie.close
     (tie.spec
-    cast-m
+    (λ c. search needs)
     between-requires
     ahead-requires
-    mul-and-arc
-    add-and-arc
+    (λ c. search needs)
+    (λ c. search needs)
     and-arc-requires
     behind-requires
-    same-length
-    same-length-2
+    (λ c. search needs)
+    (λ c. search needs)
     returns)

@@ -34,12 +34,6 @@ bends-are s = positions-length (now (s .args .script)) (s .args .first) (s .args
 abbrev edge : (c : tie.Start) → Figure
 edge c = closedEdge (listed c)
 
-bends-within-requires : tie.Need-bends-within-requires
-bends-within-requires c κs = c .before .pre .1
-
-line-of-requires : tie.Need-line-of-requires
-line-of-requires c κs = search needs
-
 returns : tie.Need-returns
 returns c =
     let w = c .before .before in
@@ -47,9 +41,6 @@ returns c =
     let q = create (edge s) in
     ready-no (arrays s) (s .args .t) (s .pre .0) q 3 _ (c .line-of .ensures)
     (no-3 _ q (out-bends q (sym (w .bends-within .ensures) ∙ not-true _ (c .before .if1 .taken))))
-
-line-of-requires-2 : tie.Need-line-of-requires-2
-line-of-requires-2 c κs = search needs
 
 returns-2 : tie.Need-returns-2
 returns-2 c =
@@ -68,7 +59,12 @@ add-edge-requires c κs =
     let e = f .before in
     let s = e .before .before .before in
     let in-bounds = sym (e .before .bends-within .ensures) ∙ not-false _ (e .if1 .left) in
-    (s .pre .0, (s .pre .1, (closedRow, closed-passed (heldBy (arrays s)) (listed s) in-bounds (λ n. f .if2 .left (sym (bends-are s) ∙ n)))))
+    record {
+      ready = s .pre .0;
+      bytes = s .pre .1;
+      row = closedRow;
+      passed = closed-passed (heldBy (arrays s)) (listed s) in-bounds (λ n. f .if2 .left (sym (bends-are s) ∙ n));
+    }
 
 returns-3 : tie.Need-returns-3
 returns-3 c = c .add-edge .ensures
@@ -77,10 +73,10 @@ pub add-closed-spec : {M : Type 1} → statement M
 add-closed-spec =
     tie.close
     (tie.spec
-    bends-within-requires
-    line-of-requires
+    (λ c κs. c .before .pre .1)
+    (λ c κs. search needs)
     returns
-    line-of-requires-2
+    (λ c κs. search needs)
     returns-2
     add-edge-requires
     returns-3)

@@ -35,26 +35,20 @@ many c = positions-length (now (c .args .script)) (c .args .first) (c .args .k)
 abbrev start : tie.After-cell-no → tie.Start
 start l = l .before .before .before .before
 
-wide-requires : tie.Need-wide-requires
-wide-requires c κs = search needs
-
 cell-no-requires : tie.Need-cell-no-requires
 cell-no-requires c κs =
     let s = c .before .before .before in (
-      next-in (heldBy (arrays s)) (ready-drawing (arrays s) (s .args .t) (s .pre .0)),
-      (ready-small (arrays s) (s .args .t) (s .pre .0), (lit≤ tt, (lit≤ tt, omega (arith, c .wide .ensures, s .fits .k)))),
+      next-in (heldBy (arrays s)) (ready-drawing (arrays s) (s .args .t) (s .pre .ready)),
+      (ready-small (arrays s) (s .args .t) (s .pre .ready), (lit≤ tt, (lit≤ tt, omega (arith, c .wide .ensures, s .fits .k)))),
     )
-
-line-of-requires : tie.Need-line-of-requires
-line-of-requires c κs = search needs
 
 returns : tie.Need-returns
 returns c =
     let l = c .before .before in
     let s = start l in
     let w = l .before .wide in
-    edge-full (arrays s) (s .args .t) (s .pre .0) (listed s) (s .args .k) (many s) (w .result) (w .ensures) (l .cell-no .result) (l .cell-no .ensures)
-    (s .pre .1 .1 .0) (s .pre .1 .1 .1) (c .before .if1 .taken) _ (c .line-of .ensures)
+    edge-full (arrays s) (s .args .t) (s .pre .ready) (listed s) (s .args .k) (many s) (w .result) (w .ensures) (l .cell-no .result) (l .cell-no .ensures)
+    (s .pre .row) (s .pre .passed) (c .before .if1 .taken) _ (c .line-of .ensures)
 
 put-bends-requires : tie.Need-put-bends-requires
 put-bends-requires c κs =
@@ -62,9 +56,9 @@ put-bends-requires c κs =
     let l = e .before in
     let s = start l in
     let w = l .before .wide in
-    let h = edge-asks (arrays s) (s .args .t) (s .pre .0) (listed s) (s .args .k) (many s) (w .result) (w .ensures) (l .cell-no .result) (l .cell-no .ensures)
-    (e .if1 .left) (s .pre .1 .1 .0) (s .pre .1 .1 .1) in
-    (s .pre .1 .0, (h .0, (s .pre .0 .long .bx, s .pre .0 .long .by)))
+    let h = edge-asks (arrays s) (s .args .t) (s .pre .ready) (listed s) (s .args .k) (many s) (w .result) (w .ensures) (l .cell-no .result) (l .cell-no .ensures)
+    (e .if1 .left) (s .pre .row) (s .pre .passed) in
+    (s .pre .bytes, (h .0, (s .pre .ready .long .bx, s .pre .ready .long .by)))
 
 add-row-requires : tie.Need-add-row-requires
 add-row-requires c κs =
@@ -72,8 +66,8 @@ add-row-requires c κs =
     let l = e .before in
     let s = start l in
     let w = l .before .wide in
-    edge-asks (arrays s) (s .args .t) (s .pre .0) (listed s) (s .args .k) (many s) (w .result) (w .ensures) (l .cell-no .result) (l .cell-no .ensures)
-    (e .if1 .left) (s .pre .1 .1 .0) (s .pre .1 .1 .1) .1
+    edge-asks (arrays s) (s .args .t) (s .pre .ready) (listed s) (s .args .k) (many s) (w .result) (w .ensures) (l .cell-no .result) (l .cell-no .ensures)
+    (e .if1 .left) (s .pre .row) (s .pre .passed) .1
 
 returns-2 : tie.Need-returns-2
 returns-2 c =
@@ -85,17 +79,17 @@ returns-2 c =
     let us = p .put-bends .last .1 .1 .1 .0 in
     let vs = p .put-bends .last .1 .1 .1 .1 .0 in
     let a = s .args in
-    edge-obeyed (arrays s) (a .t) (s .pre .0) (listed s) (a .k) (many s) (w .result) (w .ensures) (l .cell-no .result) (l .cell-no .ensures)
-    (e .if1 .left) us vs (p .put-bends .ensures) (s .pre .1 .1 .0) (s .pre .1 .1 .1) _
+    edge-obeyed (arrays s) (a .t) (s .pre .ready) (listed s) (a .k) (many s) (w .result) (w .ensures) (l .cell-no .result) (l .cell-no .ensures)
+    (e .if1 .left) us vs (p .put-bends .ensures) (s .pre .row) (s .pre .passed) _
     (row-added _ (withPlaced (arrays s) us vs) (a .kind) (a .start) (a .end) (a .k) 0 (c .add-row .ensures .1) refl refl refl refl) _ (c .add-row .ensures .0)
 
 pub add-edge-spec : {M : Type 1} → statement M
 add-edge-spec =
     tie.close
     (tie.spec
-    wide-requires
+    (λ c κs. search needs)
     cell-no-requires
-    line-of-requires
+    (λ c κs. search needs)
     returns
     put-bends-requires
     add-row-requires

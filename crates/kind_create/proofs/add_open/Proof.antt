@@ -46,12 +46,6 @@ kind c v k e =
     let r = c .pre .0 in
     kind-vertex (heldBy a) (ready-sizes a t r) (ready-drawing a t r) (rowsBy a) (ready-indexes a t r) v k e
 
-bends-within-requires : tie.Need-bends-within-requires
-bends-within-requires c κs = c .before .pre .1
-
-line-of-requires : tie.Need-line-of-requires
-line-of-requires c κs = search needs
-
 returns : tie.Need-returns
 returns c =
     let w = c .before .before in
@@ -74,9 +68,6 @@ asking a = a .before .before .before .before .before .before .before
 bounds : (a : tie.After-value-at) → all within (listed (asking a)) ≡ true
 bounds a = let e = a .before .before .before .before in sym (e .before .bends-within .ensures) ∙ not-false _ (e .if1 .left)
 
-line-of-requires-2 : tie.Need-line-of-requires-2
-line-of-requires-2 c κs = search needs
-
 returns-2 : tie.Need-returns-2
 returns-2 c =
     let a = c .before .before in
@@ -96,9 +87,6 @@ value-at-requires-2 c κs =
 
 starts-at : (e : tie.Else2) → isVertex (cellAt (sheetOf (heldBy (arrays (asking (e .before))))) (asking (e .before) .args .start)) ≡ true
 starts-at e = let a = e .before in let s = asking a in sym (kind s (s .args .start) (a .value-at .result) (a .value-at .ensures)) ∙ eq-eqb _ 0 (e .if2 .left)
-
-line-of-requires-3 : tie.Need-line-of-requires-3
-line-of-requires-3 c κs = search needs
 
 returns-3 : tie.Need-returns-3
 returns-3 c =
@@ -127,7 +115,7 @@ add-edge-requires : tie.Need-add-edge-requires
 add-edge-requires c κs =
     let f = c .before .before .before .before .before .before .before .before .before .before in
     let s = starting f in
-    (s .pre .0, (s .pre .1, (openRow {s = s .args .start} {e = s .args .end}, passed f)))
+    record { ready = s .pre .0; bytes = s .pre .1; row = openRow {s = s .args .start} {e = s .args .end}; passed = passed f }
 
 returns-4 : tie.Need-returns-4
 returns-4 c = c .add-edge .ensures
@@ -136,14 +124,14 @@ pub add-open-spec : {M : Type 1} → statement M
 add-open-spec =
     tie.close
     (tie.spec
-    bends-within-requires
-    line-of-requires
+    (λ c κs. c .before .pre .1)
+    (λ c κs. search needs)
     returns
     value-at-requires
-    line-of-requires-2
+    (λ c κs. search needs)
     returns-2
     value-at-requires-2
-    line-of-requires-3
+    (λ c κs. search needs)
     returns-3
     add-edge-requires
     returns-4)

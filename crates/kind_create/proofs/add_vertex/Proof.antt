@@ -29,12 +29,6 @@ arrays c =
 abbrev start : tie.After-cell-no → tie.Start
 start l = l .before .before .before .before
 
-in-bounds-requires : tie.Need-in-bounds-requires
-in-bounds-requires c κs = search needs
-
-line-of-requires : tie.Need-line-of-requires
-line-of-requires c κs = search needs
-
 returns : tie.Need-returns
 returns c =
     let b = c .before .before in
@@ -49,9 +43,6 @@ cell-no-requires c κs =
       next-in (heldBy (arrays s)) (ready-drawing (arrays s) (s .args .t) (s .pre)),
       (ready-small (arrays s) (s .args .t) (s .pre), (lit≤ tt, (lit≤ tt, lit≤ tt))),
     )
-
-line-of-requires-2 : tie.Need-line-of-requires-2
-line-of-requires-2 c κs = search needs
 
 passed : (l : tie.After-cell-no) → Passed (sheetOf (heldBy (arrays (start l)))) (create (vertex (start l .args .p)))
 passed l =
@@ -97,11 +88,11 @@ pub add-vertex-spec : {M : Type 1} → statement M
 add-vertex-spec =
     tie.close
     (tie.spec
-    in-bounds-requires
-    line-of-requires
+    (λ c κs. search needs)
+    (λ c κs. search needs)
     returns
     cell-no-requires
-    line-of-requires-2
+    (λ c κs. search needs)
     returns-2
     put-position-requires
     add-row-requires

@@ -11,32 +11,11 @@ use Rattle.kind_cut_chord.proofs.corner_vertex.Tie as tie
 abbrev rows : tie.Start → Index
 rows s = let a = s .args in record { ids = now (a .ids); kinds = []; starts = now (a .starts); ends = now (a .ends); bends = []; cycles = [] }
 
-mul-result : tie.Need-mul-result
-mul-result c = search needs
-
-element-copy-out-result : tie.Need-element-copy-out-result
-element-copy-out-result c = search needs
-
 returns : tie.Need-returns
 returns c =
     let s = c .before .before .before in
     let a = s .args in
     vertex-lone (rows s) (a .n) (a .p .m) (now (a .steps)) (a .p .at) (a .s) (c .before .if1 .taken)
-
-wide-requires : tie.Need-wide-requires
-wide-requires c κs = search needs
-
-add-i : tie.Need-add-i
-add-i c = search needs
-
-mul-h : tie.Need-mul-h
-mul-h c = search needs
-
-element-copy-out-h : tie.Need-element-copy-out-h
-element-copy-out-h c = search needs
-
-value-at-requires : tie.Need-value-at-requires
-value-at-requires c κs = search needs
 
 returns-2 : tie.Need-returns-2
 returns-2 c =
@@ -45,9 +24,6 @@ returns-2 c =
     let a = s .args in
     vertex-back (rows s) (a .n) (a .p .m) (now (a .steps)) (a .p .at) (a .s) (c .before .before .before .before .if1 .left) (y .wide .result)
     (c .value-at .result) (y .wide .ensures) (c .before .if2 .taken) (c .value-at .ensures)
-
-value-at-requires-2 : tie.Need-value-at-requires-2
-value-at-requires-2 c κs = search needs
 
 returns-3 : tie.Need-returns-3
 returns-3 c =
@@ -61,14 +37,14 @@ pub corner-vertex-spec : {M : Type 1} → statement M
 corner-vertex-spec =
     tie.close
     (tie.spec
-    mul-result
-    element-copy-out-result
+    (λ c. search needs)
+    (λ c. search needs)
     returns
-    wide-requires
-    add-i
-    mul-h
-    element-copy-out-h
-    value-at-requires
+    (λ c κs. search needs)
+    (λ c. search needs)
+    (λ c. search needs)
+    (λ c. search needs)
+    (λ c κs. search needs)
     returns-2
-    value-at-requires-2
+    (λ c κs. search needs)
     returns-3)

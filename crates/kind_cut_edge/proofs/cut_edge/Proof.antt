@@ -11,13 +11,12 @@ use Rattle.complex.specs.Commands.{question4}
 use Rattle.complex.specs.Answer.{no, asked3}
 use Rattle.complex.proofs.Asked.{early-none, no-4}
 use Rattle.store.specs.View.{sheetOf}
-use Rattle.sound.specs.Looks.{Looks}
-use Rattle.sound.proofs.Meaning.{sound-fits, looks, open-at, closed-at}
-use Rattle.lent.specs.Arrays.{Arrays, lent, heldBy, rowsBy}
+use Rattle.sound.proofs.Meaning.{open-at, closed-at}
+use Rattle.lent.specs.Arrays.{Arrays, lent, heldBy}
 use Rattle.lent.specs.declared.Line.{Line}
 use Rattle.lent.specs.Replies.{Obeyed}
-use Rattle.lent.proofs.Held.{held-sizes, held-indexes}
-use Rattle.lent.proofs.Replies.{rows-of, drawing-of, obeyed-no}
+use Rattle.lent.proofs.Replies.{obeyed-no}
+use Rattle.lent.proofs.Sums.{ready-fits, ready-looks}
 use Rattle.kind_cut_edge.proofs.cut_edge.Statement.{statement}
 use Rattle.kind_cut_edge.proofs.cut_edge.Tie as tie
 
@@ -34,15 +33,10 @@ arrays c =
     lent (now (a .next)) (now (a .count)) (a .ids) (a .kinds) (a .starts) (a .ends) (a .bends) (a .counts) (a .px) (a .py) (a .cycles) (a .steps) (a .bx)
     (a .by)
 
-looked : (c : tie.Start) → Looks (heldBy (arrays c)) (rowsBy (arrays c))
-looked c =
-    looks (heldBy (arrays c)) (held-sizes (arrays c) (c .pre .long)) (rowsBy (arrays c))
-    (held-indexes (arrays c) (c .pre .long) (rows-of (arrays c) (c .pre .sound))) (drawing-of (arrays c) (c .pre .sound))
-
 value-at-requires : tie.Need-value-at-requires
 value-at-requires c κs =
     let s = c .before .before .before in
-    (sound-fits (heldBy (arrays s)) (drawing-of (arrays s) (s .pre .sound)) .cells, (s .pre .long .ids, (s .pre .long .kinds, looked s .rising)))
+    (ready-fits (arrays s) (s .args .t) (s .pre) .cells, (s .pre .long .ids, (s .pre .long .kinds, ready-looks (arrays s) (s .args .t) (s .pre) .rising)))
 
 wide-requires : tie.Need-wide-requires
 wide-requires c κs = search needs
@@ -53,7 +47,7 @@ cut-open-requires c κs =
     let v = i .before .before in
     let s = v .before .before .before .before in
     let a = arrays s in
-    (s .pre, sym (open-at (looked s) (s .args .e)) ∙ eq-eqb _ 1 (sym (v .value-at .ensures) ∙ i .if1 .taken))
+    (s .pre, sym (open-at (ready-looks (arrays s) (s .args .t) (s .pre)) (s .args .e)) ∙ eq-eqb _ 1 (sym (v .value-at .ensures) ∙ i .if1 .taken))
 
 returns : tie.Need-returns
 returns c =
@@ -67,7 +61,7 @@ cut-closed-requires c κs =
     let v = i .before .before .before in
     let s = v .before .before .before .before in
     let a = arrays s in
-    (s .pre, sym (closed-at (looked s) (s .args .e)) ∙ eq-eqb _ 2 (sym (v .value-at .ensures) ∙ i .if2 .taken))
+    (s .pre, sym (closed-at (ready-looks (arrays s) (s .args .t) (s .pre)) (s .args .e)) ∙ eq-eqb _ 2 (sym (v .value-at .ensures) ∙ i .if2 .taken))
 
 returns-2 : tie.Need-returns-2
 returns-2 c =
@@ -87,8 +81,8 @@ returns-3 c =
     let a = arrays s in
     let u = v .value-at .ensures in
     obeyed-no a (s .pre .sound) (cutEdge (s .args .e) (s .args .q)) 4 _ (c .line-of .ensures)
-    (no-edge (sheetOf (heldBy a)) (s .args .e) (s .args .q) (sym (open-at (looked s) (s .args .e)) ∙ ne-eqb _ 1 (λ g. l1 .if1 .left (u ∙ g)))
-    (sym (closed-at (looked s) (s .args .e)) ∙ ne-eqb _ 2 (λ g. l2 .if2 .left (u ∙ g))))
+    (no-edge (sheetOf (heldBy a)) (s .args .e) (s .args .q) (sym (open-at (ready-looks (arrays s) (s .args .t) (s .pre)) (s .args .e)) ∙ ne-eqb _ 1 (λ g. l1 .if1 .left (u ∙ g)))
+    (sym (closed-at (ready-looks (arrays s) (s .args .t) (s .pre)) (s .args .e)) ∙ ne-eqb _ 2 (λ g. l2 .if2 .left (u ∙ g))))
 
 pub cut-edge-spec : {M : Type 1} → statement M
 cut-edge-spec =

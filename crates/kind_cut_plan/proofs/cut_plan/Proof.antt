@@ -20,8 +20,9 @@ use Rattle.ask_cut_edge.proofs.OpenAnswer.{uses-most, open-live, counted-in, no
 use Rattle.lent.specs.Arrays.{Arrays, lent, heldBy, rowsBy}
 use Rattle.lent.proofs.Held.{held-sizes, held-indexes}
 use Rattle.lent.proofs.Replies.{rows-of, drawing-of}
-use Rattle.kind_cut_plan.proofs.Late.{late-refuses}
-use Rattle.kind_cut_plan.proofs.OpenPlans.{planned-no, cuts, ends, rows-below, placed-in, planned}
+use Rattle.kind_cut_plan.proofs.Late.{planned-no, late-refuses}
+use Rattle.kind_cut_plan.proofs.OpenPlans as opened
+use Rattle.kind_cut_plan.proofs.OpenPlans.{cuts, rows-below, placed-in, planned}
 use borrow.Author.Needs.{needs}
 use Rattle.kind_cut_plan.proofs.cut_plan.Statement.{statement}
 use Rattle.kind_cut_plan.proofs.cut_plan.Tie as tie
@@ -81,15 +82,11 @@ abbrev ends-at : (b : tie.After-bend-start) (u v : ℕ)
     → v ≡ getD (now (start (widened (counted b)) .args .ends)) (widened (counted b) .before .before .find .result) 0
     → OpenEnds (heldBy (arrays (start (widened (counted b))))) (start (widened (counted b)) .args .e) u v
 ends-at b u v eu ev =
-    let n = b .before .before .before in
-    let k = counted b in
-    let w = widened k in
+    let w = widened (counted b) in
     let f = w .before .before in
     let s = f .before in
-    let o = late (s .args .next) (s .args .t) _ (s .args .q % 2) _ (n .late-no .result) (n .late-no .ensures) (k .count-steps .ensures) in
-    ends (arrays s) (s .pre .0 .long) (s .pre .0 .sound) (s .args .e) (s .pre .1) (s .args .q) (s .args .t) (s .pre .0 .sums)
-    (f .find .result) (f .find .ensures) (w .wide .result) (w .wide .ensures) (k .before .before .before .if1 .left)
-    (n .late-no .result) o (b .before .before .if2 .left) (b .bend-start .result) (b .bend-start .ensures) u v eu ev
+    opened.ends-at (arrays s) (s .pre .0 .long) (s .pre .0 .sound) (s .args .e) (s .pre .1) (s .args .q) (s .args .t) (s .pre .0 .sums)
+    (f .find .result) (f .find .ensures) (w .wide .result) (w .wide .ensures) u v eu ev
 
 find-requires : tie.Need-find-requires
 find-requires c κs = let s = c in find-asks (heldBy (arrays s)) (size s) (sound s) (rowsBy (arrays s)) (index s)

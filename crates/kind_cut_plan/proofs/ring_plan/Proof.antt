@@ -1,18 +1,13 @@
 -- `ring_plan` meets its contract. Assumes nothing.
 use borrow.Author.Needs.{needs}
 use native.Mathlib.Omega.{arith}
-use lib.Dec.{T, lit≤}
-use Rattle.store.specs.Index.{Indexes}
-use Rattle.store.specs.Sizes.{Sizes}
-use Rattle.sound.specs.Soundness.{soundDrawing}
-use Rattle.ask_cut_edge.proofs.Found.{find-asks, row-below, base-asks}
-use Rattle.ask_cut_edge.proofs.OpenAnswer.{counted-in}
-use Rattle.ask_cut_edge.proofs.ClosedAnswer.{closed-live, no-place, asked}
+use Prim.Native.Nat.{_+_, _<_, _≤_}
+use lib.Dec.{lit≤}
+use Rattle.ask_cut_edge.proofs.Found.{base-asks}
 use Rattle.lent.specs.Arrays.{Arrays, lent, heldBy, rowsBy}
-use Rattle.lent.proofs.Held.{held-sizes, held-indexes}
-use Rattle.lent.proofs.Replies.{rows-of, drawing-of}
-use Rattle.kind_cut_plan.proofs.Late.{late-refuses}
-use Rattle.kind_cut_plan.proofs.RingPlans.{planned-no, cuts, planned}
+use Rattle.lent.proofs.Sums.{ready-drawing, ready-sizes, ready-indexes}
+use Rattle.lent.proofs.Finds.{ready-finds}
+use Rattle.kind_cut_plan.proofs.RingPlans.{live, counts-in, row-in, place-no, late-no, cuts, planned}
 use Rattle.kind_cut_plan.proofs.ring_plan.Statement.{statement}
 use Rattle.kind_cut_plan.proofs.ring_plan.Tie as tie
 
@@ -21,36 +16,26 @@ arrays c =
     let a = c .args in
     lent (a .next) (a .count) (a .ids) (a .kinds) (a .starts) (a .ends) (a .bends) (a .counts) (a .px) (a .py) (a .cycles) (a .steps) (a .bx) (a .by)
 
-abbrev size : (c : tie.Start) → Sizes (heldBy (arrays c))
-size c = held-sizes (arrays c) (c .pre .0 .long)
+-- the places to which a need goes back
+abbrev found : tie.After-wide → tie.After-find
+found w = w .before .before
 
-abbrev sound : (c : tie.Start) → T (soundDrawing (heldBy (arrays c)))
-sound c = drawing-of (arrays c) (c .pre .0 .sound)
-
-abbrev index : (c : tie.Start) → Indexes (heldBy (arrays c)) (rowsBy (arrays c))
-index c = held-indexes (arrays c) (c .pre .0 .long) (rows-of (arrays c) (c .pre .0 .sound))
+abbrev widened : tie.After-late-no → tie.After-wide
+widened n = n .before .before
 
 find-requires : tie.Need-find-requires
-find-requires c κs =
-    let s = c in
-    find-asks (heldBy (arrays s)) (size s) (sound s) (rowsBy (arrays s)) (index s)
+find-requires c κs = ready-finds (arrays c) (c .args .t) (c .pre .0)
+
+row-at : (f : tie.After-find) → f .find .result < 256
+row-at f =
+    let s = f .before in
+    row-in (arrays s) (s .args .t) (s .pre .0) (s .args .e) (s .args .q) (s .pre .1) (f .find .result) (f .find .ensures)
 
 mul-wide : tie.Need-mul-wide
-mul-wide c =
-    let fd = c in
-    let s = fd .before in
-    omega (
-      arith,
-      row-below (heldBy (arrays s)) (size s) (sound s) (rowsBy (arrays s)) (index s) (s .args .e) (fd .find .result) (fd .find .ensures)
-          (closed-live (heldBy (arrays s)) (size s) (sound s) (s .args .e) (s .args .q) (s .pre .1)),
-    )
+mul-wide c = omega (arith, row-at c)
 
 element-copy-out-wide : tie.Need-element-copy-out-wide
-element-copy-out-wide c =
-    let fd = c in
-    let s = fd .before in
-    row-below (heldBy (arrays s)) (size s) (sound s) (rowsBy (arrays s)) (index s) (s .args .e) (fd .find .result) (fd .find .ensures)
-    (closed-live (heldBy (arrays s)) (size s) (sound s) (s .args .e) (s .args .q) (s .pre .1))
+element-copy-out-wide c = row-at c
 
 wide-requires : tie.Need-wide-requires
 wide-requires c κs = search needs
@@ -60,17 +45,16 @@ refused-requires c κs = search needs
 
 returns : tie.Need-returns
 returns c =
-    let wd = c .before .before in
-    let fd = wd .before .before in
-    let s = fd .before in
-    planned-no (arrays s) (s .args .e) (s .args .q) 5 _ (c .refused .ensures) (λ z. omega (arith, z))
-    (no-place (heldBy (arrays s)) (size s) (sound s) (s .args .e) (s .args .q) (s .pre .1) (rowsBy (arrays s)) (index s) (fd .find .result) (fd .find .ensures)
-    (wd .wide .result) (wd .wide .ensures) (c .before .if1 .taken))
+    let w = c .before .before in
+    let f = found w in
+    let s = f .before in
+    place-no (arrays s) (s .args .t) (s .pre .0) (s .args .e) (s .args .q) (s .pre .1) (f .find .result) (f .find .ensures) (w .wide .result) (w .wide .ensures)
+    (c .before .if1 .taken) _ (c .refused .ensures)
 
 late-no-requires : tie.Need-late-no-requires
 late-no-requires c κs =
     let s = c .before .before .before .before in
-    let p = counted-in (heldBy (arrays s)) (size s) (sound s) (rowsBy (arrays s)) (index s) (s .args .t) (s .pre .0 .sums) in (
+    let p = counts-in (arrays s) (s .args .t) (s .pre .0) (s .args .e) (s .args .q) (s .pre .1) in (
       p .nextIn,
       (
         lit≤ tt,
@@ -87,51 +71,44 @@ refused-requires-2 c κs = search needs
 
 returns-2 : tie.Need-returns-2
 returns-2 c =
-    let ln = c .before .before in
-    let l1 = ln .before in
-    let wd = l1 .before in
-    let fd = wd .before .before in
-    let s = fd .before in
-    planned-no (arrays s) (s .args .e) (s .args .q) (ln .late-no .result) _ (c .refused2 .ensures) (c .before .if2 .taken)
-    (late-refuses (arrays s) (s .pre .0 .long) (s .pre .0 .sound) (s .args .e) (s .args .q) (ln .late-no .result)
-    (asked (heldBy (arrays s)) (size s) (sound s) (s .args .e) (s .args .q) (s .pre .1) (rowsBy (arrays s)) (index s) (fd .find .result) (fd .find .ensures)
-    (wd .wide .result) (wd .wide .ensures) (l1 .if1 .left) (s .args .t) (s .pre .0 .sums) (ln .late-no .result) (ln .late-no .ensures))
-    (c .before .if2 .taken))
+    let n = c .before .before in
+    let w = widened n in
+    let f = found w in
+    let s = f .before in
+    late-no (arrays s) (s .args .t) (s .pre .0) (s .args .e) (s .args .q) (s .pre .1) (f .find .result) (f .find .ensures) (w .wide .result) (w .wide .ensures)
+    (n .before .if1 .left) (n .late-no .result) (n .late-no .ensures) (c .before .if2 .taken) _ (c .refused2 .ensures)
 
 bend-start-requires : tie.Need-bend-start-requires
 bend-start-requires c κs =
-    let fd = c .before .before .before .before .before .before in
-    let s = fd .before in
-    base-asks (heldBy (arrays s)) (size s) (sound s) (rowsBy (arrays s)) (index s) (s .args .e) (fd .find .result) (fd .find .ensures)
-    (closed-live (heldBy (arrays s)) (size s) (sound s) (s .args .e) (s .args .q) (s .pre .1))
+    let f = found (widened (c .before .before)) in
+    let s = f .before in
+    let a = arrays s in
+    base-asks (heldBy a) (ready-sizes a (s .args .t) (s .pre .0)) (ready-drawing a (s .args .t) (s .pre .0)) (rowsBy a)
+    (ready-indexes a (s .args .t) (s .pre .0)) (s .args .e) (f .find .result) (f .find .ensures)
+    (live a (s .args .t) (s .pre .0) (s .args .e) (s .args .q) (s .pre .1))
+
+-- the edge's bends stand among those of the drawing
+bends-in : (b : tie.After-bend-start) → b .bend-start .result + widened (b .before .before .before) .wide .result ≤ 2048
+bends-in b =
+    let n = b .before .before .before in
+    let w = widened n in
+    let f = found w in
+    let s = f .before in
+    cuts (arrays s) (s .args .t) (s .pre .0) (s .args .e) (s .args .q) (s .pre .1) (f .find .result) (f .find .ensures) (w .wide .result) (w .wide .ensures)
+    (n .before .if1 .left) (n .late-no .result) (n .late-no .ensures) (b .before .before .if2 .left) (b .bend-start .result) (b .bend-start .ensures) .range
 
 ring-place-requires : tie.Need-ring-place-requires
-ring-place-requires c κs =
-    let bs = c in
-    let l2 = bs .before .before in
-    let ln = l2 .before in
-    let l1 = ln .before in
-    let wd = l1 .before in
-    let fd = wd .before .before in
-    let s = fd .before in (
-      cuts (arrays s) (s .pre .0 .long) (s .pre .0 .sound) (s .args .e) (s .args .q) (s .pre .1) (s .args .t) (s .pre .0 .sums) (fd .find .result)
-          (fd .find .ensures) (wd .wide .result) (wd .wide .ensures) (l1 .if1 .left) (ln .late-no .result) (ln .late-no .ensures) (l2 .if2 .left)
-          (bs .bend-start .result) (bs .bend-start .ensures) .range,
-      l1 .if1 .left,
-    )
+ring-place-requires c κs = (bends-in c, c .before .before .before .before .if1 .left)
 
 returns-3 : tie.Need-returns-3
 returns-3 c =
-    let bs = c .before in
-    let l2 = bs .before .before in
-    let ln = l2 .before in
-    let l1 = ln .before in
-    let wd = l1 .before in
-    let fd = wd .before .before in
-    let s = fd .before in
-    planned (arrays s) (s .pre .0 .long) (s .pre .0 .sound) (s .args .e) (s .args .q) (s .pre .1) (s .args .t) (s .pre .0 .sums) (fd .find .result)
-    (fd .find .ensures) (wd .wide .result) (wd .wide .ensures) (l1 .if1 .left) (ln .late-no .result) (ln .late-no .ensures) (l2 .if2 .left)
-    (bs .bend-start .result) (bs .bend-start .ensures)
+    let b = c .before in
+    let n = b .before .before .before in
+    let w = widened n in
+    let f = found w in
+    let s = f .before in
+    planned (arrays s) (s .args .t) (s .pre .0) (s .args .e) (s .args .q) (s .pre .1) (f .find .result) (f .find .ensures) (w .wide .result) (w .wide .ensures)
+    (n .before .if1 .left) (n .late-no .result) (n .late-no .ensures) (b .before .before .if2 .left) (b .bend-start .result) (b .bend-start .ensures)
     (c .ring-place .result) (c .ring-place .ensures)
 
 pub ring-plan-spec : {M : Type 1} → statement M

@@ -41,12 +41,6 @@ put-step-requires c κs = room (c .before .before .before .before .before) .1 .0
 close-path-requires : tie.Need-close-path-requires
 close-path-requires c κs = let r = room (c .before .before .before .before .before .before .before .before .before) in (r .0, (omega arith, r .1 .1))
 
-same-length : tie.Need-same-length
-same-length c = search needs
-
-same-length-2 : tie.Need-same-length-2
-same-length-2 c = search needs
-
 returns : tie.Need-returns
 returns c =
     let k = c .before .before in
@@ -56,4 +50,4 @@ returns c =
     ring-built (y .copy-cycles .ensures .0) (room y .1 .0) (a .h) _ _ (p .put-step .ensures .1) (k .close-path .ensures .1) _ (k .close-path .ensures .0)
 
 pub and-ring-spec : {M : Type 1} → statement M
-and-ring-spec = tie.close (tie.spec copy-cycles-requires put-step-requires close-path-requires same-length same-length-2 returns)
+and-ring-spec = tie.close (tie.spec copy-cycles-requires put-step-requires close-path-requires (λ c. search needs) (λ c. search needs) returns)

@@ -7,11 +7,12 @@ use native.Mathlib.Omega.{arith}
 use lib.ListN.{length-replicate}
 use denote.Ref.{now}
 use Rattle.complex.specs.Cells.{Cycle, Figure}
+use Rattle.store.specs.View.{sheetOf}
 use Rattle.rows_spans.specs.Building.{built}
-use Rattle.rows_corners.specs.Faces.{Spanned}
+use Rattle.rows_corners.specs.Faces.{Spanned, recycled}
 use Rattle.lent.specs.Arrays.{Arrays, lent, heldBy}
 use Rattle.lent.proofs.Finds.{ready-finds}
-use Rattle.kernel_cycles.specs.Replacing.{ReplacesIn}
+use Rattle.kernel_cycles.specs.Replacing.{ReplacesIn, ReplacedIn}
 use Rattle.kernel_cycles.proofs.Held.{in-cycles, in-steps}
 use Rattle.kind_cut_face.specs.Cuts.{FaceCuts}
 use Rattle.kind_cut_face.proofs.Cuts.{counted, span, replaces, replaced-sheet}
@@ -35,7 +36,7 @@ new s =
     bothCells (arrays s) (s .args .t) (s .pre .0) (s .args .script .now) (s .args .f) (s .args .k) (s .args .first) (s .args .moved)
     (s .args .place) (s .pre .1)
 
-asked : (s : tie.Start) → FaceCuts (arrays s) (s .args .t) (s .args .f) (list s) (new s)
+abbrev asked : (s : tie.Start) → FaceCuts (arrays s) (s .args .t) (s .args .f) (list s) (new s)
 asked s =
     cuts (arrays s) (s .args .t) (s .pre .0) (s .args .script .now) (s .args .f) (s .args .k) (s .args .first) (s .args .moved)
     (s .args .place) (s .pre .1)
@@ -135,6 +136,17 @@ replaced-asks l =
     replaces (arrays s) (s .args .t) (s .args .f) (list s) (new s) (asked s) (x .find .result) (x .find .ensures) (y .spans-at .result) (y .spans-at .ensures)
     _ (l .round-lists .result .old) _ (l .round-lists .ensures .0 .building) (listed l)
 
+sheet-at : (l : tie.After-round-lists) (o : Arrays) → let y = spanning l in let w = l .round-lists in
+    ReplacedIn (arrays (start y)) (found y .find .result) (y .spans-at .result) (w .result .old .cycles) (w .result .old .steps)
+    (built (w .last .1 .1 .1 .1 .1 .1 .1 .0) (w .result .old) (w .last .1 .1 .1 .1 .1 .1 .1 .1 .0)) o
+    → sheetOf (heldBy o) ≡ recycled (sheetOf (heldBy (arrays (start y)))) (start y .args .f) (list (start y))
+sheet-at l =
+    let y = spanning l in
+    let x = found y in
+    let s = start y in
+    replaced-sheet (arrays s) (s .args .t) (s .args .f) (list s) (new s) (asked s) (x .find .result) (x .find .ensures) (y .spans-at .result)
+    (y .spans-at .ensures) _ (l .round-lists .result .old) _ (l .round-lists .ensures .0 .building) (listed l)
+
 slice-aggregate-replace-cycles : tie.Need-slice-aggregate-replace-cycles
 slice-aggregate-replace-cycles c =
     let l = c .before .before .before .before .before .before .before .before .before .before .before .before .before .before .before .before in
@@ -176,8 +188,7 @@ add-ring-requires c κs =
     let s = start y in
     ring-room (arrays s) (s .args .t) (s .pre .0) (s .args .script .now) (s .args .f) (s .args .k) (s .args .first) (s .args .moved)
     (s .args .place) (s .pre .1) (y .spans-at .result) (spanned-at y) (x .find .result) (l .round-lists .result .old) _ _ (r .replace-cycles .ensures)
-    (replaced-sheet (arrays s) (s .args .t) (s .args .f) (list s) (new s) (asked s) (x .find .result) (x .find .ensures) (y .spans-at .result)
-    (y .spans-at .ensures) _ (l .round-lists .result .old) _ (l .round-lists .ensures .0 .building) (listed l) _ (r .replace-cycles .ensures))
+    (sheet-at l _ (r .replace-cycles .ensures))
 
 slice-aggregate-add-part : tie.Need-slice-aggregate-add-part
 slice-aggregate-add-part c =
@@ -201,8 +212,7 @@ add-part-requires c κs =
     let s = start y in
     part-room (arrays s) (s .args .t) (s .pre .0) (s .args .script .now) (s .args .f) (s .args .k) (s .args .first) (s .args .moved)
     (s .args .place) (s .pre .1) (y .spans-at .result) (spanned-at y) (x .find .result) (l .round-lists .result .old) _ _ (r .replace-cycles .ensures)
-    (replaced-sheet (arrays s) (s .args .t) (s .args .f) (list s) (new s) (asked s) (x .find .result) (x .find .ensures) (y .spans-at .result)
-    (y .spans-at .ensures) _ (l .round-lists .result .old) _ (l .round-lists .ensures .0 .building) (listed l) _ (r .replace-cycles .ensures))
+    (sheet-at l _ (r .replace-cycles .ensures))
     _ _ _ (g .add-ring .ensures .1 .1) _ (l .round-lists .result .new) _ (l .round-lists .ensures .1)
 
 returns : tie.Need-returns
@@ -220,8 +230,7 @@ returns c =
         omega (arith, w .1 .0, v .1 .0),
         round-holds (arrays s) (s .args .t) (s .pre .0) (s .args .script .now) (s .args .f) (s .args .k) (s .args .first) (s .args .moved)
             (s .args .place) (s .pre .1) (y .spans-at .result) (spanned-at y) (x .find .result) (l .round-lists .result .old) _ _ (r .replace-cycles .ensures)
-            (replaced-sheet (arrays s) (s .args .t) (s .args .f) (list s) (new s) (asked s) (x .find .result) (x .find .ensures) (y .spans-at .result)
-            (y .spans-at .ensures) _ (l .round-lists .result .old) _ (l .round-lists .ensures .0 .building) (listed l) _ (r .replace-cycles .ensures))
+            (sheet-at l _ (r .replace-cycles .ensures))
             _ _ _ (v .1 .1) _ (l .round-lists .result .new) _ (l .round-lists .ensures .1) _ (w .1 .1),
       ),
     )

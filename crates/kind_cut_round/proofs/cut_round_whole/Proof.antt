@@ -28,24 +28,6 @@ arrays c =
     lent (now (a .next)) (now (a .count)) (a .ids) (a .kinds) (a .starts) (a .ends) (a .bends) (a .counts)
     (a .px) (a .py) (a .cycles) (a .steps) (a .bx) (a .by)
 
-abbrev list : (s : tie.Start) → List Cycle
-list s = keptList (arrays s) (s .args .t) (s .pre .0) (s .args .script .now) (s .args .f) (s .args .k) (s .args .first) 0 0 (s .pre .1)
-
-abbrev new : (s : tie.Start) → List Figure
-new s = bothCells (arrays s) (s .args .t) (s .pre .0) (s .args .script .now) (s .args .f) (s .args .k) (s .args .first) 0 0 (s .pre .1)
-
-asks : (s : tie.Start) → FaceCuts (arrays s) (s .args .t) (s .args .f) (list s) (new s)
-asks s = cuts (arrays s) (s .args .t) (s .pre .0) (s .args .script .now) (s .args .f) (s .args .k) (s .args .first) 0 0 (s .pre .1)
-
-find-requires : tie.Need-find-requires
-find-requires c κs = let s = c .before .before .before .before in ready-finds (arrays s) (s .args .t) (s .pre .0)
-
-spans-at-requires : tie.Need-spans-at-requires
-spans-at-requires c κs =
-    let x = c .before .before in
-    let s = x .before .before .before .before .before in
-    counted (arrays s) (s .args .t) (s .args .f) (list s) (new s) (asks s) (x .find .result) (x .find .ensures)
-
 -- the places to which a need goes back
 abbrev start : tie.After-spans-at → tie.Start
 start y = y .before .before .before .before .before .before .before .before
@@ -63,6 +45,24 @@ abbrev put : tie.After-add-ring → tie.After-add-cycle
 put g =
     let h = g .before .before .before .before .before .before .before .before .before .before .before .before in
     h .before .before .before .before .before .before .before .before .before
+
+abbrev list : (s : tie.Start) → List Cycle
+list s = keptList (arrays s) (s .args .t) (s .pre .0) (s .args .script .now) (s .args .f) (s .args .k) (s .args .first) 0 0 (s .pre .1)
+
+abbrev new : (s : tie.Start) → List Figure
+new s = bothCells (arrays s) (s .args .t) (s .pre .0) (s .args .script .now) (s .args .f) (s .args .k) (s .args .first) 0 0 (s .pre .1)
+
+abbrev asks : (s : tie.Start) → FaceCuts (arrays s) (s .args .t) (s .args .f) (list s) (new s)
+asks s = cuts (arrays s) (s .args .t) (s .pre .0) (s .args .script .now) (s .args .f) (s .args .k) (s .args .first) 0 0 (s .pre .1)
+
+find-requires : tie.Need-find-requires
+find-requires c κs = let s = c .before .before .before .before in ready-finds (arrays s) (s .args .t) (s .pre .0)
+
+spans-at-requires : tie.Need-spans-at-requires
+spans-at-requires c κs =
+    let x = c .before .before in
+    let s = x .before .before .before .before .before in
+    counted (arrays s) (s .args .t) (s .args .f) (list s) (new s) (asks s) (x .find .result) (x .find .ensures)
 
 -- where the face's cycles stand
 spanned-at : (y : tie.After-spans-at) → Spanned (heldBy (arrays (start y))) (start y .args .f) (spans y)

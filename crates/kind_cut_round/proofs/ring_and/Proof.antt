@@ -15,12 +15,6 @@ use Rattle.rows_corners.proofs.Lists.{copy-asks, built-then, ring-built}
 use Rattle.kind_cut_round.proofs.ring_and.Statement.{statement}
 use Rattle.kind_cut_round.proofs.ring_and.Tie as tie
 
-put-step-requires : tie.Need-put-step-requires
-put-step-requires c κs = search needs
-
-close-path-requires : tie.Need-close-path-requires
-close-path-requires c κs = search needs
-
 -- the cycle of one step
 ring : (k : tie.After-close-path) → let a = k .before .before .before .before .before .before .before .before .args in
     Built (one (path (one (halfedgeOf (a .h))))) (k .close-path .last .0) (k .close-path .result) (k .before .before .before .before .put-step .last .0)
@@ -48,12 +42,6 @@ copy-cycles-requires c κs =
     copy-asks (a .cycles .now) (a .steps .now) (a .s) (st .pre .0) (a .skip .now) (omega (arith, st .pre .1 .0, h)) _ (k .close-path .result) _
     (ring k .building) (omega (arith, uc, h, lc, k .close-path .kept .0)) (omega (arith, us, g, lo, p .put-step .kept .0))
 
-same-length : tie.Need-same-length
-same-length c = search needs
-
-same-length-2 : tie.Need-same-length-2
-same-length-2 c = search needs
-
 returns : tie.Need-returns
 returns c =
     let y = c .before .before .before .before in
@@ -62,4 +50,4 @@ returns c =
     built-then (kept (take (a .s .cycles .count) (a .skip .now)) (cyclesAt (a .cycles .now) (a .steps .now) (a .s))) (ring k) (y .copy-cycles .ensures .0)
 
 pub ring-and-spec : {M : Type 1} → statement M
-ring-and-spec = tie.close (tie.spec put-step-requires close-path-requires copy-cycles-requires same-length same-length-2 returns)
+ring-and-spec = tie.close (tie.spec (λ c κs. search needs) (λ c κs. search needs) copy-cycles-requires (λ c. search needs) (λ c. search needs) returns)

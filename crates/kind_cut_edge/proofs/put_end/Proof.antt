@@ -1,12 +1,12 @@
--- `put_loop` meets its contract. Assumes nothing.
+-- `put_end` meets its contract. Assumes nothing.
 use borrow.Author.Needs.{needs}
 use Prim.Native.Nat.{ℕ, _+_}
 use mathlib.Core.Path.{ap, _∙_}
 use mathlib.Core.List.{List}
 use lib.ListN.{set}
 use denote.Ref.{now}
-use Rattle.kind_cut_ring.proofs.put_loop.Statement.{statement}
-use Rattle.kind_cut_ring.proofs.put_loop.Tie as tie
+use Rattle.kind_cut_edge.proofs.put_end.Statement.{statement}
+use Rattle.kind_cut_edge.proofs.put_end.Tie as tie
 
 put-row-requires : tie.Need-put-row-requires
 put-row-requires c κs = search needs
@@ -33,7 +33,7 @@ returns c =
     let w2 = c .put-row2 .ensures in
     let ids = w2 .0 ∙ ap (λ (l : List ℕ). set l (a .count + 1) (a .next + 1)) (w1 .0) in
     let kinds = w2 .1 .0 ∙ ap (λ (l : List ℕ). set l (a .count + 1) (1)) (w1 .1 .0) in
-    let starts = w2 .1 .1 .0 ∙ ap (λ (l : List ℕ). set l (a .count + 1) (a .next)) (w1 .1 .1 .0) in
+    let starts = w2 .1 .1 .0 ∙ ap (λ (l : List ℕ). set l (a .count + 1) (a .s)) (w1 .1 .1 .0) in
     let ends = w2 .1 .1 .1 .0 ∙ ap (λ (l : List ℕ). set l (a .count + 1) (a .next)) (w1 .1 .1 .1 .0) in
     let bends = w2 .1 .1 .1 .1 .0 ∙ ap (λ (l : List ℕ). set l (a .count + 1) (a .k)) (w1 .1 .1 .1 .1 .0) in
     let counts = w2 .1 .1 .1 .1 .1 ∙ ap (λ (l : List ℕ). set l (a .count + 1) (0)) (w1 .1 .1 .1 .1 .1) in
@@ -54,8 +54,8 @@ returns c =
       by = now (a .by);
     }
 
-pub put-loop-spec : {M : Type 1} → statement M
-put-loop-spec =
+pub put-end-spec : {M : Type 1} → statement M
+put-end-spec =
     tie.close
     (tie.spec
     put-row-requires

@@ -8,10 +8,11 @@ use Rattle.answer.proofs.Asked.{next-in}
 use Rattle.lent.specs.Arrays.{Arrays, lent, heldBy}
 use Rattle.lent.proofs.Replies.{rows-of, drawing-of, obeyed-no}
 use Rattle.kind_cut_plan.specs.OpenPlans.{OpenGoes}
-use Rattle.kind_cut_open.proofs.Cutting.{place-in, edge-in, swap-asks, mid-row, parts-fit, obeyed-cut, swapped-as}
+use Rattle.kind_cut_edge.proofs.Parting.{swapped-as}
+use Rattle.kind_cut_edge.proofs.OpenCuts.{place-in, edge-in, swap-asks, mid-row, parts-fit, obeyed-cut}
 use borrow.Author.Needs.{needs}
-use Rattle.kind_cut_open.proofs.cut_open.Statement.{statement}
-use Rattle.kind_cut_open.proofs.cut_open.Tie as tie
+use Rattle.kind_cut_edge.proofs.cut_open.Statement.{statement}
+use Rattle.kind_cut_edge.proofs.cut_open.Tie as tie
 
 abbrev arrays : (c : tie.Start) → Arrays
 arrays c =

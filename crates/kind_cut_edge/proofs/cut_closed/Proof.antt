@@ -9,9 +9,10 @@ use Rattle.answer.proofs.Asked.{next-in}
 use Rattle.lent.specs.Arrays.{Arrays, lent, heldBy}
 use Rattle.lent.proofs.Replies.{rows-of, drawing-of, obeyed-no}
 use Rattle.kind_cut_plan.specs.RingPlans.{RingGoes}
-use Rattle.kind_cut_ring.proofs.Cutting.{place-in, edge-in, swap-asks, mid-row, loop-fits, obeyed-cut, swapped-as}
-use Rattle.kind_cut_ring.proofs.cut_closed.Statement.{statement}
-use Rattle.kind_cut_ring.proofs.cut_closed.Tie as tie
+use Rattle.kind_cut_edge.proofs.Parting.{swapped-as}
+use Rattle.kind_cut_edge.proofs.RingCuts.{place-in, edge-in, swap-asks, mid-row, loop-fits, obeyed-cut}
+use Rattle.kind_cut_edge.proofs.cut_closed.Statement.{statement}
+use Rattle.kind_cut_edge.proofs.cut_closed.Tie as tie
 
 abbrev arrays : (c : tie.Start) → Arrays
 arrays c =
@@ -32,7 +33,7 @@ one c = c .before .before .before .before .before .before .before .before .befor
 abbrev swapped : tie.After-drop-row → tie.After-swap-steps
 swapped c = c .before .before .before .before .before .before .before .before .before .before .before .before .before
 
-abbrev dropped : tie.After-put-loop → tie.After-drop-row
+abbrev dropped : tie.After-put-end → tie.After-drop-row
 dropped c = c .before .before .before .before .before .before .before .before .before .before .before .before .before
 
 ring-plan-requires : tie.Need-ring-plan-requires
@@ -104,22 +105,22 @@ drop-row-requires c κs =
       ),
     )
 
-sub-put-loop : tie.Need-sub-put-loop
-sub-put-loop c =
+sub-put-end : tie.Need-sub-put-end
+sub-put-end c =
     let el = one (swapped (c .before .before .before .before .before .before .before .before .before .before .before .before)) .before in
     let s = start (el .before) in
     let a = arrays s in
     omega (arith, place-in a (s .pre .0 .long) (s .pre .0 .sound) (s .args .e) (s .args .q) (el .before .ring-plan .result) (goes el))
 
-cast-put-loop : tie.Need-cast-put-loop
-cast-put-loop c =
+cast-put-end : tie.Need-cast-put-end
+cast-put-end c =
     let el = one (swapped (c .before .before .before .before .before .before .before .before .before .before .before .before)) .before in
     let s = start (el .before) in
     let a = arrays s in
     omega (arith, goes el .cuts .range)
 
-put-loop-requires : tie.Need-put-loop-requires
-put-loop-requires c κs =
+put-end-requires : tie.Need-put-end-requires
+put-end-requires c κs =
     let g = c .before .before .before .before .before .before .before .before .before .before .before .before in
     let w = swapped g in
     let o = one w in
@@ -169,7 +170,7 @@ returns-2 c =
     let a = arrays s in
     let sw = swapped-as (o .one-for .ensures) (w .swap-steps .ensures) in
     obeyed-cut a (s .pre .0 .long) (s .pre .0 .sound) (s .args .e) (s .args .q) (el .before .ring-plan .result) (goes el) _ _ sw _ refl (g .drop-row .ensures)
-    _ (c .put-loop .ensures) _ refl
+    _ (c .put-end .ensures) _ refl
 
 pub cut-closed-spec : {M : Type 1} → statement M
 cut-closed-spec =
@@ -183,9 +184,9 @@ cut-closed-spec =
     swap-steps-requires
     add-drop-row
     drop-row-requires
-    sub-put-loop
-    cast-put-loop
-    put-loop-requires
+    sub-put-end
+    cast-put-end
+    put-end-requires
     add-count
     add-count-2
     add-next

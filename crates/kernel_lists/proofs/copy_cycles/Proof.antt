@@ -1,6 +1,6 @@
 -- `copy_cycles` meets its contract: after i cycles those of them that are not skipped follow the list. Assumes nothing.
 use borrow.Author.Needs.{needs}
-use Prim.Native.Nat.{_+_, _≤_, _<_, _-_}
+use Prim.Native.Nat.{ℕ, _+_, _≤_, _<_, _-_}
 use mathlib.Core.Path.{_≡_, sym, _∙_}
 use mathlib.Core.Bool.{false}
 use native.Mathlib.Omega.{arith}
@@ -8,8 +8,8 @@ use lib.ListN.{length, drop, getD, length-drop}
 use lib.Seq.{getD-drop}
 use Rattle.store.proofs.Lists.{places-one}
 use Rattle.rows_spans.proofs.Building.{Copying, copying-start, copying-place, copying-cycles, copying-steps, copying-turn}
-use Rattle.kernel_cycles.proofs.copy_cycles.Statement.{statement}
-use Rattle.kernel_cycles.proofs.copy_cycles.Tie as tie
+use Rattle.kernel_lists.proofs.copy_cycles.Statement.{statement}
+use Rattle.kernel_lists.proofs.copy_cycles.Tie as tie
 
 abbrev Inv-loop : tie.InvT-loop
 Inv-loop cycles from k src step skip counts₀ steps₀ out₀ at₀ i₀ counts steps out at i =
@@ -18,23 +18,17 @@ Inv-loop cycles from k src step skip counts₀ steps₀ out₀ at₀ i₀ counts
 abbrev μ-loop : tie.MeasureT-loop
 μ-loop cycles from k src step skip counts₀ steps₀ out₀ at₀ i₀ counts steps out at i = k - i
 
+enough : (s : tie.Start Inv-loop μ-loop) → s .args .k ≤ length (drop (s .args .from) (s .args .cycles .now))
+enough s = omega (arith, length-drop (s .args .from) (s .args .cycles .now), s .pre .1 .0)
+
+stands : (s : tie.Start Inv-loop μ-loop) (i : ℕ) → getD (s .args .cycles .now) (s .args .from + i) 0 ≡ getD (drop (s .args .from) (s .args .cycles .now)) i 0
+stands s i = sym (getD-drop (s .args .from) (s .args .cycles .now) i 0)
+
 loop-holds : tie.Need-loop-holds Inv-loop μ-loop
 loop-holds c =
     let st = c .before .before .before .before .before in
     let a = st .args in
     (omega arith, copying-start (drop (a .from) (a .cycles .now)) (a .src .now) (a .step) (a .skip .now) (a .counts .now) (a .u) (a .steps .now) (st .pre .0))
-
-add-c : tie.Need-add-c Inv-loop μ-loop
-add-c c = search needs
-
-mul-c : tie.Need-mul-c Inv-loop μ-loop
-mul-c c = search needs
-
-shared-slice-read-c : tie.Need-shared-slice-read-c Inv-loop μ-loop
-shared-slice-read-c c = search needs
-
-shared-slice-read-copy-cycle : tie.Need-shared-slice-read-copy-cycle Inv-loop μ-loop
-shared-slice-read-copy-cycle c = search needs
 
 copy-cycle-requires : tie.Need-copy-cycle-requires Inv-loop μ-loop
 copy-cycle-requires c κs =
@@ -42,18 +36,13 @@ copy-cycle-requires c κs =
     let st = at .before .before .before .before .before .before in
     let a = st .args in
     let h : at .loop .i < a .k = omega arith in
-    let p = at .loop .inv .1 in
-    let l : a .k ≤ length (drop (a .from) (a .cycles .now)) = omega (arith, length-drop (a .from) (a .cycles .now), st .pre .1 .0) in
-    let e = sym (getD-drop (a .from) (a .cycles .now) (at .loop .i) 0) in (
+    let p = at .loop .inv .1 in (
       p .list .building,
       (
-        copying-place (drop (a .from) (a .cycles .now)) (a .src .now) (a .step) (a .skip .now) (a .counts .now) (a .u) (a .steps .now) (at .loop .i) (a .k) (at .loop .at) (at .loop .counts) (at .loop .out) (at .loop .steps) false p h (st .pre .1 .1 .1 .0) l (getD (a .cycles .now) (a .from + at .loop .i) 0) e (st .pre .1 .1 .0),
-        (copying-cycles (drop (a .from) (a .cycles .now)) (a .src .now) (a .step) (a .skip .now) (a .counts .now) (a .u) (a .steps .now) (at .loop .i) (a .k) (at .loop .at) (at .loop .counts) (at .loop .out) (at .loop .steps) false p h (st .pre .1 .1 .1 .0) l (getD (a .cycles .now) (a .from + at .loop .i) 0) e (st .pre .1 .1 .1 .1 .0), copying-steps (drop (a .from) (a .cycles .now)) (a .src .now) (a .step) (a .skip .now) (a .counts .now) (a .u) (a .steps .now) (at .loop .i) (a .k) (at .loop .at) (at .loop .counts) (at .loop .out) (at .loop .steps) false p h (st .pre .1 .1 .1 .0) l (getD (a .cycles .now) (a .from + at .loop .i) 0) e (st .pre .1 .1 .1 .1 .1)),
+        copying-place (drop (a .from) (a .cycles .now)) (a .src .now) (a .step) (a .skip .now) (a .counts .now) (a .u) (a .steps .now) (at .loop .i) (a .k) (at .loop .at) (at .loop .counts) (at .loop .out) (at .loop .steps) false p h (st .pre .1 .1 .1 .0) (enough st) (getD (a .cycles .now) (a .from + at .loop .i) 0) (stands st (at .loop .i)) (st .pre .1 .1 .0),
+        (copying-cycles (drop (a .from) (a .cycles .now)) (a .src .now) (a .step) (a .skip .now) (a .counts .now) (a .u) (a .steps .now) (at .loop .i) (a .k) (at .loop .at) (at .loop .counts) (at .loop .out) (at .loop .steps) false p h (st .pre .1 .1 .1 .0) (enough st) (getD (a .cycles .now) (a .from + at .loop .i) 0) (stands st (at .loop .i)) (st .pre .1 .1 .1 .1 .0), copying-steps (drop (a .from) (a .cycles .now)) (a .src .now) (a .step) (a .skip .now) (a .counts .now) (a .u) (a .steps .now) (at .loop .i) (a .k) (at .loop .at) (at .loop .counts) (at .loop .out) (at .loop .steps) false p h (st .pre .1 .1 .1 .0) (enough st) (getD (a .cycles .now) (a .from + at .loop .i) 0) (stands st (at .loop .i)) (st .pre .1 .1 .1 .1 .1)),
       ),
     )
-
-places-requires : tie.Need-places-requires Inv-loop μ-loop
-places-requires c κs = search needs
 
 add-at : tie.Need-add-at Inv-loop μ-loop
 add-at c =
@@ -62,16 +51,8 @@ add-at c =
     let a = st .args in
     let h : at .loop .i < a .k = omega (arith, c .before .before .before .before .before .before .before .before .before .before .loop-test) in
     let p = at .loop .inv .1 in
-    let l : a .k ≤ length (drop (a .from) (a .cycles .now)) = omega (arith, length-drop (a .from) (a .cycles .now), st .pre .1 .0) in
-    let e = sym (getD-drop (a .from) (a .cycles .now) (at .loop .i) 0) in
-    let g = copying-place (drop (a .from) (a .cycles .now)) (a .src .now) (a .step) (a .skip .now) (a .counts .now) (a .u) (a .steps .now) (at .loop .i) (a .k) (at .loop .at) (at .loop .counts) (at .loop .out) (at .loop .steps) false p h (st .pre .1 .1 .1 .0) l (getD (a .cycles .now) (a .from + at .loop .i) 0) e (st .pre .1 .1 .0) in
+    let g = copying-place (drop (a .from) (a .cycles .now)) (a .src .now) (a .step) (a .skip .now) (a .counts .now) (a .u) (a .steps .now) (at .loop .i) (a .k) (at .loop .at) (at .loop .counts) (at .loop .out) (at .loop .steps) false p h (st .pre .1 .1 .1 .0) (enough st) (getD (a .cycles .now) (a .from + at .loop .i) 0) (stands st (at .loop .i)) (st .pre .1 .1 .0) in
     record { fits = omega (arith, g, c .places .ensures ∙ places-one (getD (a .cycles .now) (a .from + at .loop .i) 0)) }
-
-add-i : tie.Need-add-i Inv-loop μ-loop
-add-i c = search needs
-
-loop-less : tie.Need-loop-less Inv-loop μ-loop
-loop-less c = search needs
 
 loop-again : tie.Need-loop-again Inv-loop μ-loop
 loop-again c =
@@ -80,11 +61,9 @@ loop-again c =
     let a = st .args in
     let h : at .loop .i < a .k = omega (arith, c .before .before .before .before .before .before .before .before .before .before .loop-test) in
     let p = at .loop .inv .1 in
-    let l : a .k ≤ length (drop (a .from) (a .cycles .now)) = omega (arith, length-drop (a .from) (a .cycles .now), st .pre .1 .0) in
-    let e = sym (getD-drop (a .from) (a .cycles .now) (at .loop .i) 0) in
     let r = c .before .before .before .before .before .copy-cycle in (
       omega arith,
-      copying-turn (drop (a .from) (a .cycles .now)) (a .src .now) (a .step) (a .skip .now) (a .counts .now) (a .u) (a .steps .now) (at .loop .i) (a .k) (at .loop .at) (at .loop .counts) (at .loop .out) (at .loop .steps) false p h (st .pre .1 .1 .1 .0) l (getD (a .cycles .now) (a .from + at .loop .i) 0) e (r .last .1 .1 .1 .1 .0) (r .result) (r .last .1 .1 .1 .1 .1 .0) (r .kept .1 .1 .1 .1 .0) (r .kept .1 .1 .1 .1 .1 .0) (c .places .result)
+      copying-turn (drop (a .from) (a .cycles .now)) (a .src .now) (a .step) (a .skip .now) (a .counts .now) (a .u) (a .steps .now) (at .loop .i) (a .k) (at .loop .at) (at .loop .counts) (at .loop .out) (at .loop .steps) false p h (st .pre .1 .1 .1 .0) (enough st) (getD (a .cycles .now) (a .from + at .loop .i) 0) (stands st (at .loop .i)) (r .last .1 .1 .1 .1 .0) (r .result) (r .last .1 .1 .1 .1 .1 .0) (r .kept .1 .1 .1 .1 .0) (r .kept .1 .1 .1 .1 .1 .0) (c .places .result)
           (c .places .ensures ∙ places-one (getD (a .cycles .now) (a .from + at .loop .i) 0)) (r .ensures .0) (r .ensures .1),
     )
 
@@ -111,15 +90,15 @@ copy-cycles-spec =
     Inv-loop
     μ-loop
     loop-holds
-    add-c
-    mul-c
-    shared-slice-read-c
-    shared-slice-read-copy-cycle
+    (λ c. search needs)
+    (λ c. search needs)
+    (λ c. search needs)
+    (λ c. search needs)
     copy-cycle-requires
-    places-requires
+    (λ c κs. search needs)
     add-at
-    add-i
-    loop-less
+    (λ c. search needs)
+    (λ c. search needs)
     loop-again
     same-length
     same-length-2

@@ -5,20 +5,14 @@ use native.Mathlib.Omega.{arith}
 use lib.ListN.{drop, length-drop}
 use Rattle.store.proofs.Lists.{places-one}
 use Rattle.rows_spans.proofs.Building.{skipped, kept-room, copied}
-use Rattle.kernel_cycles.proofs.copy_cycle.Statement.{statement}
-use Rattle.kernel_cycles.proofs.copy_cycle.Tie as tie
+use Rattle.kernel_lists.proofs.copy_cycle.Statement.{statement}
+use Rattle.kernel_lists.proofs.copy_cycle.Tie as tie
 
 returns : tie.Need-returns
 returns c =
     let st = c .before .before .before .before in
     let a = st .args in
     skipped (a .counts .now) (a .u) (a .steps .now) (st .pre .0) (a .c) (drop (a .from) (a .src .now)) (a .skip) (c .if1 .taken)
-
-places-requires : tie.Need-places-requires
-places-requires c κs = search needs
-
-mul-counts : tie.Need-mul-counts
-mul-counts c = search needs
 
 slice-write-counts : tie.Need-slice-write-counts
 slice-write-counts c =
@@ -35,15 +29,6 @@ copy-run-requires c κs =
     let r = kept-room (a .counts .now) (a .u) (a .steps .now) (st .pre .0) (a .c) (a .src .now) (a .skip) (c .before .before .if1 .left) (st .pre .1 .1 .0) (st .pre .1 .1 .1) in
     (omega (arith, w, st .pre .1 .0), omega (arith, w, r .1, st .pre .0 .stepsSize))
 
-add-t13 : tie.Need-add-t13
-add-t13 c = search needs
-
-same-length : tie.Need-same-length
-same-length c = search needs
-
-same-length-2 : tie.Need-same-length-2
-same-length-2 c = search needs
-
 returns-2 : tie.Need-returns-2
 returns-2 c =
     let st = c .before .before .before .before .before .before .before .before .before in
@@ -58,11 +43,11 @@ copy-cycle-spec =
     tie.close
     (tie.spec
     returns
-    places-requires
-    mul-counts
+    (λ c κs. search needs)
+    (λ c. search needs)
     slice-write-counts
     copy-run-requires
-    add-t13
-    same-length
-    same-length-2
+    (λ c. search needs)
+    (λ c. search needs)
+    (λ c. search needs)
     returns-2)
