@@ -72,23 +72,21 @@ may-glue-requires c κs = search needs
 
 returns-5 : tie.Need-returns-5
 returns-5 c =
-    let m = c .before in
-    let h = m .before in
-    let f = h .before in
-    let g = f .before in
+    let g = c .before .before .before .before in
     let e = g .before .before in
     let s = e .before .before .args in
-    last (s .ka) (s .kb) (s .same) (s .flag) (s .meet) (sym (e .before .is-edge .ensures) ∙ not-false _ (e .if1 .left)) (sym (g .before .is-edge2 .ensures) ∙ not-false _ (g .if2 .left)) (f .if3 .left) true (h .if4 .left) (sym (m .may-glue .ensures) ∙ c .if5 .taken)
+    last (s .ka) (s .kb) (s .same) (s .flag) (s .meet) (sym (e .before .is-edge .ensures) ∙ not-false _ (e .if1 .left))
+    (sym (g .before .is-edge2 .ensures) ∙ not-false _ (g .if2 .left)) (c .before .before .before .if3 .left) true (c .before .before .if4 .left)
+    (sym (c .before .may-glue .ensures) ∙ c .if5 .taken)
 
 returns-6 : tie.Need-returns-6
 returns-6 c =
-    let m = c .before in
-    let h = m .before in
-    let f = h .before in
-    let g = f .before in
+    let g = c .before .before .before .before in
     let e = g .before .before in
     let s = e .before .before .args in
-    last (s .ka) (s .kb) (s .same) (s .flag) (s .meet) (sym (e .before .is-edge .ensures) ∙ not-false _ (e .if1 .left)) (sym (g .before .is-edge2 .ensures) ∙ not-false _ (g .if2 .left)) (f .if3 .left) false (h .if4 .left) (sym (m .may-glue .ensures) ∙ c .if5 .left)
+    last (s .ka) (s .kb) (s .same) (s .flag) (s .meet) (sym (e .before .is-edge .ensures) ∙ not-false _ (e .if1 .left))
+    (sym (g .before .is-edge2 .ensures) ∙ not-false _ (g .if2 .left)) (c .before .before .before .if3 .left) false (c .before .before .if4 .left)
+    (sym (c .before .may-glue .ensures) ∙ c .if5 .left)
 
 pub edges-no-spec : {M : Type 1} → statement M
 edges-no-spec = tie.close (tie.spec is-edge-requires returns is-edge-requires-2 returns-2 returns-3 returns-4 may-glue-requires returns-5 returns-6)
