@@ -105,9 +105,6 @@ module _ (a : Arrays) (t : Totals) (r : Ready a t) (v x : ℕ) (back1 : Bool) (y
   pub counts : (a .next ≤ idsEnd) × (Small t × (2 ≤ 4294967296))
   counts = (next-in (heldBy a) (ready-drawing a t r), (ready-small a t r, lit≤ tt))
 
-  pub finds : (a .count ≤ 256) × ((length (a .ids) ≡ 256) × Rising (take (a .count) (a .ids)))
-  finds = find-asks (heldBy a) (ready-sizes a t r) (ready-drawing a t r) (rowsBy a) (ready-indexes a t r)
-
   tells : AtJoint (sheetOf (heldBy a)) v (leaving x back1) (leaving y back2)
   tells = joint-told (sheetOf (heldBy a)) (sound-in (heldBy a) (ready-drawing a t r)) v (leaving x back1) (leaving y back2) h
 
@@ -148,7 +145,7 @@ module _ (a : Arrays) (t : Totals) (r : Ready a t) (v x : ℕ) (back1 : Bool) (y
           × ((rowOf e (take (a .count) (a .ids)) < 256)
           × ((total (placesOf 0) (take (rowOf e (take (a .count) (a .ids))) (a .bends)) ≤ 2048) × (length (a .bends) ≡ 256)))))
       side-asks e l =
-          let f = finds in
+          let f = find-asks (heldBy a) (ready-sizes a t r) (ready-drawing a t r) (rowsBy a) (ready-indexes a t r) in
           let row = rowOf e (take (a .count) (a .ids)) in (
             f .0,
             (
