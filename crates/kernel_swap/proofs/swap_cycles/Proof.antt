@@ -47,9 +47,11 @@ room q =
     let l = q .before .loop in
     let h : l .i < a .n = omega arith in
     let w =
-    cycle-room (a .t) _ _ (a .g) (l .i) (a .n) (l .from) (l .at) (l .cycles) (l .steps) (l .inv .1) (l .inv .2) (p .0) h (p .1 .0) (p .1 .1 .1) (next q) refl in
-    (omega (arith, w, p .1 .0), omega (arith, w, p .1 .0, p .1 .1 .0),
-    cycle-end (a .t) _ _ (a .g) (l .i) (a .n) (l .from) (l .at) (l .cycles) (l .steps) (l .inv .1) (l .inv .2) (p .0) h (p .1 .0) (p .1 .1 .1) (next q) refl)
+    cycle-room (a .t) _ _ (a .g) (l .i) (a .n) (l .from) (l .at) (l .cycles) (l .steps) (l .inv .1) (l .inv .2) (p .0) h (p .1 .0) (p .1 .1 .1) (next q) refl in (
+      omega (arith, w, p .1 .0),
+      omega (arith, w, p .1 .0, p .1 .1 .0),
+      cycle-end (a .t) _ _ (a .g) (l .i) (a .n) (l .from) (l .at) (l .cycles) (l .steps) (l .inv .1) (l .inv .2) (p .0) h (p .1 .0) (p .1 .1 .1) (next q) refl,
+    )
 
 add-swap-cycle : tie.Need-add-swap-cycle Inv-loop μ-loop
 add-swap-cycle c = record { fits = omega (arith, room (c .before .before) .1) }
@@ -60,9 +62,13 @@ swap-cycle-requires c κs =
     let a = start q .args in
     let p = start q .pre .1 in
     let l = q .before .loop in
-    let h : l .i < a .n = omega arith in
-    (start q .pre .0, (omega (arith, room q .0, l .inv .1 .size),
-    cycle-ahead (a .t) _ _ (a .g) (l .i) (a .n) (l .from) (l .at) (l .cycles) (l .steps) (l .inv .1) (l .inv .2) (p .0) h (p .1 .0) (p .1 .1 .1) (next q) refl))
+    let h : l .i < a .n = omega arith in (
+      start q .pre .0,
+      (
+        omega (arith, room q .0, l .inv .1 .size),
+        cycle-ahead (a .t) _ _ (a .g) (l .i) (a .n) (l .from) (l .at) (l .cycles) (l .steps) (l .inv .1) (l .inv .2) (p .0) h (p .1 .0) (p .1 .1 .1) (next q) refl,
+      ),
+    )
 
 abbrev begun : tie.After-swap-cycle Inv-loop μ-loop → tie.In-loop Inv-loop μ-loop
 begun c = c .before .before .before

@@ -72,14 +72,14 @@ loop-less c = search needs
 loop-again : tie.Need-loop-again Inv-loop μ-loop
 loop-again c =
     let at = c .before .before .before .before .before .before in
+    let h : at .loop .i < at .before .before .args .n = omega arith in
+    let t = at .before .before .args .t in
     let q = at .before .before .pre .1 in
-    let a = at .before .before .args in
-    let h : at .loop .i < a .n = omega arith in
-    let p = c .before .before .put-step in
-    let v = at .loop .inv in (
+    let v = at .loop .inv in
+    let p = c .before .before .put-step in (
       omega arith,
-      ap (λ (k : ℕ). at .loop .w + k) (p .ensures .0) ∙ place-length (a .t) _ _ _ _ _ (at .loop .w) _ (q .0) h (q .1) (v .1) (v .2),
-      place-turn (a .t) _ _ _ _ _ (at .loop .w) _ (q .0) h (q .1) (v .1) (v .2) (p .last .0) (p .ensures .1),
+      ap (λ (k : ℕ). at .loop .w + k) (p .ensures .0) ∙ place-length t _ _ _ _ _ (at .loop .w) _ (q .0) h (q .1) (v .1) (v .2),
+      place-turn t _ _ _ _ _ (at .loop .w) _ (q .0) h (q .1) (v .1) (v .2) (p .last .0) (p .ensures .1),
     )
 
 same-length : tie.Need-same-length Inv-loop μ-loop
