@@ -1,6 +1,6 @@
 -- One cell goes and the others change: the answer of the drawing that is made. Assumes nothing.
 use Prim.Native.Nat.{ℕ, _≤_}
-use mathlib.Core.Path.{_≡_, refl, _∙_}
+use mathlib.Core.Path.{_≡_, _∙_}
 use mathlib.Core.Bool.{Bool, true, false}
 use mathlib.Core.List.{List}
 use lib.Dec.{T}
@@ -18,9 +18,7 @@ use Rattle.store.specs.Edits.{kept, withEntries}
 use Rattle.sound.specs.Soundness.{soundDrawing}
 use Rattle.sound.proofs.Meaning.{sound-fits, looks}
 use Rattle.rows_new.specs.Appends.{remade}
-use Rattle.answer.specs.declared.Answer.{Answer}
-use Rattle.answer.specs.Answers.{outcome, Counts, Answers}
-use Rattle.answer.proofs.Asked.{Asked, counts-done, answers}
+use Rattle.answer.proofs.Asked.{Asked}
 use Rattle.rows_gone.proofs.Dropped.{dropped}
 use Rattle.ask_glue.specs.Questions.{NumberRows}
 
@@ -41,12 +39,6 @@ pub record Glues (d : Drawing) (c : Command) (b : ℕ) (f : ℕ → Figure → F
 module _ (d : Drawing) (z : Sizes d) (w : T (soundDrawing d)) (c : Command) (b : ℕ) (f : ℕ → Figure → Figure) (g : Glues d c b f) (ix : Index) (x : Indexes d ix) (row : ℕ) (er : row ≡ rowOf b (take (d .count) (ix .ids)))
     (mid : Drawing) (zm : Sizes mid) (gm : Fits mid) (em : sheetOf mid ≡ withEntries (sheetOf d) (reshape f (sheetOf d .cells)))
     (dead : List Bool) (ed : dead ≡ set (replicate 256 false) row true)
-    (out : Drawing) (zo : Sizes out) (go : Fits out) (eo : sheetOf out ≡ withEntries (sheetOf mid) (kept (take (mid .count) dead) (sheetOf mid .cells))) where
-  made : sheetOf out ≡ result (sheetOf d) c
-  made = dropped d z w ix x b row er (g .live) f mid zm gm em dead ed out eo ∙ g .is
-
-  pub glued-counts : Counts (d .next) (d .count) out
-  glued-counts = counts-done d z w c 0 (g .asked) refl out zo go made
-
-  pub glued-answers : (r : Answer) → r ≡ outcome (d .next) (d .count) out → Answers d c r
-  glued-answers = answers d z w c 0 (g .asked) refl out zo go made
+    (out : Drawing) (eo : sheetOf out ≡ withEntries (sheetOf mid) (kept (take (mid .count) dead) (sheetOf mid .cells))) where
+  pub glued-made : sheetOf out ≡ result (sheetOf d) c
+  glued-made = dropped d z w ix x b row er (g .live) f mid zm gm em dead ed out eo ∙ g .is

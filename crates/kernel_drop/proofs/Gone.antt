@@ -28,6 +28,15 @@ use Rattle.kernel_keep.proofs.Rows.{keeps, count-by}
 use Rattle.kernel_drop.proofs.Dead.{oneDead, dead-front, rows-one, total-row, places-zero}
 use Rattle.kernel_drop.proofs.Dead.{cycles-stay, pair-front, total-bare, places-bare, cycles-bare, twice-kept, joined-kept}
 
+-- what packing the rows asks for
+pub pack-asks : {a : Arrays} → Lengths a → a .count ≤ 256 → (dead : List Bool) → length dead ≡ 256
+    → (a .count ≤ 256) × ((a .count ≤ length dead) × ((length (a .ids) ≡ 256) × (length (a .kinds) ≡ 256) × (length (a .starts) ≡ 256)
+    × (length (a .ends) ≡ 256) × (length (a .bends) ≡ 256) × (length (a .counts) ≡ 256) × (length (a .px) ≡ 256) × (length (a .py) ≡ 256)))
+pack-asks l h dead e = (h, (omega arith, (l .ids, l .kinds, l .starts, l .ends, l .bends, l .counts, l .px, l .py)))
+
+pub one-long : {dead : List Bool} (row : ℕ) → dead ≡ set (replicate 256 false) row true → length dead ≡ 256
+one-long row e = ap length e ∙ length-set (replicate 256 false) row true ∙ length-replicate 256 false
+
 module _ (a : Arrays) (l : Lengths a) (f : Fits (heldBy a)) (n : normal a ≡ true) (row base m t : ℕ) (r : EdgeRow a row base m t) where
   sums : Summed (a .bends) (a .counts) (a .count) (a .cycles)
   sums = summed (heldBy a) (held-sizes a l) f (rowsBy a) (held-indexes a l n)
@@ -203,3 +212,7 @@ module _ (a : Arrays) (l : Lengths a) (f : Fits (heldBy a)) (n : normal a ≡ tr
       let hb : base ≤ t = omega (arith, g .0) in
       row-gone a l f n row base 0 t r 0 0 (omega arith) (omega arith) b lb dead ed en k (bx ∙ sym (moved-none base t (a .bx) hb))
       (by ∙ sym (moved-none base t (a .by) hb)) ec es .keeps
+
+-- the bends of a row are among those in use
+pub range : {a : Arrays} {row base m t : ℕ} → Lengths a → Fits (heldBy a) → normal a ≡ true → EdgeRow a row base m t → (base + m ≤ t) × (t ≤ 2048)
+range {a} {row} {base} {m} {t} l f n r = row-range a l f n row base m t r

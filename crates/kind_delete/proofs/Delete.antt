@@ -1,30 +1,22 @@
 -- 06: the arrays without a cell and its star. Assumes nothing.
-use Prim.Native.Nat.{ℕ, _+_, _-_, _<_, _≤_}
-use native.Mathlib.Omega.{arith}
-use mathlib.Core.Path.{_≡_, refl, sym, ap, _∙_}
-use mathlib.Core.Bool.{Bool, true, cond}
+use Prim.Native.Nat.{ℕ, _-_, _<_}
+use mathlib.Core.Path.{_≡_, sym, _∙_}
+use mathlib.Core.Bool.{Bool, true}
 use mathlib.Core.List.{List}
-use lib.Dec.{T, eqb}
+use lib.Dec.{T}
 use lib.ListN.{take, set}
 use borrow.Author.Tests.{lt-ltb}
 use Rattle.complex.specs.Decode.{delete}
-use Rattle.store.specs.declared.Drawing.{Drawing}
 use Rattle.store.specs.Index.{rowOf}
 use Rattle.rows_star.specs.Marks.{starMarks}
-use Rattle.answer.specs.Answers.{outcome}
 use Rattle.law_move_delete.proofs.Edit.{delete-passed, delete-live, delete-new, delete-change, delete-result, edit-answers}
 use Rattle.lent.specs.Arrays.{Arrays, heldBy, rowsBy, soundArrays, Lengths}
 use Rattle.lent.proofs.Held.{held-sizes, held-indexes}
 use Rattle.lent.specs.declared.Line.{Line}
-use Rattle.lent.specs.Replies.{answerBy, Obeyed}
+use Rattle.lent.specs.Replies.{Obeyed}
 use Rattle.lent.proofs.Replies.{rows-of, drawing-of}
 use Rattle.kernel_keep.specs.Keeps.{Keeps}
-
-less-outcome : (next n : ℕ) (out : Drawing) → out .next ≡ next → record { number = 0; first = 0; new = 0; removed = n - out .count; drawing = out } ≡ outcome next n out
-less-outcome next n out e =
-    let g : 0 ≡ out .next - next = omega (arith, e) in
-    let h : n - out .count ≡ n + (out .next - next) - out .count = omega (arith, e) in
-    λ i. record { number = 0; first = cond (eqb (g i) 0) 0 next; new = g i; removed = h i; drawing = out }
+use Rattle.kernel_keep.proofs.Less.{obeyed-less}
 
 module _ (a : Arrays) (l : Lengths a) (w : T (soundArrays a)) (i row : ℕ) (er : row ≡ rowOf i (take (a .count) (a .ids))) (h : row < a .count) (dead : List Bool)
     (md : take (a .count) dead ≡ starMarks (take (a .count) (a .ids)) (take (a .count) (a .kinds)) (take (a .count) (a .starts)) (take (a .count) (a .ends)) (take (a .count) (a .counts)) (a .cycles) (a .steps) i) where
@@ -34,12 +26,7 @@ module _ (a : Arrays) (l : Lengths a) (w : T (soundArrays a)) (i row : ℕ) (er 
       let z = held-sizes a l in
       let x = held-indexes a l (rows-of a w) in
       let s = drawing-of a w in
-      record {
-        answers =
-            edit-answers d z s (delete i) (delete-new d i) (delete-change d i)
-            (delete-passed d i (sym (delete-live d z s (rowsBy a) x i row er) ∙ lt-ltb row (a .count) h))
-            (heldBy b) (p .sizes) (p .fits) (p .sheet ∙ delete-result d z s (rowsBy a) x i row er h dead md)
-            (answerBy k (heldBy b)) (ap (λ (u : Line). answerBy u (heldBy b)) ek ∙ less-outcome (a .next) (a .count) (heldBy b) e);
-        back = λ n. absurd (n (ap (λ (u : Line). u .number) ek));
-        rows = p .rows;
-      }
+      obeyed-less a (delete i) b e (p .rows)
+      (edit-answers d z s (delete i) (delete-new d i) (delete-change d i)
+      (delete-passed d i (sym (delete-live d z s (rowsBy a) x i row er) ∙ lt-ltb row (a .count) h))
+      (heldBy b) (p .sizes) (p .fits) (p .sheet ∙ delete-result d z s (rowsBy a) x i row er h dead md)) k ek

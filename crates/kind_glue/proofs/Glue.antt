@@ -16,7 +16,6 @@ use Rattle.complex.specs.Sound.{over, stepsIn}
 use Rattle.complex.specs.Edits.{reshape, rewired, sameVertex, inPlaceOf}
 use Rattle.complex.specs.Decode.{Command}
 use Rattle.number.specs.Readers.{spread}
-use Rattle.store.specs.declared.Drawing.{Drawing}
 use Rattle.store.specs.Index.{Rising, rowOf}
 use Rattle.store.specs.Sheet.{allReal}
 use Rattle.store.specs.Places.{entryCycles}
@@ -24,7 +23,7 @@ use Rattle.store.specs.View.{sheetOf, Fits, cycleTotal, stepTotal}
 use Rattle.store.specs.Edits.{placesOf, withEntries}
 use Rattle.store.proofs.Lists.{sum-le}
 use Rattle.sound.specs.Looks.{indexValue, kindNumber}
-use Rattle.answer.specs.Answers.{outcome}
+use Rattle.answer.proofs.Asked.{answers}
 use Rattle.answer.specs.declared.Totals.{Totals}
 use Rattle.rows_gone.proofs.Dropped.{live-below}
 use Rattle.rows_steps.specs.declared.Swap.{Swap}
@@ -32,13 +31,14 @@ use Rattle.rows_steps.specs.Swap.{swapHalf, oneFor}
 use Rattle.rows_steps.proofs.Merging.{real-with, room-with}
 use Rattle.rows_steps.proofs.Swaps.{one-for, one-some, one-few}
 use Rattle.ask_glue.specs.Questions.{verticesNo, edgesNo}
-use Rattle.ask_glue.proofs.Glued.{Glues, glued-answers}
+use Rattle.ask_glue.proofs.Glued.{Glues, glued-made}
 use Rattle.lent.specs.Arrays.{Arrays, heldBy, rowsBy, normal, Lengths}
 use Rattle.lent.proofs.Held.{held-sizes}
 use Rattle.lent.proofs.Sums.{ready-rows, ready-drawing, ready-sizes, ready-fits, ready-indexes, ready-looks, ready-cycles, ready-steps, ready-summed}
 use Rattle.lent.specs.declared.Line.{Line}
-use Rattle.lent.specs.Replies.{answerBy, Ready, Obeyed}
+use Rattle.lent.specs.Replies.{Ready, Obeyed}
 use Rattle.kernel_keep.specs.Keeps.{Keeps}
+use Rattle.kernel_keep.proofs.Less.{obeyed-less}
 use Rattle.kernel_drop.specs.Gone.{EdgeRow}
 use Rattle.kernel_swap.specs.Swaps.{SwappedIn}
 
@@ -76,23 +76,16 @@ edge-bare (some (closedEdge bs)) e = refl
 edge-bare (some (face ks)) (inl e) = absurd (omega (arith, e))
 edge-bare (some (face ks)) (inr e) = absurd (omega (arith, e))
 
-less-outcome : (next n : ℕ) (out : Drawing) → out .next ≡ next → record { number = 0; first = 0; new = 0; removed = n - out .count; drawing = out } ≡ outcome next n out
-less-outcome next n out e =
-    let g : 0 ≡ out .next - next = omega (arith, e) in
-    let h : n - out .count ≡ n + (out .next - next) - out .count = omega (arith, e) in
-    λ i. record { number = 0; first = cond (eqb (g i) 0) 0 next; new = g i; removed = h i; drawing = out }
-
 module _ (a : Arrays) (t : Totals) (y : Ready a t) where
+  -- the bends before a row
+  pub bends-before : (i : ℕ) → i ≤ a .count → (i ≤ length (a .bends)) × (total (placesOf 0) (take i (a .bends)) ≤ 2048)
+  bends-before i h =
+      (omega (arith, ready-fits a t y .cells, y .long .bends), omega (arith, sum-le (placesOf 0) (a .bends) i (a .count) h, ready-summed a t y .bendSum))
+
   -- ---- the row of b
   module _ (b row : ℕ) (er : row ≡ rowOf b (take (a .count) (a .ids))) (live : isLive (cellAt (sheetOf (heldBy a)) b) ≡ true) where
     pub row-below : row < a .count
     row-below = live-below (heldBy a) (ready-sizes a t y) (ready-drawing a t y) (rowsBy a) (ready-indexes a t y) b row er live
-
-    -- the bends before it
-    pub base-room : (row ≤ length (a .bends)) × (total (placesOf 0) (take row (a .bends)) ≤ 2048)
-    base-room =
-        let h = row-below in
-        (omega (arith, h, ready-fits a t y .cells, y .long .bends), omega (arith, sum-le (placesOf 0) (a .bends) row (a .count) (omega (arith, h)), ready-summed a t y .bendSum))
 
     -- the number that an array has there
     read-row : (vs : List ℕ) → getD vs row 0 ≡ indexValue 0 (heldBy a) (rowsBy a) vs b
@@ -135,11 +128,7 @@ module _ (a : Arrays) (t : Totals) (y : Ready a t) where
       (mid : Arrays) (lm : Lengths mid) (fm : Fits (heldBy mid)) (em : sheetOf (heldBy mid) ≡ withEntries (sheetOf (heldBy a)) (reshape f (sheetOf (heldBy a) .cells))) where
     pub obeyed-glued : (out : Arrays) → Keeps (set (replicate 256 false) row true) mid out → out .next ≡ a .next → (k : Line) → k ≡ record { number = 0; first = 0; new = 0; removed = a .count - out .count } → Obeyed a c out k
     obeyed-glued out p en k ek =
-        record {
-          answers =
-              glued-answers (heldBy a) (ready-sizes a t y) (ready-drawing a t y) c b f g (rowsBy a) (ready-indexes a t y) row er (heldBy mid) (held-sizes mid lm) fm em (set (replicate 256 false) row true) refl
-              (heldBy out) (p .sizes) (p .fits) (p .sheet) (answerBy k (heldBy out))
-              (ap (λ (u : Line). answerBy u (heldBy out)) ek ∙ less-outcome (a .next) (a .count) (heldBy out) en);
-          back = λ n. absurd (n (ap (λ (u : Line). u .number) ek));
-          rows = p .rows;
-        }
+        obeyed-less a c out en (p .rows)
+        (answers (heldBy a) (ready-sizes a t y) (ready-drawing a t y) c 0 (g .asked) refl (heldBy out) (p .sizes) (p .fits)
+        (glued-made (heldBy a) (ready-sizes a t y) (ready-drawing a t y) c b f g (rowsBy a) (ready-indexes a t y) row er (heldBy mid) (held-sizes mid lm) fm em
+        (set (replicate 256 false) row true) refl (heldBy out) (p .sheet))) k ek

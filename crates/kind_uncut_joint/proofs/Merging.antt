@@ -14,6 +14,7 @@ use Rattle.complex.specs.Cells.{Halfedge, Cycle, lone, path, Figure, vertex, op
 use Rattle.complex.specs.Edits.{reshape, rewired, rewiredCycle, sameVertex, inPlaceOf}
 use Rattle.complex.specs.Uncut.{inOne}
 use Rattle.complex.specs.Sound.{over, stepsIn as stepsHeld}
+use Rattle.complex.proofs.Keep.{spread-one}
 use Rattle.store.specs.Sheet.{allReal}
 use Rattle.store.specs.Places.{entryCycles, cycleWords, word}
 use Rattle.store.specs.View.{sheetOf, Fits, cycleTotal, stepTotal}
@@ -30,10 +31,6 @@ use Rattle.kernel_swap.specs.Swaps.{SwappedIn}
 use Rattle.kind_uncut_joint.specs.Joining.{Merges, MergedIn}
 
 -- ---- the halfedges of y go, the others stay
-spread-one : (hs : List Halfedge) → spread one hs ≡ hs
-spread-one [] = refl
-spread-one (h ∷ hs) = ap (λ (l : List Halfedge). h ∷ l) (spread-one hs)
-
 own-place : (h : Halfedge) (n : ℕ) → inPlaceOf n n false h ≡ one h
 own-place h n = go (eqb n (h .edge)) refl
   where

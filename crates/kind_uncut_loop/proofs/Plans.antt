@@ -1,5 +1,5 @@
 -- What is found before a loop's vertex goes. Assumes nothing.
-use Prim.Native.Nat.{ℕ, _+_, _≤_}
+use Prim.Native.Nat.{ℕ, _+_, _<_, _≤_}
 use native.Mathlib.Omega.{arith}
 use mathlib.Core.Path.{_≡_, refl, sym, ap, _∙_, subst}
 use mathlib.Core.Bool.{Bool, true, false, _&&_, cond}
@@ -8,7 +8,7 @@ use lib.Dec.{T, leb, leb→le}
 use lib.ListN.{length, getD, take}
 use Rattle.coordinate.specs.declared.Position.{Position}
 use Rattle.complex.specs.Lists.{total}
-use Rattle.complex.specs.Cells.{Figure, vertex, openEdge, closedEdge, face, cellAt, isOpen, isVertex, bendsOf, cyclesOf}
+use Rattle.complex.specs.Cells.{Figure, vertex, openEdge, closedEdge, face, cellAt, isLive, isOpen, isVertex, bendsOf, cyclesOf}
 use Rattle.complex.specs.Sound.{idsEnd, cellsMost, cyclesMost, stepsMost, bendsMost}
 use Rattle.complex.specs.Decode.{uncut}
 use Rattle.complex.specs.Uncut.{loop, uncutCase}
@@ -24,7 +24,7 @@ use Rattle.answer.specs.Sizes.{SheetSizes, sized, moreLess, changedBy, sizesFit
 use Rattle.answer.specs.Late.{sizesBy, lateNo}
 use Rattle.answer.proofs.Asked.{Asked, answer}
 use Rattle.rows_gone.proofs.Dropped.{live-below}
-use Rattle.ask_cut_edge.proofs.Found.{read-row}
+use Rattle.ask_cut_edge.proofs.Found.{row-below, read-row}
 use Rattle.ask_uncut_vertex.proofs.Told.{AtLoop}
 use Rattle.ask_uncut_vertex.proofs.Answering.{loop-asked, loop-live, looped-needs}
 use Rattle.lent.specs.Arrays.{Arrays, positionIn, heldBy, rowsBy}
@@ -34,6 +34,11 @@ use Rattle.kernel_drop.specs.Gone.{EdgeRow, BareRow}
 use Rattle.kind_cut_plan.proofs.OpenPlans.{end-place}
 use Rattle.kind_uncut_loop.specs.declared.Plan.{Plan}
 use Rattle.kind_uncut_loop.specs.Uncutting.{LoopPlanned}
+
+-- the row of a cell that is there
+pub live-row : (a : Arrays) (t : Totals) → Ready a t → (i row : ℕ) → row ≡ rowOf i (take (a .count) (a .ids))
+    → isLive (cellAt (sheetOf (heldBy a)) i) ≡ true → row < 256
+live-row a t r i row e h = row-below (heldBy a) (ready-sizes a t r) (ready-drawing a t r) (rowsBy a) (ready-indexes a t r) i row e h
 
 -- questions 7 and 8 got a yes: the bends keep their ceiling
 late-bends : (next new : ℕ) (z : SheetSizes) → lateNo next new z ≡ 0 → z .bends ≤ 2048

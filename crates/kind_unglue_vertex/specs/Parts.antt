@@ -1,12 +1,16 @@
 -- A vertex parted in lent arrays. Definitions only.
-use Prim.Native.Nat.{ℕ}
+use Prim.Native.Nat.{ℕ, _≤_}
 use mathlib.Core.Path.{_≡_}
-use mathlib.Core.Bool.{true}
+use mathlib.Core.Bool.{Bool, true}
+use mathlib.Core.List.{List}
+use lib.ListN.{length, getD}
 use Rattle.complex.specs.Cells.{cellAt}
 use Rattle.complex.specs.Edits.{reshape}
 use Rattle.complex.specs.Unglue.{ungluing}
 use Rattle.store.specs.View.{sheetOf, Fits}
 use Rattle.store.specs.Edits.{withEntries}
+use Rattle.store.specs.declared.Index.{Index}
+use Rattle.rows_ends.specs.Ends.{EndMarks}
 use Rattle.lent.specs.Arrays.{Arrays, heldBy, normal, Lengths}
 
 -- b holds a's drawing with the ends at v and the lone cycles of v as its copies, which are not there yet
@@ -16,3 +20,12 @@ pub record Parted (a : Arrays) (v : ℕ) (b : Arrays) : Type 0 where
   pub fits : Fits (heldBy b)
   pub long : Lengths b
   pub rows : normal b ≡ true
+
+-- the ends at v in n rows are marked, none has a number yet, and there is room for s links
+pub record Linkable (ix : Index) (v n : ℕ) (at : List Bool) (G : List ℕ) (s : ℕ) (xs ys : List ℕ) : Type 0 where
+  pub size : length at ≡ 512
+  pub marks : EndMarks (ix .kinds) (ix .starts) (ix .ends) v n at
+  pub numbers : length G ≡ 512
+  pub unnumbered : (p : ℕ) → getD G p 0 ≡ 0
+  pub lefts : s ≤ length xs
+  pub rights : s ≤ length ys

@@ -8,10 +8,43 @@ ghost use Rattle.store.specs.View.{sheetOf};
 ghost use Rattle.ask_unglue.specs.Places.{GroupedEnds, Fresh};
 ghost use Rattle.lent.specs.Arrays.{heldBy, rowsBy, lent, entry, exit};
 ghost use Rattle.lent.specs.Replies.{Ready, Obeyed};
-ghost use Rattle.kind_unglue_vertex.specs.Parts.{Parted};
+ghost use Rattle.kind_unglue_vertex.specs.Parts.{Parted, Linkable};
 use answer::Totals;
 use lent::Line;
 use rows_uses::Use;
+
+// The groups of the marked ends at vertex v, and how many there are; xs and ys have room for the links.
+fn link_ends(
+    next: u32,
+    count: usize,
+    ids: &[u32; 256],
+    kinds: &[u32; 256],
+    starts: &[u32; 256],
+    ends: &[u32; 256],
+    bends: &[u32; 256],
+    counts: &[u32; 256],
+    px: &[f64; 256],
+    py: &[f64; 256],
+    cycles: &[u32; 512],
+    steps: &[u32; 2048],
+    bx: &[f64; 2048],
+    by: &[f64; 2048],
+    t: Totals,
+    v: u32,
+    at: &[bool],
+    groups: &mut [u32],
+    xs: &mut [u32],
+    ys: &mut [u32],
+) -> u32
+    requires { ⌜ Ready (lent next count ids kinds starts ends bends counts px py cycles steps bx by) t ⌝ }
+    requires { ⌜ T (isVertex (cellAt (sheetOf (heldBy (lent next count ids kinds starts ends bends counts px py cycles steps bx by))) v)) ⌝ }
+    requires { ⌜ Linkable (rowsBy (lent next count ids kinds starts ends bends counts px py cycles steps bx by)) v count (now at) (now groups) (t .steps) (now xs) (now ys) ⌝ }
+    ensures { λ r. ⌜ GroupedEnds (heldBy (entry next count ids kinds starts ends bends counts px py cycles steps bx by)) (rowsBy (entry next count ids kinds starts ends bends counts px py cycles steps bx by)) v r (now (at .entry)) (now (groups .exit)) ⌝ }
+    ensures { λ r. ⌜ r ≤ 512 ⌝ }
+{
+    let k = rows_links::find_links(ids, count, at, cycles, t.cycles, steps, xs, ys);
+    rows_groups::find_groups(groups, at, xs, ys, k, count * 2)
+}
 
 // The groups of the ends at vertex v, and how many there are. Room for the links is made as long as the steps ask for.
 fn group_ends(
@@ -44,13 +77,53 @@ fn group_ends(
     if t.steps <= 256 {
         let mut xs = [0u32; 256];
         let mut ys = [0u32; 256];
-        let k = rows_links::find_links(ids, count, at, cycles, t.cycles, steps, &mut xs, &mut ys);
-        return rows_groups::find_groups(groups, at, &xs, &ys, k, count * 2);
+        return link_ends(
+            next,
+            count,
+            ids,
+            kinds,
+            starts,
+            ends,
+            bends,
+            counts,
+            px,
+            py,
+            cycles,
+            steps,
+            bx,
+            by,
+            t,
+            v,
+            at,
+            groups,
+            &mut xs,
+            &mut ys,
+        );
     }
     let mut xs = [0u32; 2048];
     let mut ys = [0u32; 2048];
-    let k = rows_links::find_links(ids, count, at, cycles, t.cycles, steps, &mut xs, &mut ys);
-    rows_groups::find_groups(groups, at, &xs, &ys, k, count * 2)
+    link_ends(
+        next,
+        count,
+        ids,
+        kinds,
+        starts,
+        ends,
+        bends,
+        counts,
+        px,
+        py,
+        cycles,
+        steps,
+        bx,
+        by,
+        t,
+        v,
+        at,
+        groups,
+        &mut xs,
+        &mut ys,
+    )
 }
 
 // The ends at v and the lone cycles of v become its copies.

@@ -40,8 +40,8 @@ use Rattle.rows_steps.proofs.Placed.{row-replaced}
 use Rattle.rows_star.specs.Marks.{starMarks}
 use Rattle.rows_star.proofs.Meaning.{marks-meant}
 use Rattle.answer.specs.declared.Answer.{Answer}
-use Rattle.answer.specs.Answers.{outcome, Counts, Answers}
-use Rattle.answer.proofs.Asked.{sound-in, asked-still, counts-done, answers}
+use Rattle.answer.specs.Answers.{outcome, Answers}
+use Rattle.answer.proofs.Asked.{sound-in, asked-still, answers}
 use Rattle.rows_spans.proofs.Replaced.{row-has}
 
 unchanged : (z : Places) → changedBy z noChange ≡ z
@@ -59,9 +59,6 @@ module _ (d : Drawing) (z : Sizes d) (w : T (soundDrawing d)) (c : Command) (n :
   places-suffice = ap (λ (m : Change). sizesFit (changedBy (sizesOf (sheetOf d .cells)) m)) k ∙ ap sizesFit (unchanged (sizesOf (sheetOf d .cells))) ∙ true-of (ceilings (sheetOf d .cells)) (sound-in d w .fits)
 
   module _ (out : Drawing) (zo : Sizes out) (go : Fits out) (m : sheetOf out ≡ result (sheetOf d) c) where
-    pub edit-counts : Counts (d .next) (d .count) out
-    edit-counts = counts-done d z w c 0 (asked-still d w c p n places-suffice) refl out zo go m
-
     pub edit-answers : (r : Answer) → r ≡ outcome (d .next) (d .count) out → Answers d c r
     edit-answers = answers d z w c 0 (asked-still d w c p n places-suffice) refl out zo go m
 

@@ -52,43 +52,40 @@ returns-2 c =
     let s = e .before .before .args in
     second (s .ka) (s .kb) (s .same) (s .flag) (s .meet) (sym (e .before .is-edge .ensures) ∙ not-false _ (e .if1 .left)) (sym (c .before .is-edge2 .ensures) ∙ not-true _ (c .if2 .taken))
 
+-- both are edges
+edges : (g : tie.Else2) → let s = g .before .before .before .before .args in (edgeBy (s .ka) ≡ true) × (edgeBy (s .kb) ≡ true)
+edges g =
+    let e = g .before .before in
+    (sym (e .before .is-edge .ensures) ∙ not-false _ (e .if1 .left), sym (g .before .is-edge2 .ensures) ∙ not-false _ (g .if2 .left))
+
 returns-3 : tie.Need-returns-3
 returns-3 c =
-    let g = c .before in
-    let e = g .before .before in
-    let s = e .before .before .args in
-    third (s .ka) (s .kb) (s .same) (s .flag) (s .meet) (sym (e .before .is-edge .ensures) ∙ not-false _ (e .if1 .left)) (sym (g .before .is-edge2 .ensures) ∙ not-false _ (g .if2 .left)) (c .if3 .taken)
+    let s = c .before .before .before .before .before .args in
+    let q = edges (c .before) in
+    third (s .ka) (s .kb) (s .same) (s .flag) (s .meet) (q .0) (q .1) (c .if3 .taken)
 
 returns-4 : tie.Need-returns-4
 returns-4 c =
-    let f = c .before in
-    let g = f .before in
-    let e = g .before .before in
-    let s = e .before .before .args in
-    fourth (s .ka) (s .kb) (s .same) (s .flag) (s .meet) (sym (e .before .is-edge .ensures) ∙ not-false _ (e .if1 .left)) (sym (g .before .is-edge2 .ensures) ∙ not-false _ (g .if2 .left)) (f .if3 .left) (c .if4 .taken)
+    let s = c .before .before .before .before .before .before .args in
+    let q = edges (c .before .before) in
+    fourth (s .ka) (s .kb) (s .same) (s .flag) (s .meet) (q .0) (q .1) (c .before .if3 .left) (c .if4 .taken)
 
 may-glue-requires : tie.Need-may-glue-requires
 may-glue-requires c κs = search needs
 
+-- what gluing them says
+asked : (m : tie.After-may-glue) (b : Bool) → m .may-glue .result ≡ b → let s = m .before .before .before .before .before .before .before .args in
+    cond b 0 6 ≡ edgesNo (s .ka) (s .kb) (s .same) (s .flag) (s .meet)
+asked m b e =
+    let s = m .before .before .before .before .before .before .before .args in
+    let q = edges (m .before .before .before) in
+    last (s .ka) (s .kb) (s .same) (s .flag) (s .meet) (q .0) (q .1) (m .before .before .if3 .left) b (m .before .if4 .left) (sym (m .may-glue .ensures) ∙ e)
+
 returns-5 : tie.Need-returns-5
-returns-5 c =
-    let m = c .before in
-    let h = m .before in
-    let f = h .before in
-    let g = f .before in
-    let e = g .before .before in
-    let s = e .before .before .args in
-    last (s .ka) (s .kb) (s .same) (s .flag) (s .meet) (sym (e .before .is-edge .ensures) ∙ not-false _ (e .if1 .left)) (sym (g .before .is-edge2 .ensures) ∙ not-false _ (g .if2 .left)) (f .if3 .left) true (h .if4 .left) (sym (m .may-glue .ensures) ∙ c .if5 .taken)
+returns-5 c = asked (c .before) true (c .if5 .taken)
 
 returns-6 : tie.Need-returns-6
-returns-6 c =
-    let m = c .before in
-    let h = m .before in
-    let f = h .before in
-    let g = f .before in
-    let e = g .before .before in
-    let s = e .before .before .args in
-    last (s .ka) (s .kb) (s .same) (s .flag) (s .meet) (sym (e .before .is-edge .ensures) ∙ not-false _ (e .if1 .left)) (sym (g .before .is-edge2 .ensures) ∙ not-false _ (g .if2 .left)) (f .if3 .left) false (h .if4 .left) (sym (m .may-glue .ensures) ∙ c .if5 .left)
+returns-6 c = asked (c .before) false (c .if5 .left)
 
 pub edges-no-spec : {M : Type 1} → statement M
 edges-no-spec = tie.close (tie.spec is-edge-requires returns is-edge-requires-2 returns-2 returns-3 returns-4 may-glue-requires returns-5 returns-6)

@@ -1,11 +1,8 @@
 -- `drop_bare` meets its contract. Assumes nothing.
 use native.Mathlib.Omega.{arith}
-use Prim.Native.Nat.{ℕ, _≤_}
-use mathlib.Core.Path.{_≡_, refl, ap, _∙_}
-use mathlib.Core.Bool.{true, false}
-use lib.ListN.{length, replicate, length-set, length-replicate}
+use mathlib.Core.Path.{refl}
 use Rattle.lent.specs.Arrays.{Arrays, lent}
-use Rattle.kernel_drop.proofs.Gone.{bare-gone}
+use Rattle.kernel_drop.proofs.Gone.{pack-asks, one-long, bare-gone}
 use borrow.Author.Needs.{needs}
 use Rattle.kernel_keep.proofs.Rows.{rows-kept}
 use Rattle.kernel_drop.proofs.drop_bare.Statement.{statement}
@@ -24,12 +21,9 @@ slice-aggregate-pack-rows c = search needs
 
 pack-rows-requires : tie.Need-pack-rows-requires
 pack-rows-requires c κs =
-    let s = c .before .before .before .before .before .before .before .before .before .before in
-    let l = s .pre .1 .0 in
-    let h = s .pre .0 .cells in
-    let d = ap length (c .before .before .before .before .before .before .before .before .before .dead-row .ensures)
-    ∙ length-set (replicate 256 false) (s .args .row) true ∙ length-replicate 256 false in
-    (h, (omega (arith, h, d), (l .ids, l .kinds, l .starts, l .ends, l .bends, l .counts, l .px, l .py)))
+    let d = c .before .before .before .before .before .before .before .before .before in
+    let s = d .before in
+    pack-asks {a = arrays s} (s .pre .1 .0) (s .pre .0 .cells) (d .dead-row .result) (one-long (s .args .row) (d .dead-row .ensures))
 
 known-requires : tie.Need-known-requires
 known-requires c κs = search needs

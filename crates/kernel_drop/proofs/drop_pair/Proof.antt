@@ -6,7 +6,7 @@ use mathlib.Core.Bool.{true, false}
 use lib.ListN.{length, set, replicate, length-set, length-replicate}
 use Rattle.lent.specs.Arrays.{Arrays, lent}
 use Rattle.kernel_bends.specs.Turned.{rotated}
-use Rattle.kernel_drop.proofs.Gone.{row-range, pair-gone}
+use Rattle.kernel_drop.proofs.Gone.{range, pack-asks, pair-gone}
 use borrow.Author.Needs.{needs}
 use Rattle.kernel_keep.proofs.Rows.{rows-kept}
 use Rattle.kernel_drop.proofs.drop_pair.Statement.{statement}
@@ -17,14 +17,14 @@ arrays c =
     let a = c .args in
     lent (a .next) (a .count) (a .ids) (a .kinds) (a .starts) (a .ends) (a .bends) (a .counts) (a .px) (a .py) (a .cycles) (a .steps) (a .bx) (a .by)
 
-range : (c : tie.Start) → (c .args .base + c .args .m ≤ c .args .t) × (c .args .t ≤ 2048)
-range c = row-range (arrays c) (c .pre .1 .0) (c .pre .0) (c .pre .1 .1 .0) (c .args .row) (c .args .base) (c .args .m) (c .args .t) (c .pre .1 .1 .1 .1 .0)
-
 put-bend-requires : tie.Need-put-bend-requires
 put-bend-requires c κs = search needs
 
 add-rotate : tie.Need-add-rotate
-add-rotate c = let s = c .before .before .before .before in omega (arith, range s .0, range s .1)
+add-rotate c =
+    let s = c .before .before .before .before in
+    let r = range (s .pre .1 .0) (s .pre .0) (s .pre .1 .1 .0) (s .pre .1 .1 .1 .1 .0) in
+    omega arith
 
 add-rotate-2 : tie.Need-add-rotate-2
 add-rotate-2 c = search needs
@@ -33,10 +33,14 @@ rotate-requires : tie.Need-rotate-requires
 rotate-requires c κs =
     let s = c .before .before .before .before in
     let l = ap length (c .before .put-bend .ensures .0) ∙ length-set (s .args .bx .now) (s .args .t) (s .args .p .x) ∙ s .pre .1 .0 .bx in
-    (omega arith, (omega (arith, range s .0), omega (arith, s .pre .1 .1 .1 .1 .1, l)))
+    let r = range (s .pre .1 .0) (s .pre .0) (s .pre .1 .1 .0) (s .pre .1 .1 .1 .1 .0) in
+    (omega arith, (omega (arith, r .0), omega (arith, s .pre .1 .1 .1 .1 .1, l)))
 
 add-rotate-3 : tie.Need-add-rotate-3
-add-rotate-3 c = let s = c .before .before .before .before .before .before in omega (arith, range s .0, range s .1)
+add-rotate-3 c =
+    let s = c .before .before .before .before .before .before in
+    let r = range (s .pre .1 .0) (s .pre .0) (s .pre .1 .1 .0) (s .pre .1 .1 .1 .1 .0) in
+    omega arith
 
 add-rotate-4 : tie.Need-add-rotate-4
 add-rotate-4 c = search needs
@@ -45,7 +49,8 @@ rotate-requires-2 : tie.Need-rotate-requires-2
 rotate-requires-2 c κs =
     let s = c .before .before .before .before .before .before in
     let l = ap length (c .before .before .before .put-bend .ensures .1) ∙ length-set (s .args .by .now) (s .args .t) (s .args .p .y) ∙ s .pre .1 .0 .by in
-    (omega arith, (omega (arith, range s .0), omega (arith, s .pre .1 .1 .1 .1 .1, l)))
+    let r = range (s .pre .1 .0) (s .pre .0) (s .pre .1 .1 .0) (s .pre .1 .1 .1 .1 .0) in
+    (omega arith, (omega (arith, r .0), omega (arith, s .pre .1 .1 .1 .1 .1, l)))
 
 dead-rows-requires : tie.Need-dead-rows-requires
 dead-rows-requires c κs = search needs
@@ -56,12 +61,11 @@ slice-aggregate-pack-rows c = search needs
 pack-rows-requires : tie.Need-pack-rows-requires
 pack-rows-requires c κs =
     let s = c .before .before .before .before .before .before .before .before .before .before .before .before .before .before .before .before .before in
-    let l = s .pre .1 .0 in
-    let h = s .pre .0 .cells in
-    let d = ap length (c .before .before .before .before .before .before .before .before .before .dead-rows .ensures)
+    let k = c .before .before .before .before .before .before .before .before .before .dead-rows in
+    let d = ap length (k .ensures)
     ∙ length-set (set (replicate 256 false) (s .args .bare) true) (s .args .row) true ∙ length-set (replicate 256 false) (s .args .bare) true
     ∙ length-replicate 256 false in
-    (h, (omega (arith, h, d), (l .ids, l .kinds, l .starts, l .ends, l .bends, l .counts, l .px, l .py)))
+    pack-asks {a = arrays s} (s .pre .1 .0) (s .pre .0 .cells) (k .result) d
 
 known-requires : tie.Need-known-requires
 known-requires c κs = search needs

@@ -1,12 +1,10 @@
 -- `drop_row` meets its contract. Assumes nothing.
 use native.Mathlib.Omega.{arith}
 use Prim.Native.Nat.{ℕ, _+_, _-_, _<_, _≤_}
-use mathlib.Core.Path.{_≡_, refl, ap, _∙_}
-use mathlib.Core.Bool.{true, false}
-use lib.ListN.{length, replicate, length-set, length-replicate}
+use mathlib.Core.Path.{refl, ap, _∙_}
 use Rattle.lent.specs.Arrays.{Arrays, lent}
 use Rattle.kernel_bends.specs.Turned.{rotated}
-use Rattle.kernel_drop.proofs.Gone.{row-range, row-below, row-gone}
+use Rattle.kernel_drop.proofs.Gone.{range, pack-asks, one-long, row-below, row-gone}
 use borrow.Author.Needs.{needs}
 use Rattle.kernel_keep.proofs.Rows.{rows-kept}
 use Rattle.kernel_drop.proofs.drop_row.Statement.{statement}
@@ -17,30 +15,31 @@ arrays c =
     let a = c .args in
     lent (a .next) (a .count) (a .ids) (a .kinds) (a .starts) (a .ends) (a .bends) (a .counts) (a .px) (a .py) (a .cycles) (a .steps) (a .bx) (a .by)
 
-range : (c : tie.Start) → (c .args .base + c .args .m ≤ c .args .t) × (c .args .t ≤ 2048)
-range c = row-range (arrays c) (c .pre .1 .0) (c .pre .0) (c .pre .1 .1 .0) (c .args .row) (c .args .base) (c .args .m) (c .args .t) (c .pre .1 .1 .1 .0)
+-- the bends are among those in use
+held : (c : tie.Start) → let a = c .args in (a .base + a .m ≤ a .t) × (a .t ≤ 2048)
+held c = range (c .pre .1 .0) (c .pre .0) (c .pre .1 .1 .0) (c .pre .1 .1 .1 .0)
 
 below : (c : tie.Start) → c .args .row < 256
 below c = row-below (arrays c) (c .pre .1 .0) (c .pre .0) (c .pre .1 .1 .0) (c .args .row) (c .args .base) (c .args .m) (c .args .t) (c .pre .1 .1 .1 .0)
 
 sub-u : tie.Need-sub-u
-sub-u c = omega (arith, range c .0)
+sub-u c = omega (arith, held c .0)
 
 add-rotate : tie.Need-add-rotate
-add-rotate c = omega (arith, range (c .before) .0, range (c .before) .1)
+add-rotate c = omega (arith, held (c .before) .0, held (c .before) .1)
 
 rotate-requires : tie.Need-rotate-requires
-rotate-requires c κs = (omega arith, (range (c .before) .0, omega (arith, range (c .before) .1, (c .before) .pre .1 .0 .bx)))
+rotate-requires c κs = (omega arith, (held (c .before) .0, omega (arith, held (c .before) .1, (c .before) .pre .1 .0 .bx)))
 
 add-rotate-2 : tie.Need-add-rotate-2
-add-rotate-2 c = omega (arith, range (c .before .before .before) .0, range (c .before .before .before) .1)
+add-rotate-2 c = omega (arith, held (c .before .before .before) .0, held (c .before .before .before) .1)
 
 rotate-requires-2 : tie.Need-rotate-requires-2
 rotate-requires-2 c κs = (
   omega arith,
   (
-    range (c .before .before .before) .0,
-    omega (arith, range (c .before .before .before) .1, (c .before .before .before) .pre .1 .0 .by),
+    held (c .before .before .before) .0,
+    omega (arith, held (c .before .before .before) .1, (c .before .before .before) .pre .1 .0 .by),
   ),
 )
 
@@ -54,8 +53,8 @@ rotate-requires-3 : tie.Need-rotate-requires-3
 rotate-requires-3 c κs = let s = (c .before .before .before .before .before) in (
   omega (arith, s .pre .1 .1 .1 .1 .0),
   (
-    omega (arith, range s .0, s .pre .1 .1 .1 .1 .1),
-    omega (arith, range s .1, s .pre .1 .0 .bx, (c .before .before .before) .rotate .kept .0),
+    omega (arith, held s .0, s .pre .1 .1 .1 .1 .1),
+    omega (arith, held s .1, s .pre .1 .0 .bx, (c .before .before .before) .rotate .kept .0),
   ),
 )
 
@@ -69,8 +68,8 @@ rotate-requires-4 : tie.Need-rotate-requires-4
 rotate-requires-4 c κs = let s = (c .before .before .before .before .before .before .before) in (
   omega (arith, s .pre .1 .1 .1 .1 .0),
   (
-    omega (arith, range s .0, s .pre .1 .1 .1 .1 .1),
-    omega (arith, range s .1, s .pre .1 .0 .by, (c .before .before .before) .rotate2 .kept .0),
+    omega (arith, held s .0, s .pre .1 .1 .1 .1 .1),
+    omega (arith, held s .1, s .pre .1 .0 .by, (c .before .before .before) .rotate2 .kept .0),
   ),
 )
 
@@ -83,11 +82,8 @@ slice-aggregate-pack-rows c = search needs
 pack-rows-requires : tie.Need-pack-rows-requires
 pack-rows-requires c κs =
     let s = c .before .before .before .before .before .before .before .before .before .before .before .before .before .before .before .before .before .before in
-    let l = s .pre .1 .0 in
-    let h = s .pre .0 .cells in
-    let d = ap length (c .before .before .before .before .before .before .before .before .before .dead-row .ensures)
-    ∙ length-set (replicate 256 false) (s .args .row) true ∙ length-replicate 256 false in
-    (h, (omega (arith, h, d), (l .ids, l .kinds, l .starts, l .ends, l .bends, l .counts, l .px, l .py)))
+    let d = c .before .before .before .before .before .before .before .before .before .dead-row in
+    pack-asks {a = arrays s} (s .pre .1 .0) (s .pre .0 .cells) (d .result) (one-long (s .args .row) (d .ensures))
 
 known-requires : tie.Need-known-requires
 known-requires c κs = search needs

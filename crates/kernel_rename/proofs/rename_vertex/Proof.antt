@@ -1,15 +1,9 @@
 -- `rename_vertex` meets its contract. Assumes nothing.
 use borrow.Author.Needs.{needs}
 use Rattle.complex.specs.Glue.{renamed}
-use Rattle.lent.specs.Arrays.{Arrays, lent}
 use Rattle.kernel_rename.proofs.Lent.{lone-cycles, lone-steps, renamed-in}
 use Rattle.kernel_rename.proofs.rename_vertex.Statement.{statement}
 use Rattle.kernel_rename.proofs.rename_vertex.Tie as tie
-
-abbrev arrays : (c : tie.Start) → Arrays
-arrays c =
-    let a = c .args in
-    lent (a .next) (a .count) (a .ids) (a .kinds) (a .starts) (a .ends) (a .bends) (a .counts) (a .px) (a .py) (a .cycles) (a .steps) (a .bx) (a .by)
 
 rename-ends-requires : tie.Need-rename-ends-requires
 rename-ends-requires c κs = search needs
@@ -17,16 +11,15 @@ rename-ends-requires c κs = search needs
 rename-lone-requires : tie.Need-rename-lone-requires
 rename-lone-requires c κs =
     let s = c .before .before .before .before in
-    let a = arrays s in
     let l = s .pre .1 .0 in
-    (lone-cycles a l (s .pre .0) (s .args .k) (s .pre .1 .1 .1), (lone-steps a l (s .pre .0) (s .args .k) (s .pre .1 .1 .1), (l .cycles, l .steps)))
+    (lone-cycles _ l (s .pre .0) (s .args .k) (s .pre .1 .1 .1), (lone-steps _ l (s .pre .0) (s .args .k) (s .pre .1 .1 .1), (l .cycles, l .steps)))
 
 returns : tie.Need-returns
 returns c =
     let s = c .before .before .before .before .before in
     let r = c .before .before .rename-ends .ensures in
     let w = c .rename-lone .ensures in
-    renamed-in (renamed (s .args .a) (s .args .b)) (arrays s) (s .pre .1 .0) (s .pre .0) (s .pre .1 .1 .0) _ _ _ (r .0) (r .1) (w .1) (rw (s .pre .1 .1 .1) at (w .0))
+    renamed-in (renamed (s .args .a) (s .args .b)) _ (s .pre .1 .0) (s .pre .0) (s .pre .1 .1 .0) _ _ _ (r .0) (r .1) (w .1) (rw (s .pre .1 .1 .1) at (w .0))
 
 pub rename-vertex-spec : {M : Type 1} → statement M
 rename-vertex-spec = tie.close (tie.spec rename-ends-requires rename-lone-requires returns)

@@ -19,7 +19,6 @@ mul-steps c = search needs
 slice-read-steps : tie.Need-slice-read-steps
 slice-read-steps c =
     let st = c .before .before .before in
-    let a = st .args in
     let z = ap width (c .before .if1 .taken) in
     let k = ahead-at _ _ _ _ _ (st .pre .1 .1) in
     omega (arith, z, st .pre .1 .0)
@@ -27,7 +26,6 @@ slice-read-steps c =
 mul-steps-2 : tie.Need-mul-steps-2
 mul-steps-2 c =
     let st = c .before .before .before in
-    let a = st .args in
     let z = ap width (c .before .if1 .taken) in
     let k = ahead-at _ _ _ _ _ (st .pre .1 .1) in
     search (needs, k, z)
@@ -35,7 +33,6 @@ mul-steps-2 c =
 slice-write-steps : tie.Need-slice-write-steps
 slice-write-steps c =
     let st = c .before .before .before in
-    let a = st .args in
     let z = ap width (c .before .if1 .taken) in
     let k = ahead-at _ _ _ _ _ (st .pre .1 .1) in
     omega (arith, z, k, st .pre .1 .0)

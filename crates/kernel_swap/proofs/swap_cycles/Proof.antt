@@ -5,7 +5,9 @@ use mathlib.Core.Path.{_≡_, refl, ap, sym, _∙_}
 use native.Mathlib.Omega.{arith}
 use lib.ListN.{length, take, drop, getD}
 use lib.Seq.{length-take-le}
-use Rattle.rows_steps.specs.Swap.{allSteps}
+use Rattle.complex.specs.Sound.{stepsMost}
+use Rattle.store.specs.View.{width}
+use Rattle.rows_steps.specs.Swap.{swapSteps, allSteps}
 use Rattle.store.proofs.Lists.{places-one}
 use Rattle.rows_steps.proofs.Writing.{Swapping, swapping-start}
 use Rattle.kernel_swap.proofs.Along.{cycle-ahead, cycle-end, cycle-room, cycle-turn}
@@ -28,36 +30,55 @@ mul-c c = search needs
 slice-read-c : tie.Need-slice-read-c Inv-loop μ-loop
 slice-read-c c = omega (arith, c .before .before .loop .inv .1 .cycles-size)
 
+abbrev start : tie.In-loop Inv-loop μ-loop → tie.Start Inv-loop μ-loop
+start q = q .before .before .before .before
+
+-- the number of the next cycle
+abbrev next : tie.In-loop Inv-loop μ-loop → ℕ
+next q = getD (q .before .loop .cycles) (q .before .loop .i) 0
+
+-- its steps are there, and are swapped before the next ones are read
+room : (q : tie.In-loop Inv-loop μ-loop) → let a = start q .args in let l = q .before .loop in let from = a .g + l .from in
+    (from + width (next q) ≤ length (a .steps .now)) × (from + width (next q) ≤ stepsMost)
+    × (l .at + length (swapSteps (a .t) (next q) (take (width (next q)) (drop from (l .steps)))) ≤ from + width (next q))
+room q =
+    let a = start q .args in
+    let p = start q .pre .1 in
+    let l = q .before .loop in
+    let h : l .i < a .n = omega arith in
+    let w =
+    cycle-room (a .t) _ _ (a .g) (l .i) (a .n) (l .from) (l .at) (l .cycles) (l .steps) (l .inv .1) (l .inv .2) (p .0) h (p .1 .0) (p .1 .1 .1) (next q) refl in (
+      omega (arith, w, p .1 .0),
+      omega (arith, w, p .1 .0, p .1 .1 .0),
+      cycle-end (a .t) _ _ (a .g) (l .i) (a .n) (l .from) (l .at) (l .cycles) (l .steps) (l .inv .1) (l .inv .2) (p .0) h (p .1 .0) (p .1 .1 .1) (next q) refl,
+    )
+
 add-swap-cycle : tie.Need-add-swap-cycle Inv-loop μ-loop
-add-swap-cycle c =
-    let at = c .before .before .before in
-    let st = at .before .before .before in
-    let a = st .args in
-    let p = at .loop .inv .1 in
-    let h : at .loop .i < a .n = omega arith in
-    let w = cycle-room (a .t) (a .cycles .now) (a .steps .now) (a .g) (at .loop .i) (a .n) (at .loop .from) (at .loop .at) (at .loop .cycles) (at .loop .steps) p (at .loop .inv .2) (st .pre .1 .0) h (st .pre .1 .1 .0) (st .pre .1 .1 .1 .1) (getD (at .loop .cycles) (at .loop .i) 0) refl in
-    record { fits = omega (arith, w, st .pre .1 .1 .0, st .pre .1 .1 .1 .0) }
+add-swap-cycle c = record { fits = omega (arith, room (c .before .before) .1) }
 
 swap-cycle-requires : tie.Need-swap-cycle-requires Inv-loop μ-loop
 swap-cycle-requires c κs =
-    let at = c .before .before .before in
-    let st = at .before .before .before in
-    let a = st .args in
-    let p = at .loop .inv .1 in
-    let h : at .loop .i < a .n = omega arith in
-    let w = cycle-room (a .t) (a .cycles .now) (a .steps .now) (a .g) (at .loop .i) (a .n) (at .loop .from) (at .loop .at) (at .loop .cycles) (at .loop .steps) p (at .loop .inv .2) (st .pre .1 .0) h (st .pre .1 .1 .0) (st .pre .1 .1 .1 .1) (getD (at .loop .cycles) (at .loop .i) 0) refl in
-    (st .pre .0, (omega (arith, w, p .size, st .pre .1 .1 .0, st .pre .1 .1 .1 .0), cycle-ahead (a .t) (a .cycles .now) (a .steps .now) (a .g) (at .loop .i) (a .n) (at .loop .from) (at .loop .at) (at .loop .cycles) (at .loop .steps) p (at .loop .inv .2) (st .pre .1 .0) h (st .pre .1 .1 .0) (st .pre .1 .1 .1 .1) (getD (at .loop .cycles) (at .loop .i) 0) refl))
+    let q = c .before .before in
+    let a = start q .args in
+    let p = start q .pre .1 in
+    let l = q .before .loop in
+    let h : l .i < a .n = omega arith in (
+      start q .pre .0,
+      (
+        omega (arith, room q .0, l .inv .1 .size),
+        cycle-ahead (a .t) _ _ (a .g) (l .i) (a .n) (l .from) (l .at) (l .cycles) (l .steps) (l .inv .1) (l .inv .2) (p .0) h (p .1 .0) (p .1 .1 .1) (next q) refl,
+      ),
+    )
+
+abbrev begun : tie.After-swap-cycle Inv-loop μ-loop → tie.In-loop Inv-loop μ-loop
+begun c = c .before .before .before
+
+-- where the next steps go
+ended : (c : tie.After-swap-cycle Inv-loop μ-loop) → begun c .before .loop .at + c .swap-cycle .result ≤ stepsMost
+ended c = let r = room (begun c) in omega (arith, r .1, r .2, c .swap-cycle .ensures .0)
 
 number-of-requires : tie.Need-number-of-requires Inv-loop μ-loop
-number-of-requires c κs =
-    let at = c .before .before .before .before .before .before in
-    let st = at .before .before .before in
-    let a = st .args in
-    let p = at .loop .inv .1 in
-    let h : at .loop .i < a .n = omega arith in
-    let w = cycle-room (a .t) (a .cycles .now) (a .steps .now) (a .g) (at .loop .i) (a .n) (at .loop .from) (at .loop .at) (at .loop .cycles) (at .loop .steps) p (at .loop .inv .2) (st .pre .1 .0) h (st .pre .1 .1 .0) (st .pre .1 .1 .1 .1) (getD (at .loop .cycles) (at .loop .i) 0) refl in
-    let u = cycle-end (a .t) (a .cycles .now) (a .steps .now) (a .g) (at .loop .i) (a .n) (at .loop .from) (at .loop .at) (at .loop .cycles) (at .loop .steps) p (at .loop .inv .2) (st .pre .1 .0) h (st .pre .1 .1 .0) (st .pre .1 .1 .1 .1) (getD (at .loop .cycles) (at .loop .i) 0) refl in
-    omega (arith, w, u, st .pre .1 .1 .0, st .pre .1 .1 .1 .0, c .before .before .swap-cycle .ensures .0)
+number-of-requires c κs = omega (arith, ended (c .before .before))
 
 mul-cycles : tie.Need-mul-cycles Inv-loop μ-loop
 mul-cycles c = search needs
@@ -70,24 +91,11 @@ places-requires c κs = search needs
 
 add-from : tie.Need-add-from Inv-loop μ-loop
 add-from c =
-    let at = c .before .before .before .before .before .before .before .before in
-    let st = at .before .before .before in
-    let a = st .args in
-    let p = at .loop .inv .1 in
-    let h : at .loop .i < a .n = omega arith in
-    let w = cycle-room (a .t) (a .cycles .now) (a .steps .now) (a .g) (at .loop .i) (a .n) (at .loop .from) (at .loop .at) (at .loop .cycles) (at .loop .steps) p (at .loop .inv .2) (st .pre .1 .0) h (st .pre .1 .1 .0) (st .pre .1 .1 .1 .1) (getD (at .loop .cycles) (at .loop .i) 0) refl in
-    record { fits = omega (arith, w, st .pre .1 .1 .0, st .pre .1 .1 .1 .0, c .places .ensures ∙ places-one (getD (at .loop .cycles) (at .loop .i) 0)) }
+    let q = begun (c .before .before .before .before) in
+    record { fits = omega (arith, room q .1, c .places .ensures ∙ places-one (next q)) }
 
 add-at : tie.Need-add-at Inv-loop μ-loop
-add-at c =
-    let at = c .before .before .before .before .before .before .before .before in
-    let st = at .before .before .before in
-    let a = st .args in
-    let p = at .loop .inv .1 in
-    let h : at .loop .i < a .n = omega arith in
-    let w = cycle-room (a .t) (a .cycles .now) (a .steps .now) (a .g) (at .loop .i) (a .n) (at .loop .from) (at .loop .at) (at .loop .cycles) (at .loop .steps) p (at .loop .inv .2) (st .pre .1 .0) h (st .pre .1 .1 .0) (st .pre .1 .1 .1 .1) (getD (at .loop .cycles) (at .loop .i) 0) refl in
-    let u = cycle-end (a .t) (a .cycles .now) (a .steps .now) (a .g) (at .loop .i) (a .n) (at .loop .from) (at .loop .at) (at .loop .cycles) (at .loop .steps) p (at .loop .inv .2) (st .pre .1 .0) h (st .pre .1 .1 .0) (st .pre .1 .1 .1 .1) (getD (at .loop .cycles) (at .loop .i) 0) refl in
-    record { fits = omega (arith, w, u, st .pre .1 .1 .0, st .pre .1 .1 .1 .0, c .before .before .before .before .swap-cycle .ensures .0) }
+add-at c = record { fits = omega (arith, ended (c .before .before .before .before)) }
 
 add-i : tie.Need-add-i Inv-loop μ-loop
 add-i c = search needs
@@ -97,13 +105,16 @@ loop-less c = search needs
 
 loop-again : tie.Need-loop-again Inv-loop μ-loop
 loop-again c =
-    let at = c .before .before .before .before .before .before .before .before in
-    let st = at .before .before .before in
-    let a = st .args in
-    let p = at .loop .inv .1 in
-    let h : at .loop .i < a .n = omega arith in
     let o = c .before .before .before .before .swap-cycle in
-    let x = cycle-turn (a .t) (a .cycles .now) (a .steps .now) (a .g) (at .loop .i) (a .n) (at .loop .from) (at .loop .at) (at .loop .cycles) (at .loop .steps) p (at .loop .inv .2) (st .pre .1 .0) h (st .pre .1 .1 .0) (st .pre .1 .1 .1 .1) (getD (at .loop .cycles) (at .loop .i) 0) refl (o .result) (c .places .result) (c .before .number-of .result) (o .last .1 .0) (c .places .ensures ∙ places-one (getD (at .loop .cycles) (at .loop .i) 0)) (o .ensures .0) (c .before .number-of .ensures) (o .ensures .1) in
+    let q = begun (c .before .before .before .before) in
+    let a = start q .args in
+    let p = start q .pre .1 in
+    let l = q .before .loop in
+    let h : l .i < a .n = omega arith in
+    let x =
+    cycle-turn (a .t) _ _ (a .g) (l .i) (a .n) (l .from) (l .at) (l .cycles) (l .steps) (l .inv .1) (l .inv .2) (p .0) h (p .1 .0) (p .1 .1 .1) (next q) refl
+    (o .result) (c .places .result) (c .before .number-of .result) (o .last .1 .0) (c .places .ensures ∙ places-one (next q)) (o .ensures .0)
+    (c .before .number-of .ensures) (o .ensures .1) in
     (omega arith, x .0, x .1)
 
 same-length : tie.Need-same-length Inv-loop μ-loop

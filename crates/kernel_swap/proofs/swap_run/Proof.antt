@@ -72,13 +72,14 @@ loop-less c = search needs
 loop-again : tie.Need-loop-again Inv-loop μ-loop
 loop-again c =
     let at = c .before .before .before .before .before .before in
-    let st = at .before .before in
-    let a = st .args in
-    let h : at .loop .i < a .n = omega arith in
+    let h : at .loop .i < at .before .before .args .n = omega arith in
+    let t = at .before .before .args .t in
+    let q = at .before .before .pre .1 in
+    let v = at .loop .inv in
     let p = c .before .before .put-step in (
       omega arith,
-      ap (λ (k : ℕ). at .loop .w + k) (p .ensures .0) ∙ place-length (a .t) (a .steps .now) (a .from) (a .n) (a .at) (at .loop .i) (at .loop .w) (at .loop .steps) (st .pre .1 .0) h (st .pre .1 .1) (at .loop .inv .1) (at .loop .inv .2),
-      place-turn (a .t) (a .steps .now) (a .from) (a .n) (a .at) (at .loop .i) (at .loop .w) (at .loop .steps) (st .pre .1 .0) h (st .pre .1 .1) (at .loop .inv .1) (at .loop .inv .2) (p .last .0) (p .ensures .1),
+      ap (λ (k : ℕ). at .loop .w + k) (p .ensures .0) ∙ place-length t _ _ _ _ _ (at .loop .w) _ (q .0) h (q .1) (v .1) (v .2),
+      place-turn t _ _ _ _ _ (at .loop .w) _ (q .0) h (q .1) (v .1) (v .2) (p .last .0) (p .ensures .1),
     )
 
 same-length : tie.Need-same-length Inv-loop μ-loop

@@ -18,7 +18,7 @@ use Rattle.ask_glue.proofs.Glued.{rows-of, look-asks, Glues}
 use Rattle.ask_glue.proofs.Edges.{glue-no, glues-edges, step-small}
 use Rattle.lent.specs.Arrays.{Arrays, lent, heldBy, rowsBy}
 use Rattle.lent.proofs.Sums.{ready-rows, ready-drawing, ready-sizes, ready-fits, ready-indexes, ready-no}
-use Rattle.kind_glue.proofs.Glue.{row-below, base-room, edge-row, swap-asks, swapped-is, obeyed-glued}
+use Rattle.kind_glue.proofs.Glue.{row-below, bends-before, edge-row, swap-asks, swapped-is, obeyed-glued}
 use Rattle.kind_glue.proofs.glue_edges.Statement.{statement}
 use Rattle.kind_glue.proofs.glue_edges.Tie as tie
 
@@ -89,7 +89,8 @@ bend-start-requires c κs =
     let f = c .before .before in
     let e = f .before .before in
     let s = start (e .before) in
-    base-room (arrays s) (s .args .t) (s .pre) (s .args .b) (f .find .result) (f .find .ensures) (goes e .0 .live)
+    bends-before (arrays s) (s .args .t) (s .pre) (f .find .result)
+    (omega (arith, row-below (arrays s) (s .args .t) (s .pre) (s .args .b) (f .find .result) (f .find .ensures) (goes e .0 .live)))
 
 mul-wide : tie.Need-mul-wide
 mul-wide c = let s = start (c .before .before .before .before .before .before) in omega (arith, below (c .before .before .before), ready-fits (arrays s) (s .args .t) (s .pre) .cells)

@@ -4,14 +4,11 @@ use borrow.Author.Tests.{not-true, not-false, ne-eqb}
 use mathlib.Core.Path.{refl, sym, _∙_}
 use Rattle.complex.specs.Decode.{Command, move}
 use Rattle.complex.proofs.Asked.{early-one, out-one, no-3, no-4}
-use Rattle.store.specs.Index.{Indexes}
-use Rattle.sound.specs.Looks.{Looks}
-use Rattle.sound.proofs.Meaning.{sound-fits, looks}
 use Rattle.answer.proofs.Asked.{kind-vertex}
 use Rattle.law_move_delete.proofs.Edit.{move-four}
 use Rattle.lent.specs.Arrays.{Arrays, lent, heldBy, rowsBy}
-use Rattle.lent.proofs.Held.{held-sizes, held-indexes}
-use Rattle.lent.proofs.Replies.{rows-of, drawing-of, obeyed-no}
+use Rattle.lent.proofs.Replies.{obeyed-no}
+use Rattle.lent.proofs.Sums.{ready-sizes, ready-drawing, ready-fits, ready-indexes, ready-looks}
 use Rattle.kind_move.proofs.Move.{moved-row, obeyed-moved}
 use Rattle.kind_move.proofs.move_vertex.Statement.{statement}
 use Rattle.kind_move.proofs.move_vertex.Tie as tie
@@ -23,12 +20,6 @@ arrays c =
 
 abbrev asked : (c : tie.Start) → Command
 asked c = move (c .args .v) (c .args .p)
-
-index : (c : tie.Start) → Indexes (heldBy (arrays c)) (rowsBy (arrays c))
-index c = held-indexes (arrays c) (c .pre .long) (rows-of (arrays c) (c .pre .sound))
-
-looked : (c : tie.Start) → Looks (heldBy (arrays c)) (rowsBy (arrays c))
-looked c = looks (heldBy (arrays c)) (held-sizes (arrays c) (c .pre .long)) (rowsBy (arrays c)) (index c) (drawing-of (arrays c) (c .pre .sound))
 
 in-bounds-requires : tie.Need-in-bounds-requires
 in-bounds-requires c κs = search needs
@@ -45,7 +36,7 @@ returns c =
 value-at-requires : tie.Need-value-at-requires
 value-at-requires c κs =
     let s = c .before .before in
-    (sound-fits (heldBy (arrays s)) (drawing-of (arrays s) (s .pre .sound)) .cells, (s .pre .long .ids, (s .pre .long .kinds, looked s .rising)))
+    (ready-fits (arrays s) (s .args .t) (s .pre) .cells, (s .pre .long .ids, (s .pre .long .kinds, ready-looks (arrays s) (s .args .t) (s .pre) .rising)))
 
 line-of-requires-2 : tie.Need-line-of-requires-2
 line-of-requires-2 c κs = search needs
@@ -55,14 +46,19 @@ returns-2 c =
     let a = c .before .before in
     let b = a .before .before in
     let s = b .before in
+    let t = s .args .t in
+    let r = s .pre in
     obeyed-no (arrays s) (s .pre .sound) (asked s) 4 _ (c .line-of2 .ensures)
     (no-4 _ (asked s) (early-one (asked s) (s .args .p) refl (sym (b .in-bounds .ensures) ∙ not-false _ (a .before .if1 .left)))
-    (move-four _ (s .args .v) (s .args .p) (sym (kind-vertex _ (held-sizes (arrays s) (s .pre .long)) (drawing-of (arrays s) (s .pre .sound)) _ (index s) (s .args .v) (a .value-at .result) (a .value-at .ensures)) ∙ ne-eqb _ 0 (c .before .if2 .taken))))
+    (move-four _ (s .args .v) (s .args .p)
+    (sym (kind-vertex _ (ready-sizes (arrays s) t r) (ready-drawing (arrays s) t r) _ (ready-indexes (arrays s) t r) (s .args .v) (a .value-at .result)
+    (a .value-at .ensures))
+    ∙ ne-eqb _ 0 (c .before .if2 .taken))))
 
 find-requires : tie.Need-find-requires
 find-requires c κs =
     let s = c .before .before .before .before in
-    (sound-fits (heldBy (arrays s)) (drawing-of (arrays s) (s .pre .sound)) .cells, (s .pre .long .ids, looked s .rising))
+    (ready-fits (arrays s) (s .args .t) (s .pre) .cells, (s .pre .long .ids, ready-looks (arrays s) (s .args .t) (s .pre) .rising))
 
 put-position-requires : tie.Need-put-position-requires
 put-position-requires c κs =

@@ -77,51 +77,35 @@ order-of-requires c κs = search needs
 
 merge-steps-requires : tie.Need-merge-steps-requires
 merge-steps-requires c κs =
-    let y = (c .before .before .before .before .before .before .before .before .before .before .before .before .before) in
-    let x = first y in
-    let p = placed x in
-    let f = found p in
+    let y = c .before .before .before .before .before .before .before .before .before .before .before .before .before in
+    let f = found (placed (first y)) in
     let e = yes f in
-    let j = e .before in
-    let s = start j in
-    merges (arrays s) (s .args .t) (s .pre .0) (s .args .v) (s .args .x) (s .args .back1) (s .args .y) (s .args .back2) (s .pre .1) (j .bend-no .result)
-    (j .bend-no .ensures) (e .if1 .left)
-    (f .find .result) (f .find .ensures) (p .vertex-at .result) (p .vertex-at .ensures)
-    (x .side-at .result) (y .side-at2 .result) (x .side-at .ensures) (y .side-at2 .ensures)
+    let s = start (e .before) in
+    merges _ _ (s .pre .0) _ _ _ _ _ (s .pre .1) _ (e .before .bend-no .ensures) (e .if1 .left) _ (f .find .ensures) _
+    (placed (first y) .vertex-at .ensures) _ _ (first y .side-at .ensures) (y .side-at2 .ensures)
 
 join-requires : tie.Need-join-requires
 join-requires c κs =
-    let m = (c .before .before .before .before .before .before .before .before .before .before .before .before .before .before) in
-    let o = ordered m in
-    let y = o .before in
-    let x = first y in
-    let p = placed x in
-    let f = found p in
+    let m = c .before .before .before .before .before .before .before .before .before .before .before .before .before .before in
+    let y = ordered m .before in
+    let f = found (placed (first y)) in
     let e = yes f in
-    let j = e .before in
-    let s = start j in
-    joins (arrays s) (s .args .t) (s .pre .0) (s .args .v) (s .args .x) (s .args .back1) (s .args .y) (s .args .back2) (s .pre .1) (j .bend-no .result)
-    (j .bend-no .ensures) (e .if1 .left)
-    (f .find .result) (f .find .ensures) (p .vertex-at .result) (p .vertex-at .ensures)
-    (x .side-at .result) (y .side-at2 .result) (x .side-at .ensures) (y .side-at2 .ensures)
-    _ _ (m .merge-steps .ensures) (o .order-of .result) (o .order-of .ensures)
+    let s = start (e .before) in
+    joins _ _ (s .pre .0) _ _ _ _ _ (s .pre .1) _ (e .before .bend-no .ensures) (e .if1 .left) _ (f .find .ensures) _
+    (placed (first y) .vertex-at .ensures) _ _ (first y .side-at .ensures) (y .side-at2 .ensures) _ _
+    (m .merge-steps .ensures) _ (ordered m .order-of .ensures)
 
 returns-2 : tie.Need-returns-2
 returns-2 c =
-    let m = (c .before .before .before .before .before .before .before .before .before .before .before .before .before .before .before) in
-    let o = ordered m in
-    let y = o .before in
-    let x = first y in
-    let p = placed x in
-    let f = found p in
+    let m = c .before .before .before .before .before .before .before .before .before .before .before .before .before .before .before in
+    let y = ordered m .before in
+    let f = found (placed (first y)) in
     let e = yes f in
-    let j = e .before in
-    let s = start j in
-    obeyed (arrays s) (s .args .t) (s .pre .0) (s .args .v) (s .args .x) (s .args .back1) (s .args .y) (s .args .back2) (s .pre .1) (j .bend-no .result)
-    (j .bend-no .ensures) (e .if1 .left)
-    (f .find .result) (f .find .ensures) (p .vertex-at .result) (p .vertex-at .ensures)
-    (x .side-at .result) (y .side-at2 .result) (x .side-at .ensures) (y .side-at2 .ensures)
-    _ _ (m .merge-steps .ensures) (o .order-of .result) (o .order-of .ensures) _ _ (c .join .ensures)
+    let s = start (e .before) in
+    obeyed _ _ (s .pre .0) _ _ _ _ _ (s .pre .1) _ (e .before .bend-no .ensures) (e .if1 .left) _ (f .find .ensures) _
+    (placed (first y) .vertex-at .ensures) _ _ (first y .side-at .ensures) (y .side-at2 .ensures) _ _
+    (m .merge-steps .ensures) _ (ordered m .order-of .ensures)
+    _ _ (c .join .ensures)
 
 pub jointed-spec : {M : Type 1} → statement M
 jointed-spec =

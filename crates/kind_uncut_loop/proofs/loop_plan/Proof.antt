@@ -4,11 +4,11 @@ use native.Mathlib.Omega.{arith}
 use Prim.Native.Nat.{_<_}
 use mathlib.Core.Path.{refl}
 use lib.Dec.{lit≤}
-use Rattle.ask_cut_edge.proofs.Found.{find-asks, row-below, base-asks}
+use Rattle.ask_cut_edge.proofs.Found.{find-asks, base-asks}
 use Rattle.answer.proofs.Asked.{next-in}
 use Rattle.lent.specs.Arrays.{Arrays, lent, heldBy, rowsBy}
 use Rattle.lent.proofs.Sums.{ready-drawing, ready-sizes, ready-indexes, ready-small}
-use Rattle.kind_uncut_loop.proofs.Plans.{told, planned-no, planned}
+use Rattle.kind_uncut_loop.proofs.Plans.{live-row, told, planned-no, planned}
 use Rattle.kind_uncut_loop.proofs.loop_plan.Statement.{statement}
 use Rattle.kind_uncut_loop.proofs.loop_plan.Tie as tie
 
@@ -22,9 +22,7 @@ edge-below f =
     let s = f .before .before .before .before in
     let t = s .args .t in
     let y = s .pre .0 in
-    row-below (heldBy (arrays s)) (ready-sizes (arrays s) t y) (ready-drawing (arrays s) t y) (rowsBy (arrays s)) (ready-indexes (arrays s) t y)
-    (s .args .e) (f .find2 .result) (f .find2 .ensures)
-    (told (arrays s) t y (s .args .v) (s .args .e) (s .pre .1) .edgeLive)
+    live-row (arrays s) t y (s .args .e) _ (f .find2 .ensures) (told (arrays s) t y (s .args .v) (s .args .e) (s .pre .1) .edgeLive)
 
 bend-no-requires : tie.Need-bend-no-requires
 bend-no-requires c κs =
@@ -57,9 +55,7 @@ vertex-at-requires c κs =
     let s = c .before .before .before .before in
     let t = s .args .t in
     let y = s .pre .0 in
-    row-below (heldBy (arrays s)) (ready-sizes (arrays s) t y) (ready-drawing (arrays s) t y) (rowsBy (arrays s)) (ready-indexes (arrays s) t y)
-    (s .args .v) (f .find .result) (f .find .ensures)
-    (told (arrays s) t y (s .args .v) (s .args .e) (s .pre .1) .vertexLive)
+    live-row (arrays s) t y (s .args .v) _ (f .find .ensures) (told (arrays s) t y (s .args .v) (s .args .e) (s .pre .1) .vertexLive)
 
 bend-start-requires : tie.Need-bend-start-requires
 bend-start-requires c κs =

@@ -1,5 +1,6 @@
 -- `looped` meets its contract: questions 7 and 8, then the steps, the rows and the bends, and the closed edge. Assumes nothing.
 use borrow.Author.Needs.{needs}
+use Prim.Native.Nat.{_≤_}
 use native.Mathlib.Omega.{arith}
 use mathlib.Core.Bool.{false}
 use mathlib.Core.Path.{refl}
@@ -81,23 +82,19 @@ drop-pair-requires c κs =
     let edge = mid-edge a (s .args .t) (s .pre .0) (s .args .v) (s .args .e) (s .pre .1) r (goes el) (o .one-for .result) (o .one-for .ensures) _ _ sw in
     (sw .fits, (sw .long, (ready-rows a (s .args .t) (s .pre .0), (bare, (edge, goes el .room)))))
 
-add-put-row : tie.Need-add-put-row
-add-put-row c =
-    let el = one (swapped (c .before .before .before .before .before .before)) .before in
-    let s = start (el .before) in
-    let a = arrays s in
-    let r = el .before .loop-plan .result in
-    let h = bends-in a (s .args .t) (s .pre .0) (s .args .v) (s .args .e) (s .pre .1) r (goes el) in
+-- the bends of the edge are few
+few : (g : tie.After-drop-pair) → let r = one (swapped g) .before .before .loop-plan .result in r .m ≤ 2048
+few g =
+    let el = one (swapped g) .before in
+    let s = begin el in
+    let h = bends-in (arrays s) (s .args .t) (s .pre .0) (s .args .v) (s .args .e) (s .pre .1) (el .before .loop-plan .result) (goes el) in
     omega (arith, h .0, h .1)
 
+add-put-row : tie.Need-add-put-row
+add-put-row c = omega (arith, few (c .before .before .before .before .before .before))
+
 cast-put-row : tie.Need-cast-put-row
-cast-put-row c =
-    let el = one (swapped (c .before .before .before .before .before .before)) .before in
-    let s = start (el .before) in
-    let a = arrays s in
-    let r = el .before .loop-plan .result in
-    let h = bends-in a (s .args .t) (s .pre .0) (s .args .v) (s .args .e) (s .pre .1) r (goes el) in
-    omega (arith, h .0, h .1)
+cast-put-row c = omega (arith, few (c .before .before .before .before .before .before))
 
 put-row-requires : tie.Need-put-row-requires
 put-row-requires c κs =

@@ -12,11 +12,9 @@ use Rattle.complex.specs.Answer.{no, asked3}
 use Rattle.complex.proofs.Bools.{truth}
 use Rattle.complex.proofs.Asked.{early-none, no-4}
 use Rattle.store.specs.View.{sheetOf}
-use Rattle.sound.specs.Looks.{Looks}
-use Rattle.sound.proofs.Meaning.{sound-fits, vertex-at, open-at, closed-at}
+use Rattle.sound.proofs.Meaning.{vertex-at, open-at, closed-at}
 use Rattle.lent.specs.Arrays.{Arrays, lent, heldBy, rowsBy}
-use Rattle.lent.proofs.Replies.{drawing-of}
-use Rattle.lent.proofs.Sums.{ready-looks, ready-no}
+use Rattle.lent.proofs.Sums.{ready-fits, ready-looks, ready-no}
 use Rattle.kind_unglue.proofs.unglue.Statement.{statement}
 use Rattle.kind_unglue.proofs.unglue.Tie as tie
 
@@ -29,20 +27,17 @@ arrays c =
     let a = c .args in
     lent (now (a .next)) (now (a .count)) (a .ids) (a .kinds) (a .starts) (a .ends) (a .bends) (a .counts) (a .px) (a .py) (a .cycles) (a .steps) (a .bx) (a .by)
 
-looked : (c : tie.Start) → Looks (heldBy (arrays c)) (rowsBy (arrays c))
-looked c = ready-looks (arrays c) (c .args .t) (c .pre)
-
 value-at-requires : tie.Need-value-at-requires
 value-at-requires c κs =
     let s = c .before .before .before in
-    (sound-fits (heldBy (arrays s)) (drawing-of (arrays s) (s .pre .sound)) .cells, (s .pre .long .ids, (s .pre .long .kinds, looked s .rising)))
+    (ready-fits (arrays s) (s .args .t) (s .pre) .cells, (s .pre .long .ids, (s .pre .long .kinds, ready-looks (arrays s) (s .args .t) (s .pre) .rising)))
 
 unglue-vertex-requires : tie.Need-unglue-vertex-requires
 unglue-vertex-requires c κs =
     let t = c .before .before .before .before .before .before .before .before .before .before .before .before .before .before in
     let v = t .before in
     let s = v .before .before .before .before in
-    (s .pre, truth (sym (vertex-at (looked s) (s .args .i)) ∙ eq-eqb _ 0 (sym (v .value-at .ensures) ∙ t .if1 .taken)))
+    (s .pre, truth (sym (vertex-at (ready-looks (arrays s) (s .args .t) (s .pre)) (s .args .i)) ∙ eq-eqb _ 0 (sym (v .value-at .ensures) ∙ t .if1 .taken)))
 
 returns : tie.Need-returns
 returns c = c .unglue-vertex .ensures
@@ -52,7 +47,7 @@ unglue-edge-requires c κs =
     let t = c .before .before .before .before .before .before .before .before .before .before .before .before .before .before in
     let v = t .before .before in
     let s = v .before .before .before .before in
-    (s .pre, truth (sym (open-at (looked s) (s .args .i)) ∙ eq-eqb _ 1 (sym (v .value-at .ensures) ∙ t .if2 .taken)))
+    (s .pre, truth (sym (open-at (ready-looks (arrays s) (s .args .t) (s .pre)) (s .args .i)) ∙ eq-eqb _ 1 (sym (v .value-at .ensures) ∙ t .if2 .taken)))
 
 returns-2 : tie.Need-returns-2
 returns-2 c = c .unglue-edge .ensures
@@ -62,7 +57,7 @@ unglue-edge-requires-2 c κs =
     let t = c .before .before .before .before .before .before .before .before .before .before .before .before .before .before in
     let v = t .before .before .before in
     let s = v .before .before .before .before in
-    (s .pre, truth (sym (closed-at (looked s) (s .args .i)) ∙ eq-eqb _ 2 (sym (v .value-at .ensures) ∙ t .if3 .taken)))
+    (s .pre, truth (sym (closed-at (ready-looks (arrays s) (s .args .t) (s .pre)) (s .args .i)) ∙ eq-eqb _ 2 (sym (v .value-at .ensures) ∙ t .if3 .taken)))
 
 returns-3 : tie.Need-returns-3
 returns-3 c = c .unglue-edge2 .ensures
@@ -80,9 +75,10 @@ returns-4 c =
     let a = arrays s in
     let i = s .args .i in
     let u = v .value-at .ensures in
+    let k = ready-looks a (s .args .t) (s .pre) in
     ready-no a (s .args .t) (s .pre) (unglue i) 4 _ (c .line-of .ensures)
-    (no-uses (sheetOf (heldBy a)) i (sym (vertex-at (looked s) i) ∙ ne-eqb _ 0 (λ g. l1 .if1 .left (u ∙ g)))
-    (sym (open-at (looked s) i) ∙ ne-eqb _ 1 (λ g. l2 .if2 .left (u ∙ g))) (sym (closed-at (looked s) i) ∙ ne-eqb _ 2 (λ g. l3 .if3 .left (u ∙ g))))
+    (no-uses (sheetOf (heldBy a)) i (sym (vertex-at k i) ∙ ne-eqb _ 0 (λ g. l1 .if1 .left (u ∙ g))) (sym (open-at k i) ∙ ne-eqb _ 1 (λ g. l2 .if2 .left (u ∙ g)))
+    (sym (closed-at k i) ∙ ne-eqb _ 2 (λ g. l3 .if3 .left (u ∙ g))))
 
 pub unglue-spec : {M : Type 1} → statement M
 unglue-spec =

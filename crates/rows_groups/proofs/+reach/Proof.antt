@@ -31,30 +31,6 @@ reach-split-link-requires : (t : ℕ) → reach-lts.Need-split-link-requires
     (split-link.Asked, split-link.Learnt, wide.Asked, wide.Learnt, reach-below t, reach.Post) (reach-at t) reach.Post
 reach-split-link-requires t c = λ κs. c .before .before .before .before .pre .1
 
-reach-mul-wide : (t : ℕ) → reach-lts.Need-mul-wide (split-link.Asked, split-link.Learnt, wide.Asked, wide.Learnt, reach-below t, reach.Post) (reach-at t)
-    reach.Post
-reach-mul-wide t c = search needs
-
-reach-shared-slice-read-wide : (t : ℕ) → reach-lts.Need-shared-slice-read-wide
-    (split-link.Asked, split-link.Learnt, wide.Asked, wide.Learnt, reach-below t, reach.Post) (reach-at t) reach.Post
-reach-shared-slice-read-wide t c = search needs
-
-reach-wide-requires : (t : ℕ) → reach-lts.Need-wide-requires (split-link.Asked, split-link.Learnt, wide.Asked, wide.Learnt, reach-below t, reach.Post)
-    (reach-at t) reach.Post
-reach-wide-requires t c = λ κs. search needs
-
-reach-mul-wide-2 : (t : ℕ) → reach-lts.Need-mul-wide-2 (split-link.Asked, split-link.Learnt, wide.Asked, wide.Learnt, reach-below t, reach.Post) (reach-at t)
-    reach.Post
-reach-mul-wide-2 t c = search needs
-
-reach-shared-slice-read-wide-2 : (t : ℕ) → reach-lts.Need-shared-slice-read-wide-2
-    (split-link.Asked, split-link.Learnt, wide.Asked, wide.Learnt, reach-below t, reach.Post) (reach-at t) reach.Post
-reach-shared-slice-read-wide-2 t c = search needs
-
-reach-wide-requires-2 : (t : ℕ) → reach-lts.Need-wide-requires-2 (split-link.Asked, split-link.Learnt, wide.Asked, wide.Learnt, reach-below t, reach.Post)
-    (reach-at t) reach.Post
-reach-wide-requires-2 t c = λ κs. search needs
-
 -- the places of the link that was found are there, and one of them is in the group
 split : (t : ℕ) (c : reach-lts.After-wide2 (split-link.Asked, split-link.Learnt, wide.Asked, wide.Learnt, reach-below t, reach.Post) (reach-at t) reach.Post) →
     let x = c .before .before .wide .result in let y = c .wide2 .result in
@@ -73,33 +49,41 @@ split t c =
       ap₂ (λ (x y : ℕ). differs (getD (st .args .groups .now) x 0) (getD (st .args .groups .now) y 0) (st .args .g)) ex ey ∙ s .ensures .here i,
     )
 
-reach-mul-groups : (t : ℕ) → reach-lts.Need-mul-groups (split-link.Asked, split-link.Learnt, wide.Asked, wide.Learnt, reach-below t, reach.Post) (reach-at t) reach.Post
+reach-mul-groups : (t : ℕ) → reach-lts.Need-mul-groups
+    (split-link.Asked, split-link.Learnt, wide.Asked, wide.Learnt, reach-below t, reach.Post) (reach-at t) reach.Post
 reach-mul-groups t c = record { fits = omega (arith, split t c .0) }
 
-reach-slice-write-groups : (t : ℕ) → reach-lts.Need-slice-write-groups (split-link.Asked, split-link.Learnt, wide.Asked, wide.Learnt, reach-below t, reach.Post) (reach-at t) reach.Post
+reach-slice-write-groups : (t : ℕ) → reach-lts.Need-slice-write-groups
+    (split-link.Asked, split-link.Learnt, wide.Asked, wide.Learnt, reach-below t, reach.Post) (reach-at t) reach.Post
 reach-slice-write-groups t c = omega (arith, split t c .0)
 
-reach-mul-groups-2 : (t : ℕ) → reach-lts.Need-mul-groups-2 (split-link.Asked, split-link.Learnt, wide.Asked, wide.Learnt, reach-below t, reach.Post) (reach-at t) reach.Post
+reach-mul-groups-2 : (t : ℕ) → reach-lts.Need-mul-groups-2
+    (split-link.Asked, split-link.Learnt, wide.Asked, wide.Learnt, reach-below t, reach.Post) (reach-at t) reach.Post
 reach-mul-groups-2 t c = record { fits = omega (arith, split t c .1) }
 
-reach-slice-write-groups-2 : (t : ℕ) → reach-lts.Need-slice-write-groups-2 (split-link.Asked, split-link.Learnt, wide.Asked, wide.Learnt, reach-below t, reach.Post) (reach-at t) reach.Post
+reach-slice-write-groups-2 : (t : ℕ) → reach-lts.Need-slice-write-groups-2
+    (split-link.Asked, split-link.Learnt, wide.Asked, wide.Learnt, reach-below t, reach.Post) (reach-at t) reach.Post
 reach-slice-write-groups-2 t c = simp length-set (omega (arith, split t c .1))
 
-reach-reach-requires : (t : ℕ) → reach-lts.Need-reach-requires (split-link.Asked, split-link.Learnt, wide.Asked, wide.Learnt, reach-below t, reach.Post) (reach-at t) reach.Post
+reach-reach-requires : (t : ℕ) → reach-lts.Need-reach-requires
+    (split-link.Asked, split-link.Learnt, wide.Asked, wide.Learnt, reach-below t, reach.Post) (reach-at t) reach.Post
 reach-reach-requires t c =
     let p = split t (c .before) in
     let st = c .before .before .before .before .before .before .before .before .before .before .before in
     λ κs. (rw (← st .pre .0) (fewer (st .args .groups .now) (st .args .g) _ _ (p .0) (p .1) (p .2)), simp length-set (st .pre .1))
 
-reach-same-length : (t : ℕ) → reach-lts.Need-same-length (split-link.Asked, split-link.Learnt, wide.Asked, wide.Learnt, reach-below t, reach.Post) (reach-at t) reach.Post
+reach-same-length : (t : ℕ) → reach-lts.Need-same-length
+    (split-link.Asked, split-link.Learnt, wide.Asked, wide.Learnt, reach-below t, reach.Post) (reach-at t) reach.Post
 reach-same-length t c = c .before .before .reach .kept .0 ∙ simp length-set
 
-reach-returns : (t : ℕ) → reach-lts.Need-returns (split-link.Asked, split-link.Learnt, wide.Asked, wide.Learnt, reach-below t, reach.Post) (reach-at t) reach.Post
+reach-returns : (t : ℕ) → reach-lts.Need-returns
+    (split-link.Asked, split-link.Learnt, wide.Asked, wide.Learnt, reach-below t, reach.Post) (reach-at t) reach.Post
 reach-returns t c =
     let w = c .before .before .before .before in
     let p = split t w in
     let q = w .before .before .before .before in
-    reached-more _ _ _ _ (p .0) (p .1) (p .2) _ _ _ _ (q .if1 .taken) (w .before .before .wide .ensures) (w .wide2 .ensures) _ (c .before .before .reach .ensures)
+    reached-more _ _ _ _ (p .0) (p .1) (p .2) _ _ _ _ (q .if1 .taken) (w .before .before .wide .ensures) (w .wide2 .ensures) _
+    (c .before .before .reach .ensures)
 
 reach-same-length-2 : (t : ℕ) → reach-lts.Need-same-length-2 (split-link.Asked, split-link.Learnt, wide.Asked, wide.Learnt, reach-below t, reach.Post)
     (reach-at t) reach.Post
@@ -115,6 +99,6 @@ reach-returns-2 t c =
 pub +reach-spec : {M : Type 1} → statement M
 +reach-spec =
     close μ-reach (λ t. reach-lts.spec (split-link.Asked, split-link.Learnt, wide.Asked, wide.Learnt, reach-below t, reach.Post) (reach-at t) reach.Post
-    (reach-split-link-requires t) (reach-mul-wide t) (reach-shared-slice-read-wide t) (reach-wide-requires t) (reach-mul-wide-2 t)
-    (reach-shared-slice-read-wide-2 t) (reach-wide-requires-2 t) (reach-mul-groups t) (reach-slice-write-groups t) (reach-mul-groups-2 t)
+    (reach-split-link-requires t) (λ c. search needs) (λ c. search needs) (λ c κs. search needs) (λ c. search needs)
+    (λ c. search needs) (λ c κs. search needs) (reach-mul-groups t) (reach-slice-write-groups t) (reach-mul-groups-2 t)
     (reach-slice-write-groups-2 t) (reach-reach-requires t) (reach-same-length t) (reach-returns t) (reach-same-length-2 t) (reach-returns-2 t))
