@@ -3,18 +3,17 @@ use Prim.Native.Nat.{ℕ, _+_, _*_, _≤_, _<_}
 use native.Mathlib.Omega.{arith}
 use mathlib.Core.Path.{_≡_, refl, sym, ap, _∙_, subst}
 use mathlib.Core.Logic.{inl, inr}
-use mathlib.Core.Bool.{Bool, true, false}
+use mathlib.Core.Bool.{true}
 use mathlib.Core.List.{List, _++_, map}
 use lib.Ieee.{Float}
 use lib.ListN.{length, take, drop, set}
 use lib.Seq.{paste, take-paste, length-paste, take-length, take-all}
-use Rattle.number.specs.Readers.{Read, got, times}
+use Rattle.number.specs.Readers.{got, times}
 use Rattle.number.specs.Numbers.{readNumber}
 use Rattle.coordinate.specs.declared.Position.{Position}
 use Rattle.coordinate.specs.Positions.{positionAt}
 use Rattle.bends.specs.Bends.{positionsAt}
 use Rattle.bends.proofs.Laws.{positions-length}
-use Rattle.complex.specs.Cells.{LiveCell}
 use Rattle.complex.specs.Decode.{readCycle}
 use Rattle.complex.specs.File.{readCell, readFile}
 use Rattle.store.specs.declared.Shape.{Shape}

@@ -1,6 +1,6 @@
 -- `bends_taken` meets its contract. Assumes nothing.
 use borrow.Author.Needs.{needs}
-use mathlib.Core.Path.{refl, sym, _∙_}
+use mathlib.Core.Path.{sym, _∙_}
 use Rattle.sound.proofs.Testing.{and-true, and-false}
 use Rattle.call_load.proofs.Bare.{taken-put, taken-looked}
 use Rattle.call_load.proofs.bends_taken.Statement.{statement}

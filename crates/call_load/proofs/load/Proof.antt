@@ -1,9 +1,7 @@
 -- `load` meets its contract. Assumes nothing.
 use borrow.Author.Needs.{needs}
 use mathlib.Core.Path.{refl}
-use denote.Ref.{now}
 use Rattle.file_read.proofs.Verdict.{cells-over}
-use Rattle.call_load.specs.Loads.{CountsIn}
 use Rattle.call_load.proofs.Loads.{counts-some, counts-none}
 use Rattle.call_load.proofs.Bare.{bare-yes, bare-no, rows-in}
 use Rattle.call_load.proofs.load.Statement.{statement}

@@ -87,17 +87,20 @@ bends-taken-requires c κs =
 
 put-cell-requires : tie.Need-put-cell-requires Inv-loop μ-loop
 put-cell-requires c κs =
-    let test = c .before .before .before .before .before .before .before .before .before .before .before .before .before .before .before .before .before .before .before .before .before .before in
+    let b = c .before .before .before .before .before .before .before .before in
+    let test = b .before .before .before .before .before .before .before .before .before .before .before .before .before .before in
     omega (arith, test .loop-test .taken, begun (test .before .before) .pre .1)
 
 add-i : tie.Need-add-i Inv-loop μ-loop
 add-i c =
-    let test = c .before .before .before .before .before .before .before .before .before .before .before .before .before .before .before .before .before .before .before .before .before .before .before in
+    let b = c .before .before .before .before .before .before .before .before .before in
+    let test = b .before .before .before .before .before .before .before .before .before .before .before .before .before .before in
     omega (arith, test .loop-test .taken, begun (test .before .before) .pre .1)
 
 loop-less : tie.Need-loop-less Inv-loop μ-loop
 loop-less c =
-    let test = c .before .before .before .before .before .before .before .before .before .before .before .before .before .before .before .before .before .before .before .before .before .before .before in
+    let b = c .before .before .before .before .before .before .before .before .before in
+    let test = b .before .before .before .before .before .before .before .before .before .before .before .before .before .before in
     omega (arith, test .loop-test .taken)
 
 loop-again : tie.Need-loop-again Inv-loop μ-loop

@@ -1,6 +1,5 @@
 -- `open` meets its contract: question 10 is question 1 of what was loaded. Assumes nothing.
 use borrow.Author.Needs.{needs}
-use denote.Ref.{now}
 use Rattle.call_read.proofs.Judged.{loaded-some, loaded-none, no-file, opened-in}
 use Rattle.call_read.proofs.open.Statement.{statement}
 use Rattle.call_read.proofs.open.Tie as tie

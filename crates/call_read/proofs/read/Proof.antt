@@ -32,8 +32,8 @@ returns-2 c =
     let l = c .before .before .before in
     let i = l .before .before .before .before .before .before .before .before .before .before .before .before .before in
     let r = i .before in
-    read-in (now (r .before .before .before .before .args .bytes)) _ (loaded-some _ _ _ _ (l .load .result) (l .load .ensures .0) _ _ _ (c .before .free .given .1)) _
-    (sym (r .readable .ensures .0) ∙ i .if1 .taken)
+    let S = loaded-some _ _ _ _ (l .load .result) (l .load .ensures .0) _ _ _ (c .before .free .given .1) in
+    read-in (now (r .before .before .before .before .args .bytes)) _ S _ (sym (r .readable .ensures .0) ∙ i .if1 .taken)
 
 returns-3 : tie.Need-returns-3
 returns-3 c =
