@@ -48,35 +48,22 @@ fn left(
     ensures { λ r. ⌜ Built (leftCycles k (cellAt (sheetOf (heldBy (entry next count ids kinds starts ends bends counts px py cycles steps bx by)))) (useAt e u) (useAt e w)) (now (numbers .exit)) r (now (places .exit)) ⌝ }
 {
     let p = kernel_places::place_of(count, ids, counts, cycles, t, u.face, u.cycle);
-    let q = kernel_places::place_of(count, ids, counts, cycles, t, w.face, w.cycle);
     let v = kernel_places::head_of(count, ids, starts, ends, e, u.back);
-    let x = kernel_places::head_of(count, ids, starts, ends, e, w.back);
     let s = u.step;
     let z = w.step;
     match k {
-        Between::TwoFaces => kernel_paths::merged_cycles(
-            cycles,
-            steps,
-            p,
-            s,
-            q,
-            z,
-            v,
-            numbers,
-            places,
-        ),
-        Between::OneCycle => kernel_paths::parted_cycles(
-            cycles,
-            steps,
-            p,
-            s,
-            z,
-            v,
-            x,
-            numbers,
-            places,
-        ),
-        Between::Rings => kernel_paths::ringed_cycles(cycles, steps, p, q, numbers, places),
+        Between::TwoFaces => {
+            let q = kernel_places::place_of(count, ids, counts, cycles, t, w.face, w.cycle);
+            kernel_paths::merged_cycles(cycles, steps, p, s, q, z, v, numbers, places)
+        }
+        Between::OneCycle => {
+            let x = kernel_places::head_of(count, ids, starts, ends, e, w.back);
+            kernel_paths::parted_cycles(cycles, steps, p, s, z, v, x, numbers, places)
+        }
+        Between::Rings => {
+            let q = kernel_places::place_of(count, ids, counts, cycles, t, w.face, w.cycle);
+            kernel_paths::ringed_cycles(cycles, steps, p, q, numbers, places)
+        }
     }
 }
 

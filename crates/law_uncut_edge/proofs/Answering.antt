@@ -201,7 +201,8 @@ module _ (d : Drawing) (z : Sizes d) (t : T (soundDrawing d)) (ix : Index) (x : 
   takes-by =
       record {
         takes =
-            takes-few d z t ix x e this h may-this no-new (lessens k (sheetOf d) e (useAt e u) (useAt e w)) (one-more k (sheetOf d) e (useAt e u) (useAt e w)) o eo;
+            takes-few d z t ix x e this h may-this no-new (lessens k (sheetOf d) e (useAt e u) (useAt e w))
+            (one-more k (sheetOf d) e (useAt e u) (useAt e w)) o eo;
       }
 
   -- what `late_no` says of so many cycles more

@@ -140,24 +140,19 @@ module _ (d : Drawing) (z : Sizes d) (ix : Index) (e : ℕ) (k : Between) (u w :
           face = face-of (sheetOf d) e (pair .edge) (useAt e u) (pair .first);
         }
 
--- ---- the cycles of both uses stand at p and q, and their steps end at v and x
-pub record Stands (d : Drawing) (ix : Index) (e : ℕ) (k : Between) (u w : Use) (p q : Place) (v x : ℕ) : Type 0 where
+-- ---- the cycle of the first use stands at p, and its step ends at v
+pub record Stands (d : Drawing) (ix : Index) (e : ℕ) (k : Between) (u w : Use) (p : Place) (v : ℕ) : Type 0 where
   pub sizes : Sizes d
   pub is : Case d ix e (caseOf k (useAt e u) (useAt e w))
   pub first : CycleFound d (u .face) (u .cycle) p
-  pub second : CycleFound d (w .face) (w .cycle) q
-  pub firstHead : v ≡ headBy ix (d .count) e (u .back)
-  pub secondHead : x ≡ headBy ix (d .count) e (w .back)
+  pub head : v ≡ headBy ix (d .count) e (u .back)
 
-module _ {d : Drawing} {ix : Index} {e : ℕ} {k : Between} {u w : Use} {p q : Place} {v x : ℕ} (f : Stands d ix e k u w p q v x) where
+module _ {d : Drawing} {ix : Index} {e : ℕ} {k : Between} {u w : Use} {p : Place} {v : ℕ} (f : Stands d ix e k u w p v) where
   abbrev c : Case d ix e (caseOf k (useAt e u) (useAt e w))
   c = f .is
 
   abbrev gp : CycleFound d (u .face) (u .cycle) p
   gp = f .first
-
-  abbrev gq : CycleFound d (w .face) (w .cycle) q
-  gq = f .second
 
   abbrev used : Pair (sheetOf d) e k (useAt e u) (useAt e w)
   used = pair d (f .sizes) ix e k u w (f .is)
@@ -166,16 +161,10 @@ module _ {d : Drawing} {ix : Index} {e : ℕ} {k : Between} {u w : Use} {p q : P
   ks-left = leftCycles k (cellAt (sheetOf d)) (useAt e u) (useAt e w)
 
   hv : v ≡ headOf (cellAt (sheetOf d)) (record { edge = e; backward = u .back })
-  hv = head-is (looks d (f .sizes) ix (c .index) (c .sound)) e (u .back) v (f .firstHead)
-
-  hx : x ≡ headOf (cellAt (sheetOf d)) (record { edge = e; backward = w .back })
-  hx = head-is (looks d (f .sizes) ix (c .index) (c .sound)) e (w .back) x (f .secondHead)
+  hv = head-is (looks d (f .sizes) ix (c .index) (c .sound)) e (u .back) v (f .head)
 
   here : u .step < p .count
   here = step-in d (f .sizes) ix e (c .sound) (c .index) (used .edge) u (used .first) p gp
-
-  there : w .step < q .count
-  there = step-in d (f .sizes) ix e (c .sound) (c .index) (used .edge) w (used .second) q gq
 
   -- lists of cycles as they are built
   module _ (ks : List Cycle) (is : ks ≡ ks-left) {n m : ℕ} (t : Takes n m (uncutResult (sheetOf d) e (caseOf k (useAt e u) (useAt e w)))) where
@@ -185,21 +174,24 @@ module _ {d : Drawing} {ix : Index} {e : ℕ} {k : Between} {u w : Use} {p q : P
     few-as : Few ks
     few-as = few-of ks room-as
 
-  merged-is : k ≡ TwoFaces → mergedList (d .cycles) (d .steps) p (u .step) q (w .step) v ≡ ks-left
-  merged-is ek =
+  -- and that of the second at q
+  merged-is : (q : Place) → CycleFound d (w .face) (w .cycle) q → k ≡ TwoFaces → mergedList (d .cycles) (d .steps) p (u .step) q (w .step) v ≡ ks-left
+  merged-is q gq ek =
       let sp = found-steps d (u .face) (u .cycle) p gp in
       let sq = found-steps d (w .face) (w .cycle) q gq in
-      (λ i. set (gp .list i) (gp .cycle i) (pathOr (hv i) (followingIn (u .step) (sp i) ++ followingIn (w .step) (sq i))) ++ without (one (gq .cycle i)) 0 (gq .list i))
+      (λ i. set (gp .list i) (gp .cycle i) (pathOr (hv i) (followingIn (u .step) (sp i) ++ followingIn (w .step) (sq i)))
+      ++ without (one (gq .cycle i)) 0 (gq .list i))
       ∙ ap (λ (j : Between). leftCycles j (cellAt (sheetOf d)) (useAt e u) (useAt e w)) (sym ek)
 
-  pub merged-asks : k ≡ TwoFaces → {n m : ℕ} → Takes n m (uncutResult (sheetOf d) e (caseOf k (useAt e u) (useAt e w)))
+  pub merged-asks : (q : Place) → CycleFound d (w .face) (w .cycle) q → k ≡ TwoFaces → {n m : ℕ} → Takes n m (uncutResult (sheetOf d) e (caseOf k (useAt e u) (useAt e w)))
       → Merging (d .cycles) (d .steps) p (u .step) q (w .step) v × RoomFor n m (mergedList (d .cycles) (d .steps) p (u .step) q (w .step) v)
-  merged-asks ek t =
-      (record { first = gp .lies; second = gq .lies; here = here; there = there; room = few-as _ (merged-is ek) t }, room-as _ (merged-is ek) t)
+  merged-asks q gq ek t =
+      let there = step-in d (f .sizes) ix e (c .sound) (c .index) (used .edge) w (used .second) q gq in
+      (record { first = gp .lies; second = gq .lies; here = here; there = there; room = few-as _ (merged-is q gq ek) t }, room-as _ (merged-is q gq ek) t)
 
-  pub merged-built : k ≡ TwoFaces → {counts : List ℕ} {t : Taken} {steps : List ℕ}
+  pub merged-built : (q : Place) → CycleFound d (w .face) (w .cycle) q → k ≡ TwoFaces → {counts : List ℕ} {t : Taken} {steps : List ℕ}
       → Built (mergedList (d .cycles) (d .steps) p (u .step) q (w .step) v) counts t steps → Built ks-left counts t steps
-  merged-built ek = built-as (merged-is ek)
+  merged-built q gq ek = built-as (merged-is q gq ek)
 
   alike : k ≡ OneCycle → (u .face ≡ w .face) × (u .cycle ≡ w .cycle)
   alike ek = subst (λ (j : Between). Alike j (useAt e u) (useAt e w)) ek (used .alike)
@@ -214,31 +206,34 @@ module _ {d : Drawing} {ix : Index} {e : ℕ} {k : Between} {u w : Use} {p q : P
         list = gp .list ∙ ap (λ (g : ℕ). cyclesOf (cellAt (sheetOf d) g)) (alike ek .0);
       })
 
-  parted-is : k ≡ OneCycle → partedList (d .cycles) (d .steps) p (u .step) (w .step) v x ≡ ks-left
-  parted-is ek =
+  -- and the step of the second ends at x
+  parted-is : (x : ℕ) → x ≡ headBy ix (d .count) e (w .back) → k ≡ OneCycle → partedList (d .cycles) (d .steps) p (u .step) (w .step) v x ≡ ks-left
+  parted-is x ex ek =
+      let hx = head-is (looks d (f .sizes) ix (c .index) (c .sound)) e (w .back) x ex in
       let sp = found-steps d (u .face) (u .cycle) p gp in
       let sw = sp ∙ ap₂ (λ (g n : ℕ). stepsOf (getD (cyclesOf (cellAt (sheetOf d) g)) n noCycle)) (alike ek .0) (alike ek .1) in
-      (λ i. set (gp .list i) (gp .cycle i) (pathOr (hv i) (stretch (suc (u .step)) (w .step) (sp i))) ++ one (pathOr (hx i) (stretch (suc (w .step)) (u .step) (sw i))))
+      (λ i. set (gp .list i) (gp .cycle i) (pathOr (hv i) (stretch (suc (u .step)) (w .step) (sp i)))
+      ++ one (pathOr (hx i) (stretch (suc (w .step)) (u .step) (sw i))))
       ∙ ap (λ (j : Between). leftCycles j (cellAt (sheetOf d)) (useAt e u) (useAt e w)) (sym ek)
 
-  pub parted-asks : k ≡ OneCycle → {n m : ℕ} → Takes n m (uncutResult (sheetOf d) e (caseOf k (useAt e u) (useAt e w)))
+  pub parted-asks : (x : ℕ) → x ≡ headBy ix (d .count) e (w .back) → k ≡ OneCycle → {n m : ℕ} → Takes n m (uncutResult (sheetOf d) e (caseOf k (useAt e u) (useAt e w)))
       → Parting (d .cycles) (d .steps) p (u .step) (w .step) v x × RoomFor n m (partedList (d .cycles) (d .steps) p (u .step) (w .step) v x)
-  parted-asks ek t =
-      (record { first = gp .lies; here = here; there = there-too ek; room = few-as _ (parted-is ek) t }, room-as _ (parted-is ek) t)
+  parted-asks x ex ek t =
+      (record { first = gp .lies; here = here; there = there-too ek; room = few-as _ (parted-is x ex ek) t }, room-as _ (parted-is x ex ek) t)
 
-  pub parted-built : k ≡ OneCycle → {counts : List ℕ} {t : Taken} {steps : List ℕ}
+  pub parted-built : (x : ℕ) → x ≡ headBy ix (d .count) e (w .back) → k ≡ OneCycle → {counts : List ℕ} {t : Taken} {steps : List ℕ}
       → Built (partedList (d .cycles) (d .steps) p (u .step) (w .step) v x) counts t steps → Built ks-left counts t steps
-  parted-built ek = built-as (parted-is ek)
+  parted-built x ex ek = built-as (parted-is x ex ek)
 
-  ringed-is : k ≡ Rings → ringedList (d .cycles) (d .steps) p q ≡ ks-left
-  ringed-is ek =
+  ringed-is : (q : Place) → CycleFound d (w .face) (w .cycle) q → k ≡ Rings → ringedList (d .cycles) (d .steps) p q ≡ ks-left
+  ringed-is q gq ek =
       (λ i. without (one (gp .cycle i)) 0 (gp .list i) ++ without (one (gq .cycle i)) 0 (gq .list i))
       ∙ ap (λ (j : Between). leftCycles j (cellAt (sheetOf d)) (useAt e u) (useAt e w)) (sym ek)
 
-  pub ringed-asks : k ≡ Rings → {n m : ℕ} → Takes n m (uncutResult (sheetOf d) e (caseOf k (useAt e u) (useAt e w)))
+  pub ringed-asks : (q : Place) → CycleFound d (w .face) (w .cycle) q → k ≡ Rings → {n m : ℕ} → Takes n m (uncutResult (sheetOf d) e (caseOf k (useAt e u) (useAt e w)))
       → Ringing (d .cycles) (d .steps) p q × RoomFor n m (ringedList (d .cycles) (d .steps) p q)
-  ringed-asks ek t = (record { first = gp .lies; second = gq .lies; room = few-as _ (ringed-is ek) t }, room-as _ (ringed-is ek) t)
+  ringed-asks q gq ek t = (record { first = gp .lies; second = gq .lies; room = few-as _ (ringed-is q gq ek) t }, room-as _ (ringed-is q gq ek) t)
 
-  pub ringed-built : k ≡ Rings → {counts : List ℕ} {t : Taken} {steps : List ℕ}
+  pub ringed-built : (q : Place) → CycleFound d (w .face) (w .cycle) q → k ≡ Rings → {counts : List ℕ} {t : Taken} {steps : List ℕ}
       → Built (ringedList (d .cycles) (d .steps) p q) counts t steps → Built ks-left counts t steps
-  ringed-built ek = built-as (ringed-is ek)
+  ringed-built q gq ek = built-as (ringed-is q gq ek)

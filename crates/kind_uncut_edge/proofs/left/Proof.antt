@@ -2,10 +2,12 @@
 use borrow.Author.Needs.{needs}
 use Rattle.store.specs.declared.Drawing.{Drawing}
 use Rattle.store.specs.declared.Index.{Index}
-use Rattle.law_uncut_edge.specs.Needs.{Has}
+use Rattle.rows_stretches.specs.declared.Place.{Place}
+use Rattle.law_uncut_edge.specs.Needs.{Has, CycleFound}
 use Rattle.law_uncut_edge.proofs.Results.{Stands, has-first, has-second, merged-asks, merged-built, parted-asks, parted-built, ringed-asks, ringed-built}
 use Rattle.lent.specs.Arrays.{Arrays, heldBy, rowsBy, lent}
 use Rattle.lent.proofs.Sums.{ready-sizes}
+use Rattle.kernel_places.specs.Standing.{HasBy, FoundBy}
 use Rattle.kernel_places.proofs.Standing.{has-by, found-by, rows-by}
 use Rattle.kind_uncut_edge.proofs.left.Statement.{statement}
 use Rattle.kind_uncut_edge.proofs.left.Tie as tie
@@ -29,24 +31,26 @@ module _ (s : tie.Start) where
   second : Has held rows (s .args .w .face) (s .args .w .cycle)
   second = has-second held (ready-sizes (arrays s) (s .args .t) (s .pre .0)) rows (s .args .e) (s .args .k) (s .args .u) (s .args .w) (s .pre .1 .0)
 
--- what is known once they and the ends of the steps are found
-abbrev start : tie.After-head-of2 → tie.Start
-start h = h .before .before .before .before .before .before
+  -- where the second stands
+  there : (q : Place)
+      → FoundBy (s .args .count) (s .args .ids .now) (s .args .counts .now) (s .args .cycles .now) (s .args .t) (s .args .w .face) (s .args .w .cycle) q
+      → CycleFound held (s .args .w .face) (s .args .w .cycle) q
+  there = found-by (arrays s) (s .args .t) (s .pre .0) (s .args .w .face) (s .args .w .cycle) second
 
-stands : (h : tie.After-head-of2) → let s = start h in
-    Stands (held s) (rows s) (s .args .e) (s .args .k) (s .args .u) (s .args .w)
-    (h .before .before .before .place-of .result) (h .before .before .place-of2 .result) (h .before .head-of .result) (h .head-of2 .result)
+-- what is known once the first cycle and the end of its step are found
+abbrev start : tie.After-head-of → tie.Start
+start h = h .before .before .before .before
+
+stands : (h : tie.After-head-of) → let s = start h in
+    Stands (held s) (rows s) (s .args .e) (s .args .k) (s .args .u) (s .args .w) (h .before .place-of .result) (h .head-of .result)
 stands h =
     let s = start h in
-    let p = h .before .before .before .place-of in
-    let q = h .before .before .place-of2 in
+    let p = h .before .place-of in
     record {
       sizes = ready-sizes (arrays s) (s .args .t) (s .pre .0);
       is = s .pre .1 .0;
       first = found-by (arrays s) (s .args .t) (s .pre .0) (s .args .u .face) (s .args .u .cycle) (first s) (p .result) (p .ensures);
-      second = found-by (arrays s) (s .args .t) (s .pre .0) (s .args .w .face) (s .args .w .cycle) (second s) (q .result) (q .ensures);
-      firstHead = h .before .head-of .ensures;
-      secondHead = h .head-of2 .ensures;
+      head = h .head-of .ensures;
     }
 
 place-of-requires : tie.Need-place-of-requires
@@ -54,16 +58,21 @@ place-of-requires c κs =
     let s = c .before .before in
     has-by (arrays s) (s .args .t) (s .pre .0) (s .args .u .face) (s .args .u .cycle) (first s)
 
-place-of-requires-2 : tie.Need-place-of-requires-2
-place-of-requires-2 c κs =
-    let s = c .before .before .before in
-    has-by (arrays s) (s .args .t) (s .pre .0) (s .args .w .face) (s .args .w .cycle) (second s)
-
 head-of-requires : tie.Need-head-of-requires
-head-of-requires c κs = let s = c .before .before .before .before in rows-by (arrays s) (s .args .t) (s .pre .0)
+head-of-requires c κs = let s = c .before .before .before in rows-by (arrays s) (s .args .t) (s .pre .0)
+
+second-asks : (s : tie.Start)
+    → HasBy (s .args .count) (s .args .ids .now) (s .args .counts .now) (s .args .cycles .now) (s .args .t) (s .args .w .face) (s .args .w .cycle)
+second-asks s = has-by (arrays s) (s .args .t) (s .pre .0) (s .args .w .face) (s .args .w .cycle) (second s)
+
+place-of-requires-2 : tie.Need-place-of-requires-2
+place-of-requires-2 c κs = second-asks (start (c .before .before))
 
 head-of-requires-2 : tie.Need-head-of-requires-2
-head-of-requires-2 c κs = let s = c .before .before .before .before .before in rows-by (arrays s) (s .args .t) (s .pre .0)
+head-of-requires-2 c κs = let s = start (c .before .before) in rows-by (arrays s) (s .args .t) (s .pre .0)
+
+place-of-requires-3 : tie.Need-place-of-requires-3
+place-of-requires-3 c κs = second-asks (start (c .before .before))
 
 enum-told : tie.Need-enum-told
 enum-told c = search needs
@@ -95,50 +104,57 @@ same-length-6 c = search needs
 -- ---- two faces, one cycle, rings
 merged-cycles-requires : tie.Need-merged-cycles-requires
 merged-cycles-requires c κs =
-    let m = c .before .before in
-    merged-asks (stands (m .before .before)) (m .enum-told .given .1) (start (m .before .before) .pre .1 .1)
+    let q = c .before .before in
+    let h = q .before .before .before in
+    merged-asks (stands h) _ (there (start h) _ (q .place-of2 .ensures)) (q .before .enum-told .given .1) (start h .pre .1 .1)
 
 parted-cycles-requires : tie.Need-parted-cycles-requires
 parted-cycles-requires c κs =
-    let m = c .before .before in
-    parted-asks (stands (m .before .before)) (m .enum-told2 .given .1) (start (m .before .before) .pre .1 .1)
+    let q = c .before .before in
+    let h = q .before .before .before in
+    parted-asks (stands h) _ (q .head-of2 .ensures) (q .before .enum-told2 .given .1) (start h .pre .1 .1)
 
 ringed-cycles-requires : tie.Need-ringed-cycles-requires
 ringed-cycles-requires c κs =
-    let m = c .before .before in
-    ringed-asks (stands (m .before .before)) (m .enum-told3 .given .1) (start (m .before .before) .pre .1 .1)
+    let q = c .before .before in
+    let h = q .before .before .before in
+    ringed-asks (stands h) _ (there (start h) _ (q .place-of3 .ensures)) (q .before .enum-told3 .given .1) (start h .pre .1 .1)
 
 returns : tie.Need-returns
 returns c =
     let r = c .before .before .before .before in
-    let m = r .before .before .before in
-    merged-built (stands (m .before .before)) (m .enum-told .given .1) (r .merged-cycles .ensures)
+    let q = r .before .before .before in
+    let h = q .before .before .before in
+    merged-built (stands h) _ (there (start h) _ (q .place-of2 .ensures)) (q .before .enum-told .given .1) (r .merged-cycles .ensures)
 
 returns-2 : tie.Need-returns-2
 returns-2 c =
     let r = c .before .before .before .before in
-    let m = r .before .before .before in
-    parted-built (stands (m .before .before)) (m .enum-told2 .given .1) (r .parted-cycles .ensures)
+    let q = r .before .before .before in
+    let h = q .before .before .before in
+    parted-built (stands h) _ (q .head-of2 .ensures) (q .before .enum-told2 .given .1) (r .parted-cycles .ensures)
 
 returns-3 : tie.Need-returns-3
 returns-3 c =
     let r = c .before .before .before .before in
-    let m = r .before .before .before in
-    ringed-built (stands (m .before .before)) (m .enum-told3 .given .1) (r .ringed-cycles .ensures)
+    let q = r .before .before .before in
+    let h = q .before .before .before in
+    ringed-built (stands h) _ (there (start h) _ (q .place-of3 .ensures)) (q .before .enum-told3 .given .1) (r .ringed-cycles .ensures)
 
 pub left-spec : {M : Type 1} → statement M
 left-spec =
     tie.close
     (tie.spec
     place-of-requires
-    place-of-requires-2
     head-of-requires
-    head-of-requires-2
     enum-told
+    place-of-requires-2
     merged-cycles-requires
     enum-told-2
+    head-of-requires-2
     parted-cycles-requires
     enum-told-3
+    place-of-requires-3
     ringed-cycles-requires
     same-length
     same-length-2

@@ -24,6 +24,10 @@ listed g = g .before .before .before .before .before
 abbrev start : tie.After-gone-with → tie.Start
 start g = listed g .before .before .before .before .before .before .before .before .before .before .before .before .before .before .before .before .before
 
+-- where both rows are known
+abbrev rowed : tie.After-reface → tie.After-find2
+rowed c = c .before .before .before .before .before .before .before .before .before .before .before .before .before .before .before
+
 find-asks : (s : tie.Start) → (arrays s .count ≤ 256) × ((length (arrays s .ids) ≡ 256) × Rising (take (arrays s .count) (arrays s .ids)))
 find-asks s =
     let y = s .pre .0 in
@@ -50,20 +54,23 @@ reface-requires c κs =
     let a = arrays s in
     let z = ready-sizes a (s .args .t) (s .pre .0) in (
       going (heldBy a) z (rowsBy a) _ _ _ _ _ _
-          (left-going (heldBy a) z (rowsBy a) (s .args .e) (s .args .k) (s .args .u) (s .args .w) (s .pre .1 .0) (listed g .left .ensures) _ (g .gone-with .ensures))
+          (left-going (heldBy a) z (rowsBy a) (s .args .e) (s .args .k) (s .args .u) (s .args .w) (s .pre .1 .0)
+          (listed g .left .ensures) _ (g .gone-with .ensures))
           (x .find .result) (y .find2 .result) (x .find .ensures) (y .find2 .ensures),
       (s .pre .0 .long, ready-rows a (s .args .t) (s .pre .0)),
     )
 
 same-length : tie.Need-same-length
-same-length c = let h = listed (c .before .before .before .before .before .before .before .before .before .before .before .before .before .before .before .before .before .before .before) .left .kept .1 .1 .1 .1 .1 .1 .1 .1 .1 .1 .1 .1 .1 .1 .1 .1 .1 .1 .1 .0 in search (needs, h)
+same-length c =
+    let h = listed (rowed c .before .before .before .before) .left .kept .1 .1 .1 .1 .1 .1 .1 .1 .1 .1 .1 .1 .1 .1 .1 .1 .1 .1 .1 .0 in
+    search (needs, h)
 
 same-length-2 : tie.Need-same-length-2
 same-length-2 c = search needs
 
 returns : tie.Need-returns
 returns c =
-    let g = c .before .before .before .before .before .before .before .before .before .before .before .before .before .before .before .before .before .before .before in
+    let g = rowed c .before .before .before .before in
     let s = start g in
     let a = arrays s in
     after

@@ -30,7 +30,9 @@ slice-aggregate-take-out-4 : tie.Need-slice-aggregate-take-out-4
 slice-aggregate-take-out-4 c = search needs
 
 take-out-requires-2 : tie.Need-take-out-requires-2
-take-out-requires-2 c κs = let p = c .before .before .before .before .before .before .before .before .before .before .before .before .before .before .before .before .pre in (p .0, (p .1 .0, large (p .1 .0 .room)))
+take-out-requires-2 c κs =
+    let p = c .before .before .before .before .before .before .before .before .before .before .before .before .before .before .before .before .pre in
+    (p .0, (p .1 .0, large (p .1 .0 .room)))
 
 returns-2 : tie.Need-returns-2
 returns-2 c = c .before .before .take-out2 .ensures
