@@ -1,9 +1,9 @@
+// The Euler number of sound arrays.
 ghost use mathlib.Core.Path.{_≡_};
+ghost use lib.Dec.{T};
 ghost use Rattle.complex.specs.Euler.{euler};
 ghost use Rattle.store.specs.View.{sheetOf};
-ghost use Rattle.lent.specs.Arrays.{heldBy, lent, entry};
-ghost use Rattle.lent.specs.Replies.{Ready};
-use answer::Totals;
+ghost use Rattle.lent.specs.Arrays.{heldBy, soundArrays, lent, entry};
 
 // The Euler number: vertices minus open edges plus 2 - k for each face of k cycles.
 pub fn euler(
@@ -21,10 +21,25 @@ pub fn euler(
     steps: &[u32; 2048],
     bx: &[f64; 2048],
     by: &[f64; 2048],
-    t: Totals,
 ) -> i32
-    requires { ⌜ Ready (lent next count ids kinds starts ends bends counts px py cycles steps bx by) t ⌝ }
+    requires { ⌜ T (soundArrays (lent next count ids kinds starts ends bends counts px py cycles steps bx by)) ⌝ }
     ensures { λ r. ⌜ r ≡ euler (sheetOf (heldBy (entry next count ids kinds starts ends bends counts px py cycles steps bx by)) .cells) ⌝ }
 {
+    lent::known(
+        next,
+        count,
+        ids,
+        kinds,
+        starts,
+        ends,
+        bends,
+        counts,
+        px,
+        py,
+        cycles,
+        steps,
+        bx,
+        by,
+    );
     rows_euler::euler_rows(kinds, counts, count)
 }

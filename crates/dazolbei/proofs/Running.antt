@@ -33,9 +33,9 @@ module _ (a : Arrays) (script lines : List ℕ) where
         ap nine (sym q)
         ∙ sym (ap (λ (x : Bool). cond x (blockRun (sheetOf (heldBy a)) script lines) (blockAs 1 lines 0 (sheetOf (heldBy a)))) (true-of (soundArrays a) w))
 
-    pub run-short : linesFor (length script) (length lines) ≡ false → RunIn a script lines a lines 9 0
+    pub run-short : (n : ℕ) → (n ≡ 9) × (linesFor (length script) (length lines) ≡ false) → RunIn a script lines a lines n 0
     unfolding nine
-    run-short q = stays 9 (asked false q)
+    run-short n q = stays n (ap (λ (x : ℕ). blockAs x lines 0 (sheetOf (heldBy a))) (q .0) ∙ asked false (q .1))
 
     pub run-done : linesFor (length script) (length lines) ≡ true → (b : Arrays) (exit : List ℕ) (n : ℕ)
         → RanIn a script lines b exit n → RunIn a script lines b exit 0 n

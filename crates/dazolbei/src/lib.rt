@@ -8,7 +8,7 @@ ghost use Rattle.call_read.specs.Taken.{ReadIn};
 ghost use Rattle.call_asked.specs.Entries.{Begun, restOn, starOn, eulerOn, writeOn};
 ghost use Rattle.entry_command.specs.Commands.{CommandedIn};
 ghost use Rattle.entry_files.specs.Calls.{filledAs, starAt, eulerAs, eulerAt, again};
-ghost use Rattle.entry_files.specs.Runs.{runAs, runAt};
+ghost use Rattle.entry_file_run.specs.Runs.{runAs, runAt};
 ghost use Rattle.dazolbei.specs.Blocks.{lineAs, RunIn};
 use lent_sound::Walked;
 
@@ -59,7 +59,7 @@ pub extern "C" fn dz_run(
 ) -> u32
     ensures { λ r. ⌜ runAs r (now (lines .exit)) (now (out .exit)) (now (commands .exit)) (now (bytes .exit)) ≡ runAt (now (file .entry)) (now (script .entry)) (now (lines .entry)) (now (out .entry)) ⌝ }
 {
-    entry_files::run(file, script, lines, out, commands, bytes)
+    entry_file_run::run(file, script, lines, out, commands, bytes)
 }
 
 // ---- on a caller's block: a next id, a number of cells and twelve arrays, of any contents
@@ -242,8 +242,9 @@ pub extern "C" fn dz_block_run(
     ) else {
         return 1;
     };
-    if !entry_room::has_lines(script.len(), lines.len()) {
-        return 9;
+    let no = entry_room::lines_no(script.len(), lines.len());
+    if no != 0 {
+        return no;
     }
     let n = entry_run::run_lines(
         next,

@@ -57,7 +57,7 @@ fn print_on(
 
 // Prints what a script gives. False: a write failed.
 fn print_all(script: &[u8]) -> bool {
-    let mut next: u32 = 0;
+    let mut next: u32 = 1;
     let mut count: usize = 0;
     let mut ids = [0u32; 256];
     let mut kinds = [0u32; 256];
@@ -71,7 +71,6 @@ fn print_all(script: &[u8]) -> bool {
     let mut steps = [0u32; 2048];
     let mut bx = [0.0; 2048];
     let mut by = [0.0; 2048];
-    call_asked::begin(&mut next, &mut count);
     print_on(
         &mut next,
         &mut count,

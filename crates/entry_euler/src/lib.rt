@@ -25,7 +25,7 @@ pub fn euler(
 ) -> EulerNumber
     ensures { λ r. ⌜ eulerAnswered r ≡ eulerOn (entry next count ids kinds starts ends bends counts px py cycles steps bx by) ⌝ }
 {
-    let Walked::Sound(t) = call_asked::asked(
+    let Walked::Sound(_) = call_asked::asked(
         next,
         count,
         ids,
@@ -59,7 +59,6 @@ pub fn euler(
         steps,
         bx,
         by,
-        t,
     );
     EulerNumber { number: 0, value }
 }

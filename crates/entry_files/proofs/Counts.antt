@@ -38,13 +38,16 @@ filled-count xs l =
     go true y z p q = p
     go false y z p q = q
 
+one-more : {A : Type 0} (b : Bool) (x : A) (l : List A) → length (consIf b x l) ≤ suc (length l)
+one-more true x l = omega arith
+one-more false x l = omega arith
+
 some-most : {A : Type 0} (p : A → Bool) (xs : List A) → length (filter p xs) ≤ length xs
 some-most p [] = omega arith
-some-most p (x ∷ xs) = go (p x) (some-most p xs)
-  where
-    go : (b : Bool) → length (filter p xs) ≤ length xs → length (consIf b x (filter p xs)) ≤ suc (length xs)
-    go true h = omega arith
-    go false h = omega arith
+some-most p (x ∷ xs) =
+    let h = some-most p xs in
+    let g = one-more (p x) x (filter p xs) in
+    omega arith
 
 cells-few : (s : Sheet) → T (sound s) → length (s .cells) ≤ cellsMost
 cells-few s t =

@@ -1,6 +1,9 @@
 // Question 9 of a run: is there room for what it tells, and for a file?
 ghost use mathlib.Core.Path.{_≡_};
-ghost use Rattle.entry_room.specs.Rooms.{linesFor, roomFor};
+ghost use Rattle.entry_room.specs.Rooms.{linesNo, roomNo};
+
+// The number of a no.
+const NO_ROOM: u32 = 9;
 
 // How many numbers are told of a command.
 const LINE_WIDTH: usize = 5;
@@ -11,22 +14,29 @@ const SCRIPT_MOST: usize = 4294967295;
 // Room for the longest file of a sound drawing.
 const FILE_MOST: usize = 65536;
 
-// Whether there are five places for each byte of a script, whose length is a u32.
-pub fn has_lines(script: usize, lines: usize) -> bool
-    ensures { λ r. ⌜ r ≡ linesFor script lines ⌝ }
+// 9, or 0 where there are five places for each byte of a script, whose length is a u32.
+pub fn lines_no(script: usize, lines: usize) -> u32
+    ensures { λ r. ⌜ r ≡ linesNo script lines ⌝ }
 {
     if SCRIPT_MOST < script {
-        return false;
+        return NO_ROOM;
     }
-    LINE_WIDTH * script <= lines
+    if lines < LINE_WIDTH * script {
+        return NO_ROOM;
+    }
+    0
 }
 
-// Whether the lent memory has the room that a script's run may need.
-pub fn has_room(script: usize, lines: usize, out: usize) -> bool
-    ensures { λ r. ⌜ r ≡ roomFor script lines out ⌝ }
+// 9, or 0 where the lent memory has the room that a script's run may need.
+pub fn room_no(script: usize, lines: usize, out: usize) -> u32
+    ensures { λ r. ⌜ r ≡ roomNo script lines out ⌝ }
 {
-    if !has_lines(script, lines) {
-        return false;
+    let no = lines_no(script, lines);
+    if no != 0 {
+        return no;
     }
-    FILE_MOST <= out
+    if out < FILE_MOST {
+        return NO_ROOM;
+    }
+    0
 }

@@ -50,7 +50,7 @@ fn put_last(
     requires { ⌜ at + lastMost ≤ length (now out) ⌝ }
     ensures { λ r. ⌜ TextPut (now (out .entry)) at (lastText (sheetOf (heldBy (entry next count ids kinds starts ends bends counts px py cycles steps bx by)))) lastMost (now (out .exit)) r ⌝ }
 {
-    let t = lent_sums::sums(
+    lent::known(
         next,
         count,
         ids,
@@ -81,7 +81,6 @@ fn put_last(
         steps,
         bx,
         by,
-        t,
     );
     text::put_end(e, count as u32, out, at)
 }

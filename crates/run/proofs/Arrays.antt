@@ -1,35 +1,27 @@
--- A run over a script from the empty drawing, and the file of sound arrays. Assumes nothing.
+-- A run over a script from the empty drawing. Assumes nothing.
 use Prim.Native.Nat.{ℕ}
 use mathlib.Core.Path.{_≡_, sym, ap, _∙_, subst}
 use mathlib.Core.List.{List}
 use lib.Dec.{T}
 use lib.ListN.{length}
 use Rattle.complex.specs.Cells.{Sheet, empty}
-use Rattle.complex.specs.Sound.{sound}
-use Rattle.complex.specs.Calls.{Filled, filled, writeCall, unfilled}
+use Rattle.complex.specs.Calls.{Filled, filled}
 use Rattle.complex.specs.Demands.{after}
 use Rattle.complex.specs.File.{fileOf}
 use Rattle.complex.specs.Program.{Run, run as runOf, commandsOf}
-use Rattle.complex.proofs.Bools.{true-of}
 use Rattle.complex.proofs.Runs.{run-after}
 use Rattle.store.specs.View.{sheetOf}
 use Rattle.store.specs.declared.Drawing.{Drawing}
 use Rattle.sound.specs.Soundness.{soundDrawing}
-use Rattle.lent.specs.Arrays.{Arrays, heldBy, soundArrays}
+use Rattle.lent.specs.Arrays.{Arrays, heldBy}
 use Rattle.lent.proofs.Replies.{drawing-of}
 use Rattle.call_asked.specs.Entries.{EmptyIn}
-use Rattle.entry_turn.proofs.Turning.{sheet-sound}
 use Rattle.run_turns.specs.Runs.{runFrom}
 use Rattle.run_turns.proofs.Progress.{run-empty}
 use Rattle.core.proofs.Demand.{ends-after}
 use Rattle.run_on.specs.Runs.{RanOn}
 use Rattle.run.specs.Runs.{RanAll}
 use Rattle.run.specs.declared.Ran.{Ran}
-
-module _ (a : Arrays) (w : T (soundArrays a)) where
-  pub write-is : (buffer : List ℕ) → writeCall (sheetOf (heldBy a)) buffer ≡ filled (fileOf (sheetOf (heldBy a))) buffer
-  unfolding writeCall
-  write-is buffer = rw (true-of (sound (sheetOf (heldBy a))) (sheet-sound a w))
 
 -- ---- from the empty drawing
 module _ {a : Arrays} (z : EmptyIn a) {script : List ℕ} {b : Arrays} {n : ℕ} (r : RanOn a script b n) where

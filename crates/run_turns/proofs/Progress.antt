@@ -2,17 +2,15 @@
 use Prim.Native.Nat.{ℕ, suc, _+_, _-_, _≤_}
 use native.Mathlib.Omega.{arith}
 use mathlib.Core.Path.{_≡_, refl, sym, ap, _∙_}
-use mathlib.Core.Bool.{false}
 use mathlib.Core.List.{List, [], _∷_, _++_, append-assoc, append-nil}
 use lib.Dec.{T}
 use lib.ListN.{length, drop, getD, length-append, length-drop}
-use Rattle.complex.specs.Lists.{isEmpty}
 use Rattle.complex.specs.Cells.{Sheet, empty}
 use Rattle.complex.specs.Sound.{sound}
 use Rattle.complex.specs.Answer.{command}
 use Rattle.complex.specs.Program.{Line, Run, line, putLine, ended, ran, run}
 use Rattle.store.proofs.Lists.{drop-over, not-empty}
-use Rattle.entry_told.specs.Told.{onward, Turned}
+use Rattle.entry_told.specs.Told.{Turned}
 use Rattle.entry_told.proofs.Going.{one-turn}
 use Rattle.run_turns.specs.Runs.{runFrom}
 use Rattle.run_turns.proofs.Shorter.{ran-none, ran-enough}
@@ -22,11 +20,6 @@ unfolding runFrom run
 run-empty bytes = refl
 
 -- ---- a turn
-ran-turn : (n : ℕ) (s : Sheet) (b : List ℕ) → isEmpty b ≡ false
-    → ran (suc n) s b ≡ putLine (line (command s b)) (ran n (command s b .sheet) (onward s b))
-ran-turn n s b e =
-    one-turn ran (λ (x : Sheet) (y : List ℕ). putLine (line (command x y))) ended ran-none n s b (λ h. rw (e, h, ran)) (λ h. rw (e, h, ran))
-
 -- the line that the numbers of a turn begin with
 abbrev pub headLine : List ℕ → Line
 headLine ns = record { number = getD ns 0 0; first = getD ns 1 0; new = getD ns 2 0; removed = getD ns 3 0 }
@@ -44,8 +37,9 @@ run-turn {s} {bytes} {at} {ns} {t} {r} o w =
     let j = length-drop at bytes in
     let k = length-drop r bytes in
     let e : length b ≡ suc m = omega arith in
+    let z = not-empty b (omega arith) in
     ap (λ (n : ℕ). ran n s b) e
-    ∙ ran-turn m s b (not-empty b (omega arith))
+    ∙ one-turn ran (λ (x : Sheet) (y : List ℕ). putLine (line (command x y))) ended ran-none m s b (λ j. rw (z, j, ran)) (λ j. rw (z, j, ran))
     ∙ sym (λ i. putLine (headLine (o .numbers i)) (ran m (o .sheet i) (o .goes i)))
     ∙ ap (putLine (headLine ns)) (ran-enough m (length c) t c w (omega arith) (omega arith))
 

@@ -88,7 +88,7 @@ fn same_text(
 
 // What is printed for a script, against a stored text.
 fn same_printed(script: &[u8], stored: &[u8]) -> bool {
-    let mut next: u32 = 0;
+    let mut next: u32 = 1;
     let mut count: usize = 0;
     let mut ids = [0u32; 256];
     let mut kinds = [0u32; 256];
@@ -102,7 +102,6 @@ fn same_printed(script: &[u8], stored: &[u8]) -> bool {
     let mut steps = [0u32; 2048];
     let mut bx = [0.0; 2048];
     let mut by = [0.0; 2048];
-    call_asked::begin(&mut next, &mut count);
     same_text(
         &mut next,
         &mut count,

@@ -5,17 +5,10 @@ use Rattle.core.proofs.Doors.{euler-apart}
 use Rattle.core.proofs.euler.Statement.{statement}
 use Rattle.core.proofs.euler.Tie as tie
 
-take-apart-requires : tie.Need-take-apart-requires
-take-apart-requires c κs = search needs
-
-euler-requires : tie.Need-euler-requires
-euler-requires c κs = search needs
-
 returns : tie.Need-returns
 returns c =
     let t = c .before .before .before .before .before .before .before .before .before .before .before .before .before in
-    let s = t .before .before .before .before .before .before .before .before .before .before .before .before .before in
-    c .euler .ensures ∙ euler-apart (s .args .d) _ (t .take-apart .ensures)
+    c .euler .ensures ∙ euler-apart _ _ (t .take-apart .ensures)
 
 pub euler-spec : {M : Type 1} → statement M
-euler-spec = tie.close (tie.spec take-apart-requires euler-requires returns)
+euler-spec = tie.close (tie.spec (λ c κs. search needs) (λ c κs. search needs) returns)

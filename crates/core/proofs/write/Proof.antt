@@ -5,21 +5,11 @@ use Rattle.core.proofs.Doors.{write-apart}
 use Rattle.core.proofs.write.Statement.{statement}
 use Rattle.core.proofs.write.Tie as tie
 
-take-apart-requires : tie.Need-take-apart-requires
-take-apart-requires c κs = search needs
-
-write-requires : tie.Need-write-requires
-write-requires c κs = search needs
-
-same-length : tie.Need-same-length
-same-length c = search needs
-
 returns : tie.Need-returns
 returns c =
     let e = c .before .before in
     let t = e .before .before .before .before .before .before .before .before .before .before .before .before .before .before in
-    let s = t .before .before .before .before .before .before .before .before .before .before .before .before .before .before in
-    e .write .ensures ∙ write-apart (s .args .d) _ (t .take-apart .ensures) _
+    e .write .ensures ∙ write-apart _ _ (t .take-apart .ensures) _
 
 pub write-spec : {M : Type 1} → statement M
-write-spec = tie.close (tie.spec take-apart-requires write-requires same-length returns)
+write-spec = tie.close (tie.spec (λ c κs. search needs) (λ c κs. search needs) (λ c. search needs) returns)

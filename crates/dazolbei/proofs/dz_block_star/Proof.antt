@@ -15,9 +15,6 @@ arrays s =
     let a = s .args in
     lent (a .next) (a .count) (a .ids) (a .kinds) (a .starts) (a .ends) (a .bends) (a .counts) (a .px) (a .py) (a .cycles) (a .steps) (a .bx) (a .by)
 
-star-requires : tie.Need-star-requires
-star-requires c κs = search needs
-
 cast-found : tie.Need-cast-found
 cast-found c =
     let r = c .before .before .before in
@@ -26,11 +23,8 @@ cast-found c =
     let h = star-on-few (arrays s) (s .args .id) (now (s .args .buffer)) in
     record { fits = omega arith }
 
-same-length : tie.Need-same-length
-same-length c = search needs
-
 returns : tie.Need-returns
 returns c = c .before .before .before .star .ensures
 
 pub dz-block-star-spec : {M : Type 1} → statement M
-dz-block-star-spec = tie.close (tie.spec star-requires cast-found same-length returns)
+dz-block-star-spec = tie.close (tie.spec (λ c κs. search needs) cast-found (λ c. search needs) returns)

@@ -15,12 +15,6 @@ arrays s =
     let a = s .args in
     lent (a .next) (a .count) (a .ids) (a .kinds) (a .starts) (a .ends) (a .bends) (a .counts) (a .px) (a .py) (a .cycles) (a .steps) (a .bx) (a .by)
 
-known-requires : tie.Need-known-requires
-known-requires c κs = search needs
-
-write-requires : tie.Need-write-requires
-write-requires c κs = search needs
-
 cast-bytes : tie.Need-cast-bytes
 cast-bytes c =
     let r = c .before .before .before in
@@ -30,11 +24,8 @@ cast-bytes c =
     let h = write-on-few (arrays s) (k .known .ensures) (now (s .args .buffer)) in
     record { fits = omega arith }
 
-same-length : tie.Need-same-length
-same-length c = search needs
-
 returns : tie.Need-returns
 returns c = c .before .before .before .write .ensures
 
 pub dz-block-write-spec : {M : Type 1} → statement M
-dz-block-write-spec = tie.close (tie.spec known-requires write-requires cast-bytes same-length returns)
+dz-block-write-spec = tie.close (tie.spec (λ c κs. search needs) (λ c κs. search needs) cast-bytes (λ c. search needs) returns)

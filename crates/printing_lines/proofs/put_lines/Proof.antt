@@ -1,9 +1,7 @@
 -- `printing_lines::put_lines` meets its contract: each turn puts the line of a command. Assumes nothing.
 use Prim.Native.Nat.{_-_}
 use native.Mathlib.Omega.{arith}
-use denote.Ref.{now}
 use lib.ListN.{length}
-use Rattle.lent.specs.Arrays.{Arrays, lent}
 use Rattle.entry_turn.proofs.Turning.{arraysOf}
 use Rattle.printing_lines.specs.Lines.{LinesPut}
 use Rattle.printing_lines.proofs.Lines.{lines-start, lines-turn, same-size}
@@ -17,16 +15,8 @@ Inv-loop n₀ c₀ is₀ ks₀ ss₀ es₀ bs₀ cs₀ px₀ py₀ cy₀ st₀ b
 abbrev μ-loop : tie.MeasureT-loop
 μ-loop n₀ c₀ is₀ ks₀ ss₀ es₀ bs₀ cs₀ px₀ py₀ cy₀ st₀ bx₀ by₀ script from out₀ at₀ end₀ n c is ks ss es bs cs px py cy st bx by out at end = length script - at
 
-abbrev arrays : tie.Start Inv-loop μ-loop → Arrays
-arrays c =
-    let a = c .args in
-    lent (now (a .next)) (now (a .count)) (a .ids) (a .kinds) (a .starts) (a .ends) (a .bends) (a .counts)
-    (a .px) (a .py) (a .cycles) (a .steps) (a .bx) (a .by)
-
 loop-holds : tie.Need-loop-holds Inv-loop μ-loop
-loop-holds c =
-    let s = c .before .before in
-    lines-start (arrays s) (now (s .args .script)) (s .args .from) (now (s .args .out)) (s .pre)
+loop-holds c = lines-start _ _ _ _ (c .before .before .pre)
 
 sub-if1 : tie.Need-sub-if1 Inv-loop μ-loop
 sub-if1 c =
