@@ -19,9 +19,6 @@ arrays c =
     lent (now (a .next)) (now (a .count)) (a .ids) (a .kinds) (a .starts) (a .ends) (a .bends) (a .counts) (a .px) (a .py) (a .cycles) (a .steps) (a .bx)
     (a .by)
 
-wide-requires : tie.Need-wide-requires
-wide-requires c κs = search needs
-
 lone-step-requires : tie.Need-lone-step-requires
 lone-step-requires c κs =
     let s = c .before .before .before .before in
@@ -44,9 +41,6 @@ late-no-requires c κs =
         ),
       ),
     )
-
-line-of-requires : tie.Need-line-of-requires
-line-of-requires c κs = search needs
 
 -- what is known where questions 7 and 8 are answered
 abbrev known : (l : tie.After-late-no) → let s = l .before .before .before .before .before .before in
@@ -78,10 +72,10 @@ pub cut-one-cycle-spec : {M : Type 1} → statement M
 cut-one-cycle-spec =
     tie.close
     (tie.spec
-    wide-requires
+    (λ c κs. search needs)
     lone-step-requires
     late-no-requires
-    line-of-requires
+    (λ c κs. search needs)
     returns
     split-cycle-requires
     returns-2)
