@@ -1,8 +1,8 @@
 -- From the questions to the answer in memory. Assumes nothing.
-use Prim.Native.Nat.{ℕ, _+_, _≤_}
+use Prim.Native.Nat.{ℕ}
 use native.Mathlib.Omega.{arith}
 use mathlib.Core.Path.{_≡_, sym, ap, _∙_, subst}
-use lib.ListN.{length, take}
+use lib.ListN.{take}
 use Rattle.complex.specs.Lists.{total}
 use Rattle.complex.specs.Decode.{Command}
 use Rattle.answer.specs.Sizes.{sized, sizesOf, newCells, changeOf, moreLess, changedBy, sizesAfter, sizesFit}
@@ -61,9 +61,6 @@ module _ (d : Drawing) (z : Sizes d) (f : Fits d) (ix : Index) (x : Indexes d ix
         cycleRoom = z .cycles;
         stepSum = omega (arith, f .steps);
       }
-
-  pub counting : (0 + d .count ≤ length (ix .cycles)) × (total (placesOf 0) (take (d .count) (ix .cycles)) ≤ 2048)
-  counting = let r = summed .cycleRows in let s = summed .cycleSum in (omega arith, omega arith)
 
   abbrev pub totalsIn : Totals
   totalsIn =

@@ -5,12 +5,11 @@ use mathlib.Core.Path.{_≡_, refl, sym, ap, _∙_, subst}
 use mathlib.Core.Bool.{Bool, true, false, cond}
 use mathlib.Core.List.{List, [], _∷_}
 use lib.ListN.{length}
-use lib.Dec.{eqb, leb}
+use lib.Dec.{eqb}
 use Rattle.coordinate.specs.declared.Position.{Position}
 use Rattle.coordinate.specs.Bounds.{within}
 use Rattle.complex.specs.Lists.{all, one}
 use Rattle.complex.specs.Cells.{Sheet}
-use Rattle.complex.specs.Sound.{idsEnd, ceilings}
 use Rattle.complex.specs.Decode.{Command}
 use Rattle.complex.specs.Commands.{positions, question3, question4, question5, question6, result}
 use Rattle.complex.specs.Answer.{Answer, no, done, removedFrom, firstNo, ofBytes, ofResult, questions, answered, asked3}
@@ -108,9 +107,6 @@ module _ (s : Sheet) (c : Command) where
   pub passed-asked : Passed s c → asked3 s c ≡ answered s (result s c) (firstNo (ofResult (result s c)))
   unfolding asked3
   passed-asked p = rw (early-three c (p .bytes), p .four, p .five, p .six)
-
-  pub no-none : Passed s c → leb (result s c .next) idsEnd ≡ true → ceilings (result s c .cells) ≡ true → asked3 s c ≡ done s (result s c)
-  no-none p f g = passed-asked p ∙ rw (f, g)
 
 -- the counts of a done command, from the next ids and the numbers of cells alone
 pub done-counts : (s : Sheet) → Sound s → (c : Command) → (t : Sheet) → t ≡ result s c

@@ -249,15 +249,6 @@ module _ {A : Type 0} (same : A → A → Bool) where
   placeOf [] x = 0
   placeOf (y ∷ ys) x = cond (same x y) 0 (suc (placeOf ys x))
 
-  -- there it stands
-  pub at-place : Decides same → (xs : List A) (x d : A) → T (isIn xs x) → getD xs (placeOf xs x) d ≡ x
-  at-place D [] x d t = absurd t
-  at-place D (y ∷ ys) x d t = go (same x y) refl t (at-place D ys x d)
-    where
-      go : (b : Bool) → same x y ≡ b → T (b || isIn ys x) → (T (isIn ys x) → getD ys (placeOf ys x) d ≡ x) → getD (y ∷ ys) (cond b 0 (suc (placeOf ys x))) d ≡ x
-      go true q t r = sym (D .equal x y (truth q))
-      go false q t r = r t
-
   -- elements that stand once are sorted by their places; n stand before xs
   sorted-one : Decides same → (k : A → ℕ) (n : ℕ) (xs : List A) → ((x : A) → T (isIn xs x) → k x ≡ n + placeOf xs x) → ((x : A) → count x xs ≤ 1) → Sorted k (map one xs)
   sorted-one D k n [] f o = tt

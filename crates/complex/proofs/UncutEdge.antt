@@ -28,11 +28,6 @@ use Rattle.complex.proofs.Every.{Every, every-left, every-right, every-
 
 -- ---- every element
 module _ {A : Type 0} (Q : A → Type 0) where
-  pub every-at : (xs : List A) (n : ℕ) (d : A) → Every Q xs → n < length xs → Q (getD xs n d)
-  every-at [] n d e l = absurd (omega arith)
-  every-at (x ∷ xs) zero d e l = e .0
-  every-at (x ∷ xs) (suc n) d e l = every-at xs n d (e .1) (omega arith)
-
   pub every-from : (xs : List A) (d : A) → ((n : ℕ) → n < length xs → Q (getD xs n d)) → Every Q xs
   every-from [] d h = tt
   every-from (x ∷ xs) d h = (h 0 (omega arith), every-from xs d (λ n l. h (suc n) (omega arith)))

@@ -34,7 +34,7 @@ use Rattle.complex.proofs.Adds.{stays-at}
 use Rattle.complex.proofs.Split.{all-getD, apart, ring-no-corner, ends-vertices}
 use Rattle.complex.proofs.Every.{Every, every-left, every-right, every-both}
 use Rattle.complex.proofs.UnglueVertex.{open-at}
-use Rattle.complex.proofs.UncutEdge.{every-at, every-from, Real, own-cells, uses-real, use-listed, following-walk, walk-stays, joins-stay, all-but-set, all-but-without}
+use Rattle.complex.proofs.UncutEdge.{every-from, Real, own-cells, uses-real, use-listed, following-walk, walk-stays, joins-stay, all-but-set, all-but-without}
 
 -- the two uses, as they stand
 module _ (s : Sheet) (S : Sound s) (e : ℕ) (E : T (isEdge (cellAt s e))) (u w : Use) (U : usesOf (s .cells) e ≡ u ∷ w ∷ []) where

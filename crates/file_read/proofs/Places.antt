@@ -6,16 +6,16 @@ use mathlib.Core.List.{List}
 use lib.ListN.{drop}
 use Rattle.number.specs.Said.{done, no}
 use Rattle.number.specs.Readers.{Read, got, bad, andThen}
-use Rattle.number.specs.Numbers.{readNumber, numberAt}
+use Rattle.number.specs.declared.Number.{Number}
+use Rattle.number.specs.declared.Number.the-variants.{Value, Malformed}
+use Rattle.number.specs.Numbers.{readNumber, numberSays, numberAt}
 use Rattle.number.proofs.Laws.{value-at, malformed-at}
 use Rattle.store.specs.declared.Shape.{Shape}
 use Rattle.store.specs.declared.Shape.the-variants.{Open, Closed, Face}
 use Rattle.store.specs.declared.Cell.{Cell}
-use Rattle.file_read.specs.declared.Two.{Two}
-use Rattle.file_read.specs.declared.Two.the-variants.{Both, NotBoth}
 use Rattle.file_read.specs.declared.ShapeFound.{ShapeFound}
 use Rattle.file_read.specs.declared.ShapeFound.the-variants.{Shaped, NoShape}
-use Rattle.file_read.specs.Heads.{readTwo, openShape, countedShape, readShape, readHead, ReadAt, TwoRead, ShapeRead}
+use Rattle.file_read.specs.Heads.{openShape, countedShape, readShape, readHead, ReadAt, ShapeRead}
 
 module _ {A B : Type 0} {q : Read A} (k : A → List ℕ → Read B) where
   pub first-bad : q ≡ bad → andThen q k ≡ bad
@@ -48,76 +48,54 @@ module _ (s : List ℕ) (at n next : ℕ) (e : numberAt s at ≡ done (n, next))
   pub closed-found : (b : Bool) → b ≡ false → ReadAt (countedShape b (drop at s)) s (Closed n) next
   closed-found b t = rw t (number-found Closed s at n next e)
 
--- ---- two numbers
-abbrev second : ℕ → List ℕ → Read (ℕ × ℕ)
-second a t = andThen (readNumber t) λ b u. got (a, b) u
-
-module _ (s : List ℕ) (at : ℕ) where
-  pub first-none : numberAt s at ≡ no 2 → readTwo (drop at s) ≡ bad
-  first-none e = first-bad second (malformed-at s at e)
-
-  module _ (a p : ℕ) (first : numberAt s at ≡ done (a, p)) where
-    pub second-none : numberAt s p ≡ no 2 → readTwo (drop at s) ≡ bad
-    second-none e = then-bad second (value-found s at a p first) (first-bad (λ b u. got (a, b) u) (malformed-at s p e))
-
-    pub both-found : (b next : ℕ) → numberAt s p ≡ done (b, next) → ReadAt (readTwo (drop at s)) s (a, b) next
-    both-found b next e = then-found second (value-found s at a p first) (last-found (λ b u. got (a, b) u) (value-found s p b next e) refl)
-
 -- ---- two numbers, and what k reads after them
-module _ {A : Type 0} (k : ℕ → ℕ → List ℕ → Read A) where
-  abbrev rest : ℕ × ℕ → List ℕ → Read A
-  rest v = k (v .0) (v .1)
+abbrev second : {A : Type 0} → (ℕ → ℕ → List ℕ → Read A) → ℕ → List ℕ → Read A
+second k a t = andThen (readNumber t) (k a)
 
-  from-second : (a : ℕ) (q : Read ℕ) → andThen (andThen q λ b u. got (a, b) u) rest ≡ andThen q (k a)
-  from-second a (got b u) = refl
-  from-second a bad = refl
+module _ {A : Type 0} (k : ℕ → ℕ → List ℕ → Read A) (s : List ℕ) (at : ℕ) (r : Number) (e : numberSays r ≡ numberAt s at) where
+  pub first-none : r ≡ Malformed → andThen (readNumber (drop at s)) (second k) ≡ bad
+  first-none f = first-bad (second k) (malformed-at s at (sym e ∙ ap numberSays f))
 
-  from-first : (q : Read ℕ) → andThen (andThen q second) rest ≡ andThen q λ a t. andThen (readNumber t) (k a)
-  from-first (got a t) = from-second a (readNumber t)
-  from-first bad = refl
+  module _ (a p : ℕ) (v : r ≡ Value a p) (r2 : Number) (e2 : numberSays r2 ≡ numberAt s p) where
+    one-found : ReadAt (readNumber (drop at s)) s a p
+    one-found = value-found s at a p (sym e ∙ ap numberSays v)
 
-  abbrev after : List ℕ → Read A
-  after s = andThen (readNumber s) λ a t. andThen (readNumber t) (k a)
+    pub second-none : r2 ≡ Malformed → andThen (readNumber (drop at s)) (second k) ≡ bad
+    second-none f = then-bad (second k) one-found (first-bad (k a) (malformed-at s p (sym e2 ∙ ap numberSays f)))
 
-  module _ (s : List ℕ) (at : ℕ) (r : Two) (h : TwoRead s at r) where
-    after-none : r ≡ NotBoth → after (drop at s) ≡ bad
-    after-none e = sym (from-first (readNumber (drop at s))) ∙ first-bad rest (subst (TwoRead s at) e h .1)
+    module _ (b q : ℕ) (v2 : r2 ≡ Value b q) where
+      two-found : ReadAt (readNumber (drop p s)) s b q
+      two-found = value-found s p b q (sym e2 ∙ ap numberSays v2)
 
-    module _ (a b p : ℕ) (e : r ≡ Both a b p) where
-      after-bad : k a b (drop p s) ≡ bad → after (drop at s) ≡ bad
-      after-bad f = sym (from-first (readNumber (drop at s))) ∙ then-bad rest (subst (TwoRead s at) e h) f
+      rest-bad : k a b (drop q s) ≡ bad → andThen (readNumber (drop at s)) (second k) ≡ bad
+      rest-bad f = then-bad (second k) one-found (then-bad (k a) two-found f)
 
-      after-found : {y : A} {next : ℕ} → ReadAt (k a b (drop p s)) s y next → ReadAt (after (drop at s)) s y next
-      after-found f =
-          let g = then-found rest (subst (TwoRead s at) e h) f in
-          record { read = sym (from-first (readNumber (drop at s))) ∙ g .read; inside = g .inside }
+      rest-found : {y : A} {next : ℕ} → ReadAt (k a b (drop q s)) s y next → ReadAt (andThen (readNumber (drop at s)) (second k)) s y next
+      rest-found f = then-found (second k) one-found (then-found (k a) two-found f)
 
 -- an open edge: the count of its bends after its ends; a cell: its shape after its id and its kind
-abbrev bendsAfter : ℕ → ℕ → List ℕ → Read Shape
+abbrev pub bendsAfter : ℕ → ℕ → List ℕ → Read Shape
 bendsAfter a b u = andThen (readNumber u) λ n v. got (Open a b n) v
 
-abbrev shapeAfter : ℕ → ℕ → List ℕ → Read Cell
+abbrev pub shapeAfter : ℕ → ℕ → List ℕ → Read Cell
 shapeAfter i k u = andThen (readShape k u) λ x v. got (record { id = i; shape = x }) v
 
-module _ (s : List ℕ) (at : ℕ) (r : Two) (h : TwoRead s at r) where
-  pub open-none : r ≡ NotBoth → openShape (drop at s) ≡ bad
-  open-none e = after-none bendsAfter s at r h e
+module _ (s : List ℕ) (at : ℕ) (r : Number) (e : numberSays r ≡ numberAt s at) (a p : ℕ) (v : r ≡ Value a p)
+    (r2 : Number) (e2 : numberSays r2 ≡ numberAt s p) (b q : ℕ) (v2 : r2 ≡ Value b q) where
+  module _ (r3 : Number) (e3 : numberSays r3 ≡ numberAt s q) where
+    pub bends-bad : r3 ≡ Malformed → openShape (drop at s) ≡ bad
+    bends-bad f = rest-bad bendsAfter s at r e a p v r2 e2 b q v2 (number-bad (Open a b) s q (sym e3 ∙ ap numberSays f))
 
-  pub head-none : r ≡ NotBoth → readHead (drop at s) ≡ bad
-  head-none e = after-none shapeAfter s at r h e
+    pub open-found : (n next : ℕ) → r3 ≡ Value n next → ReadAt (openShape (drop at s)) s (Open a b n) next
+    open-found n next f = rest-found bendsAfter s at r e a p v r2 e2 b q v2 (number-found (Open a b) s q n next (sym e3 ∙ ap numberSays f))
 
-  module _ (a b p : ℕ) (e : r ≡ Both a b p) where
-    pub bends-bad : numberAt s p ≡ no 2 → openShape (drop at s) ≡ bad
-    bends-bad f = after-bad bendsAfter s at r h a b p e (number-bad (Open a b) s p f)
+  module _ (x : ShapeFound) (g : ShapeRead (readShape b) s q x) where
+    pub shape-bad : x ≡ NoShape → readHead (drop at s) ≡ bad
+    shape-bad f =
+        rest-bad shapeAfter s at r e a p v r2 e2 b q v2
+        (first-bad (λ y w. got (record { id = a; shape = y }) w) (subst (ShapeRead (readShape b) s q) f g .1))
 
-    pub open-found : (n next : ℕ) → numberAt s p ≡ done (n, next) → ReadAt (openShape (drop at s)) s (Open a b n) next
-    open-found n next f = after-found bendsAfter s at r h a b p e (number-found (Open a b) s p n next f)
-
-    module _ (x : ShapeFound) (g : ShapeRead (readShape b) s p x) where
-      pub shape-bad : x ≡ NoShape → readHead (drop at s) ≡ bad
-      shape-bad f = after-bad shapeAfter s at r h a b p e (first-bad (λ y v. got (record { id = a; shape = y }) v) (subst (ShapeRead (readShape b) s p) f g .1))
-
-      pub head-found : (y : Shape) (next : ℕ) → x ≡ Shaped y next → ReadAt (readHead (drop at s)) s (record { id = a; shape = y }) next
-      head-found y next f =
-          after-found shapeAfter s at r h a b p e
-          (last-found (λ z v. got (record { id = a; shape = z }) v) (subst (ShapeRead (readShape b) s p) f g) refl)
+    pub head-found : (y : Shape) (next : ℕ) → x ≡ Shaped y next → ReadAt (readHead (drop at s)) s (record { id = a; shape = y }) next
+    head-found y next f =
+        rest-found shapeAfter s at r e a p v r2 e2 b q v2
+        (last-found (λ z w. got (record { id = a; shape = z }) w) (subst (ShapeRead (readShape b) s q) f g) refl)

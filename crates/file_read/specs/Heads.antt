@@ -11,16 +11,10 @@ use Rattle.coordinate.specs.Positions.{readPosition}
 use Rattle.store.specs.declared.Shape.{Shape}
 use Rattle.store.specs.declared.Shape.the-variants.{Vertex, Open, Closed, Face}
 use Rattle.store.specs.declared.Cell.{Cell}
-use Rattle.file_read.specs.declared.Two.{Two}
-use Rattle.file_read.specs.declared.Two.the-variants.{Both, NotBoth}
 use Rattle.file_read.specs.declared.ShapeFound.{ShapeFound}
 use Rattle.file_read.specs.declared.ShapeFound.the-variants.{Shaped, NoShape}
 use Rattle.file_read.specs.declared.CellFound.{CellFound}
 use Rattle.file_read.specs.declared.CellFound.the-variants.{Begun, NoCell}
-
--- two numbers, one after another
-abbrev pub readTwo : List ℕ → Read (ℕ × ℕ)
-readTwo s = andThen (readNumber s) λ a t. andThen (readNumber t) λ b u. got (a, b) u
 
 abbrev pub vertexShape : List ℕ → Read Shape
 vertexShape s = andThen (readPosition s) λ p t. got (Vertex p) t
@@ -49,14 +43,6 @@ readHead s = andThen (readNumber s) λ i t. andThen (readNumber t) λ k u. andTh
 pub record ReadAt {A : Type 0} (q : Read A) (s : List ℕ) (x : A) (next : ℕ) : Type 0 where
   pub read : q ≡ got x (drop next s)
   pub inside : next ≤ length s
-
--- the cases of `Two`: 0 with two numbers and the place after them, or 10
-abbrev pub twoSays : Two → Said ((ℕ × ℕ) × ℕ)
-twoSays (Both a b next) = done ((a, b), next)
-twoSays NotBoth = no 10
-
-abbrev pub TwoRead : List ℕ → ℕ → Two → Type 0
-TwoRead s at f = Says 10 (λ v. ReadAt (readTwo (drop at s)) s (v .0) (v .1)) (readTwo (drop at s) ≡ bad) (twoSays f)
 
 -- the cases of `ShapeFound`: 0 with a shape and the place after it, or 10
 abbrev pub shapeSays : ShapeFound → Said (Shape × ℕ)

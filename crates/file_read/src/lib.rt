@@ -4,7 +4,7 @@ ghost use lib.ListN.{length, drop};
 ghost use Rattle.number.specs.Readers.{times};
 ghost use Rattle.complex.specs.Decode.{readCycle};
 ghost use Rattle.complex.specs.Sound.{cyclesMost, stepsMost};
-ghost use Rattle.file_read.specs.Heads.{TwoRead, vertexShape, openShape, countedShape, readShape, ShapeRead, HeadRead};
+ghost use Rattle.file_read.specs.Heads.{vertexShape, openShape, countedShape, readShape, ShapeRead, HeadRead};
 ghost use Rattle.file_read.specs.Filling.{NumbersPut, CyclesLoaded};
 use coordinate::Located;
 use number::Number;
@@ -21,12 +21,6 @@ const STEPS_MOST: usize = 2048;
 pub struct ReadAnswer {
     pub number: u32,
     pub drawing: Drawing,
-}
-
-// Two numbers and the place after them, or one of them is no number.
-enum Two {
-    Both(u32, u32, usize),
-    NotBoth,
 }
 
 // A shape and the place after its counts, or no shape.
@@ -61,18 +55,6 @@ pub enum Loaded {
     Refused,
 }
 
-fn two_at(s: &[u8], at: usize) -> Two
-    ensures { λ r. ⌜ TwoRead (now (s .entry)) at r ⌝ }
-{
-    let Number::Value(a, second) = number::read_number(s, at) else {
-        return Two::NotBoth;
-    };
-    let Number::Value(b, next) = number::read_number(s, second) else {
-        return Two::NotBoth;
-    };
-    Two::Both(a, b, next)
-}
-
 fn vertex_at(s: &[u8], at: usize) -> ShapeFound
     ensures { λ r. ⌜ ShapeRead vertexShape (now (s .entry)) at r ⌝ }
 {
@@ -85,7 +67,10 @@ fn vertex_at(s: &[u8], at: usize) -> ShapeFound
 fn open_at(s: &[u8], at: usize) -> ShapeFound
     ensures { λ r. ⌜ ShapeRead openShape (now (s .entry)) at r ⌝ }
 {
-    let Two::Both(start, end, b) = two_at(s, at) else {
+    let Number::Value(start, a) = number::read_number(s, at) else {
+        return ShapeFound::NoShape;
+    };
+    let Number::Value(end, b) = number::read_number(s, a) else {
         return ShapeFound::NoShape;
     };
     let Number::Value(bends, next) = number::read_number(s, b) else {
@@ -123,7 +108,10 @@ fn shape_at(s: &[u8], at: usize, kind: u32) -> ShapeFound
 pub fn head_at(s: &[u8], at: usize) -> CellFound
     ensures { λ r. ⌜ HeadRead (now (s .entry)) at r ⌝ }
 {
-    let Two::Both(id, kind, b) = two_at(s, at) else {
+    let Number::Value(id, a) = number::read_number(s, at) else {
+        return CellFound::NoCell;
+    };
+    let Number::Value(kind, b) = number::read_number(s, a) else {
         return CellFound::NoCell;
     };
     let ShapeFound::Shaped(shape, next) = shape_at(s, b, kind) else {

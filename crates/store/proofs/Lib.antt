@@ -2,7 +2,6 @@ pub mod Lists
 pub mod Encode
 pub mod Ceilings
 pub mod Stands
-pub mod Sizes
 pub mod Grow
 pub mod Rows
 pub mod Pools
