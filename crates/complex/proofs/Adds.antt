@@ -13,7 +13,8 @@ use Rattle.number.specs.Readers.{spread}
 use Rattle.coordinate.specs.declared.Position.{Position}
 use Rattle.coordinate.specs.Bounds.{within}
 use Rattle.complex.specs.Lists.{all, isEmpty, rising, one}
-use Rattle.complex.specs.Cells.{Halfedge, Cycle, lone, path, Figure, vertex, openEdge, closedEdge, face, LiveCell, Sheet, Look, someIf, lookup, ids, isVertex, isOpen, isClosed, isFace, startOf, endOf, tailOf, headOf, cellAt}
+use Rattle.complex.specs.Cells.{Halfedge, Cycle, lone, path, Figure, vertex, openEdge, closedEdge, face, LiveCell, Sheet, Look, someIf, lookup, ids}
+use Rattle.complex.specs.Cells.{isVertex, isOpen, isClosed, isFace, startOf, endOf, tailOf, headOf, cellAt}
 use Rattle.complex.specs.Sound.{idsEnd, Walk, cycleOk, figureOk, ceilings, sound, joins}
 use Rattle.complex.specs.Decode.{Command, create, move, glueVertices}
 use Rattle.complex.specs.Edits.{numbered, rebuild, everyId, asItIs, replaced, rewiredCycle, rewired, sameVertex, others}
@@ -24,7 +25,8 @@ use Rattle.complex.proofs.Bools.{truth, true-of, either, both, pair, ca
 use Rattle.complex.proofs.Lookup.{orElse, changed, lookup-rebuild, lookup-from}
 use Rattle.complex.proofs.Passes.{Passes, KeepsSound}
 use Rattle.complex.proofs.Walks.{Round, Ring, Some}
-use Rattle.complex.proofs.Keep.{Sound, Look′, rebuild-sound, Carries, ring-carried, round-carried, some-spread, shape-carried, Keeps, shape-kept, cycle-kept}
+use Rattle.complex.proofs.Keep.{Sound, Look′, rebuild-sound, Carries, ring-carried, round-carried, some-spread, shape-carried, Keeps, shape-kept}
+use Rattle.complex.proofs.Keep.{cycle-kept}
 
 -- ---- an id's cell afterwards serves whoever names it
 abbrev pub Alike : Option Figure → Option Figure → Type 0
@@ -95,7 +97,8 @@ module _ (p : ℕ → Bool) (f : ℕ → Figure → Figure) (new : List Figure) 
       go false = refl
 
   -- all cells stay, alike
-  pub alike-rebuild : ((i : ℕ) (t : Figure) → lookup (s .cells) i ≡ some t → T (p i) × Alike (some t) (some (f i t))) → Keeps (lookup (s .cells)) (Look′ p f new s)
+  pub alike-rebuild : ((i : ℕ) (t : Figure) → lookup (s .cells) i ≡ some t → T (p i) × Alike (some t) (some (f i t)))
+      → Keeps (lookup (s .cells)) (Look′ p f new s)
   alike-rebuild h = alike-keeps (lookup (s .cells)) (Look′ p f new s) (λ i. go i (lookup (s .cells) i) refl)
     where
       go : (i : ℕ) (o : Option Figure) → lookup (s .cells) i ≡ o → Alike o (Look′ p f new s i)
@@ -112,10 +115,12 @@ module _ (new : List Figure) (s : Sheet) where
   added-sound S seven eight h =
       rebuild-sound everyId asItIs new s S seven eight
       (λ i t k e. shape-kept (lookup (s .cells)) (Look′ everyId asItIs new s) added-keeps t (S .figures i t e))
-      (all-more (figureOk (lookup (s .cells))) (figureOk (Look′ everyId asItIs new s)) (shape-kept (lookup (s .cells)) (Look′ everyId asItIs new s) added-keeps) new h)
+      (all-more (figureOk (lookup (s .cells))) (figureOk (Look′ everyId asItIs new s)) (shape-kept (lookup (s .cells)) (Look′ everyId asItIs new s) added-keeps)
+      new h)
 
 -- a figure that was asked 3 to 6 is in order
-figure-passes : (s : Sheet) (x : Figure) → T (question3 (create x)) → T (question4 s (create x)) → T (question5 s (create x)) → T (question6 s (create x)) → T (figureOk (cellAt s) x)
+figure-passes : (s : Sheet) (x : Figure) → T (question3 (create x)) → T (question4 s (create x)) → T (question5 s (create x)) → T (question6 s (create x))
+    → T (figureOk (cellAt s) x)
 unfolding question3 question4 question5 question6
 figure-passes s (vertex p) three four five six = both (within p) true three .0
 figure-passes s (openEdge a b bs) three four five six =
@@ -126,7 +131,8 @@ figure-passes s (face ks) three four five six = six
 
 pub create-sound : (x : Figure) → KeepsSound (create x)
 unfolding result
-create-sound x s S q = added-sound (one x) s S (q .seven) (q .eight) (pair (figureOk (cellAt s) x) true (figure-passes s x (q .three) (q .four) (q .five) (q .six)) tt)
+create-sound x s S q = added-sound (one x) s S (q .seven) (q .eight)
+    (pair (figureOk (cellAt s) x) true (figure-passes s x (q .three) (q .four) (q .five) (q .six)) tt)
 
 -- ---- 05
 -- a shape replaced by one that is in order and serves as the old one did
@@ -139,7 +145,8 @@ module _ (i : ℕ) (t : Figure) (new : List Figure) (s : Sheet) (S : Sound s) (A
       go j u false q e = alike-same u
 
   pub replaced-sound : T (leb (rebuild everyId (replaced i t) new s .next) idsEnd) → T (ceilings (rebuild everyId (replaced i t) new s .cells))
-      → T (figureOk (Look′ everyId (replaced i t) new s) t) → T (all (figureOk (Look′ everyId (replaced i t) new s)) new) → Sound (rebuild everyId (replaced i t) new s)
+      → T (figureOk (Look′ everyId (replaced i t) new s) t) → T (all (figureOk (Look′ everyId (replaced i t) new s)) new)
+      → Sound (rebuild everyId (replaced i t) new s)
   replaced-sound seven eight here there = rebuild-sound everyId (replaced i t) new s S seven eight (λ j u k e. go j u (eqb i j) e) there
     where
       go : (j : ℕ) (u : Figure) (b : Bool) → lookup (s .cells) j ≡ some u → T (figureOk (Look′ everyId (replaced i t) new s) (cond b t u))
@@ -187,15 +194,18 @@ module _ (a b : ℕ) (s : Sheet) (S : Sound s) (va : T (isVertex (cellAt s a))) 
   glued-walk : (h : Halfedge) → T (isOpen (cellAt s (h .edge))) → Walk glued (renamed a b (tailOf (cellAt s) h)) (one h) (renamed a b (headOf (cellAt s) h))
   glued-walk h t = go (cellAt s (h .edge)) refl t
     where
-      ends : (u w : ℕ) (bs : List Position) (y : Bool) → h .backward ≡ y → cellAt s (h .edge) ≡ some (openEdge u w bs) → glued (h .edge) ≡ some (openEdge (renamed a b u) (renamed a b w) bs)
+      ends : (u w : ℕ) (bs : List Position) (y : Bool) → h .backward ≡ y → cellAt s (h .edge) ≡ some (openEdge u w bs)
+          → glued (h .edge) ≡ some (openEdge (renamed a b u) (renamed a b w) bs)
           → Walk glued (renamed a b (tailOf (cellAt s) h)) (one h) (renamed a b (headOf (cellAt s) h))
       ends u w bs true y e g = rw (y, e, g) (tt, refl, refl)
       ends u w bs false y e g = rw (y, e, g) (tt, refl, refl)
 
-      go : (o : Option Figure) → cellAt s (h .edge) ≡ o → T (isOpen o) → Walk glued (renamed a b (tailOf (cellAt s) h)) (one h) (renamed a b (headOf (cellAt s) h))
+      go : (o : Option Figure) → cellAt s (h .edge) ≡ o → T (isOpen o)
+          → Walk glued (renamed a b (tailOf (cellAt s) h)) (one h) (renamed a b (headOf (cellAt s) h))
       go none e k = absurd k
       go (some (vertex p)) e k = absurd k
-      go (some (openEdge u w bs)) e k = ends u w bs (h .backward) refl e (glued-at (h .edge) (openEdge u w bs) e (not-vertex (h .edge) (some (openEdge u w bs)) e (λ z. z)))
+      go (some (openEdge u w bs)) e k = ends u w bs (h .backward) refl e
+          (glued-at (h .edge) (openEdge u w bs) e (not-vertex (h .edge) (some (openEdge u w bs)) e (λ z. z)))
       go (some (closedEdge bs)) e k = absurd k
       go (some (face ks)) e k = absurd k
 

@@ -110,9 +110,17 @@ module _ (s : Sheet) (c : Command) where
 
 -- the counts of a done command, from the next ids and the numbers of cells alone
 pub done-counts : (s : Sheet) → Sound s → (c : Command) → (t : Sheet) → t ≡ result s c
-    → done s (result s c) ≡ record { number = 0; first = cond (eqb (t .next - s .next) 0) 0 (s .next); new = t .next - s .next; removed = length (s .cells) + (t .next - s .next) - length (t .cells); sheet = t }
+    → done s (result s c) ≡ record {
+      number = 0;
+      first = cond (eqb
+          (t .next - s .next) 0) 0 (s .next);
+      new = t .next - s .next;
+      removed = length (s .cells) + (t .next - s .next) - length (t .cells);
+      sheet = t;
+    }
 done-counts s S c t e =
-    ap (done s) (sym e) ∙ ap (λ (n : ℕ). record { number = 0; first = cond (eqb (t .next - s .next) 0) 0 (s .next); new = t .next - s .next; removed = n; sheet = t }) (removed t e)
+    ap (done s) (sym e) ∙ ap
+    (λ (n : ℕ). record { number = 0; first = cond (eqb (t .next - s .next) 0) 0 (s .next); new = t .next - s .next; removed = n; sheet = t }) (removed t e)
   where
     removed : (t : Sheet) → t ≡ result s c → length (removedFrom s t) ≡ length (s .cells) + (t .next - s .next) - length (t .cells)
     removed t e = rw e (let r = removed-rebuilt s S (result s c) (result-rebuilt s c) in omega arith)

@@ -70,7 +70,8 @@ follows p f new s =
     record {
       grows = omega arith;
       no-other = λ i h l. go i (p i) (cellAt s i) (rw (lookup-rebuild p f new s i, lookup-below (s .next) new i h) at l);
-      no-gap = λ i h l. rw (lookup-rebuild p f new s i) (live-else (changed (f i) (cond (p i) (cellAt s i) none)) (lookup (numbered (s .next) new) i) (live-new (s .next) new i h l));
+      no-gap = λ i h l. rw (lookup-rebuild p f new s i)
+          (live-else (changed (f i) (cond (p i) (cellAt s i) none)) (lookup (numbered (s .next) new) i) (live-new (s .next) new i h l));
     }
   where
     go : (i : ℕ) (b : Bool) (o : Option Figure) → T (isLive (orElse (changed (f i) (cond b o none)) none)) → T (isLive o)
@@ -88,7 +89,13 @@ follows-result s c = follows-of (result-rebuilt s c)
 -- ---- ids
 pub issues : IdsIssued
 issues s b = elim (answered s b) [
-  | refusal n z q ↦ record { next-id = rw q (omega arith); first-id = rw q (λ h. absurd (omega arith)); issued = rw q (follows-self s .no-gap); live-before = rw q (λ i h l. l) }
+  | refusal n z q ↦ record {
+    next-id = rw q (omega arith);
+    first-id = rw q (λ h. absurd
+        (omega arith));
+    issued = rw q (follows-self s .no-gap);
+    live-before = rw q (λ i h l. l);
+  }
   | obeyed c t e p q ↦
       let F = follows-result s c in
       let g = F .grows in
@@ -128,7 +135,8 @@ live-in cs (d ∷ ds) h =
 pub all-live : (cs : List LiveCell) → T (all (λ (c : LiveCell). isLive (lookup cs (c .id))) cs)
 all-live cs = live-in cs cs (λ i l. l)
 
-removed-none : (cs ds : List LiveCell) → T (all (λ (c : LiveCell). isLive (lookup cs (c .id))) ds) → filter (λ (c : LiveCell). not (isLive (lookup cs (c .id)))) ds ≡ []
+removed-none : (cs ds : List LiveCell) → T (all (λ (c : LiveCell). isLive (lookup cs (c .id))) ds)
+    → filter (λ (c : LiveCell). not (isLive (lookup cs (c .id)))) ds ≡ []
 removed-none cs [] h = refl
 removed-none cs (d ∷ ds) h =
     let b = both (isLive (lookup cs (d .id))) (all (λ (c : LiveCell). isLive (lookup cs (c .id))) ds) h in
@@ -153,7 +161,8 @@ module _ (p : ℕ → Bool) (f : ℕ → Figure → Figure) (new : List Figure) 
       go true (some x) l = refl
       go false (some x) l = refl
 
-  split-cells : (lo : ℕ) (cs : List LiveCell) → T (rising lo (ids cs) (s .next)) → T (all (λ (c : LiveCell). isLive (cellAt s (c .id))) cs) → length (filter gone cs) + length (keepIds p cs) ≡ length cs
+  split-cells : (lo : ℕ) (cs : List LiveCell) → T (rising lo (ids cs) (s .next)) → T (all (λ (c : LiveCell). isLive (cellAt s (c .id))) cs)
+      → length (filter gone cs) + length (keepIds p cs) ≡ length cs
   split-cells lo [] r a = refl
   split-cells lo (c ∷ cs) r a =
       let b = both (ltb lo (c .id)) (rising (c .id) (ids cs) (s .next)) r in
@@ -161,7 +170,8 @@ module _ (p : ℕ → Bool) (f : ℕ → Figure → Figure) (new : List Figure) 
       let e = live-after (c .id) (rising-lt (c .id) (ids cs) (s .next) (b .1)) (l .0) in
       go (p (c .id)) (ap not e) (split-cells (c .id) cs (b .1) (l .1))
     where
-      go : (x : Bool) → gone c ≡ not x → length (filter gone cs) + length (keepIds p cs) ≡ length cs → length (consIf (gone c) c (filter gone cs)) + length (consIf x c (keepIds p cs)) ≡ suc (length cs)
+      go : (x : Bool) → gone c ≡ not x → length (filter gone cs) + length (keepIds p cs) ≡ length cs
+          → length (consIf (gone c) c (filter gone cs)) + length (consIf x c (keepIds p cs)) ≡ suc (length cs)
       go true e h = rw e (omega arith)
       go false e h = rw e (omega arith)
 

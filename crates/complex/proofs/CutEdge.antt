@@ -13,7 +13,8 @@ use Rattle.number.specs.Readers.{spread}
 use Rattle.coordinate.specs.declared.Position.{Position}
 use Rattle.coordinate.specs.Bounds.{within, inBounds, middle}
 use Rattle.complex.specs.Lists.{all, isEmpty, one, total}
-use Rattle.complex.specs.Cells.{Halfedge, Cycle, lone, path, Figure, vertex, openEdge, closedEdge, face, LiveCell, Sheet, origin, Look, lookup, isVertex, isOpen, isClosed, isEdge, startOf, endOf, bendsOf, positionOf, along, against, same, tailOf, headOf, cellAt}
+use Rattle.complex.specs.Cells.{Halfedge, Cycle, lone, path, Figure, vertex, openEdge, closedEdge, face, LiveCell, Sheet, origin, Look, lookup, isVertex}
+use Rattle.complex.specs.Cells.{isOpen, isClosed, isEdge, startOf, endOf, bendsOf, positionOf, along, against, same, tailOf, headOf, cellAt}
 use Rattle.complex.specs.Sound.{Walk, idsEnd, cycleOk, figureOk, ceilings, joins}
 use Rattle.complex.specs.Decode.{Command, cutEdge}
 use Rattle.complex.specs.Edits.{numbered, rebuild, rewired, sameVertex, others, inPlaceOf}
@@ -49,12 +50,14 @@ round-place bs q true t = ltb→lt (q / 2) (length bs) t
 round-place bs q false t = ltb→lt (q / 2) (length bs) t
 
 -- a bend that is there, or the middle of a segment that is there
-place-ok : (ps bs : List Position) (q : ℕ) (b : Bool) → T (all within ps) → T (all within bs) → (b ≡ true → q / 2 < length bs) → (b ≡ false → q / 2 + 1 < length ps)
+place-ok : (ps bs : List Position) (q : ℕ) (b : Bool) → T (all within ps) → T (all within bs) → (b ≡ true → q / 2 < length bs)
+    → (b ≡ false → q / 2 + 1 < length ps)
     → T (within (cond b (getD bs (q / 2) origin) (middle (getD ps (q / 2) origin) (getD ps (q / 2 + 1) origin))))
 place-ok ps bs q true P B h k = all-getD within bs (q / 2) origin B (h refl)
 place-ok ps bs q false P B h k =
     let l = k refl in
-    middle-within (getD ps (q / 2) origin) (getD ps (q / 2 + 1) origin) (all-getD within ps (q / 2) origin P (omega arith)) (all-getD within ps (q / 2 + 1) origin P l)
+    middle-within (getD ps (q / 2) origin) (getD ps (q / 2 + 1) origin) (all-getD within ps (q / 2) origin P (omega arith))
+    (all-getD within ps (q / 2 + 1) origin P l)
 
 -- ---- new cells' ids
 second : (n : ℕ) (t u : Figure) (ts : List Figure) → lookup (numbered n (t ∷ u ∷ ts)) (suc n) ≡ some u
@@ -67,7 +70,8 @@ first : (n : ℕ) (t : Figure) (ts : List Figure) → lookup (numbered n (t ∷ 
 first n t ts = rw (eq-eqb n n refl)
 
 -- ---- an open edge
-module _ (s : Sheet) (S : Sound s) (e q a b : ℕ) (bs : List Position) (at : cellAt s e ≡ some (openEdge a b bs)) (ex : T (cutExists (some (openEdge a b bs)) q)) where
+module _ (s : Sheet) (S : Sound s) (e q a b : ℕ) (bs : List Position) (at : cellAt s e ≡ some (openEdge a b bs))
+    (ex : T (cutExists (some (openEdge a b bs)) q)) where
   abbrev v : ℕ
   v = s .next
 
@@ -87,13 +91,16 @@ module _ (s : Sheet) (S : Sound s) (e q a b : ℕ) (bs : List Position) (at : ce
   look′ = swapped s S e E σ new
 
   at-v : look′ v ≡ some (vertex place)
-  at-v = new-at (others e) (rewired sameVertex σ) new s S v (omega arith) ∙ first v (vertex place) (openEdge a v (bendsBefore bs q) ∷ openEdge v b (bendsAfter bs q) ∷ [])
+  at-v = new-at (others e) (rewired sameVertex σ) new s S v (omega arith)
+      ∙ first v (vertex place) (openEdge a v (bendsBefore bs q) ∷ openEdge v b (bendsAfter bs q) ∷ [])
 
   at-a : look′ (suc v) ≡ some (openEdge a v (bendsBefore bs q))
-  at-a = new-at (others e) (rewired sameVertex σ) new s S (suc v) (omega arith) ∙ second v (vertex place) (openEdge a v (bendsBefore bs q)) (openEdge v b (bendsAfter bs q) ∷ [])
+  at-a = new-at (others e) (rewired sameVertex σ) new s S (suc v) (omega arith) ∙ second v (vertex place) (openEdge a v (bendsBefore bs q))
+      (openEdge v b (bendsAfter bs q) ∷ [])
 
   at-b : look′ (suc (suc v)) ≡ some (openEdge v b (bendsAfter bs q))
-  at-b = new-at (others e) (rewired sameVertex σ) new s S (suc (suc v)) (omega arith) ∙ third v (vertex place) (openEdge a v (bendsBefore bs q)) (openEdge v b (bendsAfter bs q)) []
+  at-b = new-at (others e) (rewired sameVertex σ) new s S (suc (suc v)) (omega arith) ∙ third v (vertex place) (openEdge a v (bendsBefore bs q))
+      (openEdge v b (bendsAfter bs q)) []
 
   ok : T (isVertex (cellAt s a)) × T (isVertex (cellAt s b)) × T (all within bs)
   ok =
@@ -109,7 +116,8 @@ module _ (s : Sheet) (S : Sound s) (e q a b : ℕ) (bs : List Position) (at : ce
       place-ok (points (cellAt s) (some (openEdge a b bs))) bs q (eqb (q % 2) 1)
       (pair (within (positionOf (cellAt s a))) (all within (bs ++ one (positionOf (cellAt s b)))) (position-ok a (ok .0))
       (all-append within bs (one (positionOf (cellAt s b))) (ok .2) (pair (within (positionOf (cellAt s b))) true (position-ok b (ok .1)) tt)))
-      (ok .2) (λ z. ltb→lt (q / 2) (length bs) (odd z ex)) (λ z. let l = leb→le (q / 2) (length bs) (even z ex) in let n = length-append bs (one (positionOf (cellAt s b))) in omega arith)
+      (ok .2) (λ z. ltb→lt (q / 2) (length bs) (odd z ex)) (λ z. let l = leb→le (q / 2) (length bs) (even z ex) in
+      let n = length-append bs (one (positionOf (cellAt s b))) in omega arith)
     where
       odd : eqb (q % 2) 1 ≡ true → T (cond (eqb (q % 2) 1 || false) (ltb (q / 2) (length bs)) (leb (q / 2) (length bs))) → T (ltb (q / 2) (length bs))
       odd z t = rw z at t
@@ -126,7 +134,8 @@ module _ (s : Sheet) (S : Sound s) (e q a b : ℕ) (bs : List Position) (at : ce
       let c : cellAt s (h .edge) ≡ some (openEdge a b bs) = ap (cellAt s) z ∙ at in
       let t : tailOf (cellAt s) h ≡ cond (h .backward) b a = ap (λ (x : Option Figure). cond (h .backward) (endOf x) (startOf x)) c in
       let u : headOf (cellAt s) h ≡ cond (h .backward) a b = ap (λ (x : Option Figure). cond (h .backward) (startOf x) (endOf x)) c in
-      let n : σ h ≡ cond (h .backward) (against (suc (suc v)) ∷ against (suc v) ∷ []) (along (suc v) ∷ along (suc (suc v)) ∷ []) = rw (eq-eqb e (h .edge) (sym z)) in
+      let n : σ h ≡ cond (h .backward) (against (suc (suc v)) ∷ against (suc v) ∷ []) (along (suc v) ∷ along (suc (suc v)) ∷ []) =
+      rw (eq-eqb e (h .edge) (sym z)) in
       subst (λ (x : ℕ). Walk look′ x (σ h) (headOf (cellAt s) h)) (sym t)
       (subst (λ (x : ℕ). Walk look′ (cond (h .backward) b a) (σ h) x) (sym u)
       (subst (λ (ks : List Halfedge). Walk look′ (cond (h .backward) b a) ks (cond (h .backward) a b)) (sym n) (two (h .backward))))
@@ -152,11 +161,14 @@ module _ (s : Sheet) (S : Sound s) (e q a b : ℕ) (bs : List Position) (at : ce
       let B = left-vertex s S e E σ new b (ok .1) in
       pair (within place) _ place-is-ok
       (pair (isVertex (look′ a) && (isVertex (look′ v) && all within (bendsBefore bs q))) _
-      (pair (isVertex (look′ a)) (isVertex (look′ v) && all within (bendsBefore bs q)) A (pair (isVertex (look′ v)) (all within (bendsBefore bs q)) M (all-take within (q / 2) bs (ok .2))))
+      (pair (isVertex (look′ a)) (isVertex (look′ v) && all within (bendsBefore bs q)) A
+      (pair (isVertex (look′ v)) (all within (bendsBefore bs q)) M (all-take within (q / 2) bs (ok .2))))
       (pair (isVertex (look′ v) && (isVertex (look′ b) && all within (bendsAfter bs q))) true
-      (pair (isVertex (look′ v)) (isVertex (look′ b) && all within (bendsAfter bs q)) M (pair (isVertex (look′ b)) (all within (bendsAfter bs q)) B (all-drop within (q / 2 + q % 2) bs (ok .2)))) tt))
+      (pair (isVertex (look′ v)) (isVertex (look′ b) && all within (bendsAfter bs q)) M
+      (pair (isVertex (look′ b)) (all within (bendsAfter bs q)) B (all-drop within (q / 2 + q % 2) bs (ok .2)))) tt))
 
-  pub open-cut-sound : T (leb (rebuild (others e) (rewired sameVertex σ) new s .next) idsEnd) → T (ceilings (rebuild (others e) (rewired sameVertex σ) new s .cells)) → Sound (rebuild (others e) (rewired sameVertex σ) new s)
+  pub open-cut-sound : T (leb (rebuild (others e) (rewired sameVertex σ) new s .next) idsEnd)
+      → T (ceilings (rebuild (others e) (rewired sameVertex σ) new s .cells)) → Sound (rebuild (others e) (rewired sameVertex σ) new s)
   open-cut-sound seven eight = swapped-sound s S e E σ new stay some-σ here-walk here-ring seven eight new-ok
 
   pub open-cut-over : Even s (rebuild (others e) (rewired sameVertex σ) new s)
@@ -227,9 +239,12 @@ module _ (s : Sheet) (S : Sound s) (e q : ℕ) (bs : List Position) (at : cellAt
       pair (within placeᶜ) _ place-is-okᶜ
       (pair (isVertex (lookᶜ w) && (isVertex (lookᶜ w) && all within (bendsRound bs q))) true
       (pair (isVertex (lookᶜ w)) (isVertex (lookᶜ w) && all within (bendsRound bs q)) M
-      (pair (isVertex (lookᶜ w)) (all within (bendsRound bs q)) M (all-append within (drop (q / 2 + 1) bs) (take (q / 2 + (1 - q % 2)) bs) (all-drop within (q / 2 + 1) bs okᶜ) (all-take within (q / 2 + (1 - q % 2)) bs okᶜ)))) tt)
+      (pair (isVertex (lookᶜ w)) (all within (bendsRound bs q)) M
+      (all-append within (drop (q / 2 + 1) bs) (take (q / 2 + (1 - q % 2)) bs) (all-drop within (q / 2 + 1) bs okᶜ)
+      (all-take within (q / 2 + (1 - q % 2)) bs okᶜ)))) tt)
 
-  pub closed-cut-sound : T (leb (rebuild (others e) (rewired sameVertex σᶜ) newᶜ s .next) idsEnd) → T (ceilings (rebuild (others e) (rewired sameVertex σᶜ) newᶜ s .cells)) → Sound (rebuild (others e) (rewired sameVertex σᶜ) newᶜ s)
+  pub closed-cut-sound : T (leb (rebuild (others e) (rewired sameVertex σᶜ) newᶜ s .next) idsEnd)
+      → T (ceilings (rebuild (others e) (rewired sameVertex σᶜ) newᶜ s .cells)) → Sound (rebuild (others e) (rewired sameVertex σᶜ) newᶜ s)
   closed-cut-sound seven eight = swapped-sound s S e Eᶜ σᶜ newᶜ (stays-one e (suc w) false) (λ h. tt) here-walkᶜ here-ringᶜ seven eight new-okᶜ
 
   pub closed-cut-over : Even s (rebuild (others e) (rewired sameVertex σᶜ) newᶜ s)

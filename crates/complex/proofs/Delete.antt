@@ -13,7 +13,8 @@ use Rattle.number.specs.Readers.{spread}
 use Rattle.coordinate.specs.declared.Position.{Position}
 use Rattle.coordinate.specs.Bounds.{within}
 use Rattle.complex.specs.Lists.{all, any, holds}
-use Rattle.complex.specs.Cells.{Halfedge, Cycle, lone, path, Figure, vertex, openEdge, closedEdge, face, LiveCell, Sheet, Look, lookup, isVertex, isOpen, isClosed, isLive, startOf, endOf, same, tailOf, headOf, cellAt}
+use Rattle.complex.specs.Cells.{Halfedge, Cycle, lone, path, Figure, vertex, openEdge, closedEdge, face, LiveCell, Sheet, Look, lookup, isVertex, isOpen}
+use Rattle.complex.specs.Cells.{isClosed, isLive, startOf, endOf, same, tailOf, headOf, cellAt}
 use Rattle.complex.specs.Boundary.{endsOf, boundaryAt, rests, cycleBoundary, boundary, bounds, boundsAt, RestsOn, holding, through}
 use Rattle.complex.specs.Sound.{idsEnd, leads, joins, cycleOk, figureOk, ceilings}
 use Rattle.complex.specs.Decode.{Command, delete}
@@ -154,30 +155,35 @@ module _ (s : Sheet) (S : Sound s) where
 
   pub joins-edges : (hs : List Halfedge) → T (joins (cellAt s) hs) → Edges hs
   joins-edges [] t = tt
-  joins-edges (h ∷ hs) t = elim (cases (leads (cellAt s) (tailOf (cellAt s) h) (h ∷ hs) (tailOf (cellAt s) h)) (isClosed (cellAt s (h .edge)) && all (same h) hs) t) [
-    | inl l ↦ leads-edges (tailOf (cellAt s) h) (h ∷ hs) (tailOf (cellAt s) h) l
-    | inr c ↦ let b = both (isClosed (cellAt s (h .edge))) (all (same h) hs) c in (inr (b .0), same-edges h hs (b .0) (b .1))
-  ]
+  joins-edges (h ∷ hs) t = elim
+      (cases (leads (cellAt s) (tailOf (cellAt s) h) (h ∷ hs) (tailOf (cellAt s) h)) (isClosed (cellAt s (h .edge)) && all (same h) hs) t) [
+        | inl l ↦ leads-edges (tailOf (cellAt s) h) (h ∷ hs) (tailOf (cellAt s) h) l
+        | inr c ↦ let b = both (isClosed (cellAt s (h .edge))) (all (same h) hs) c in (inr (b .0), same-edges h hs (b .0) (b .1))
+      ]
 
-  path-trans : (hs : List Halfedge) → Edges hs → (x y : ℕ) → T (holds x (cycleBoundary (cellAt s) (path hs))) → T (boundsAt (cellAt s) y (cellAt s x)) → T (holds y (cycleBoundary (cellAt s) (path hs)))
+  path-trans : (hs : List Halfedge) → Edges hs → (x y : ℕ) → T (holds x (cycleBoundary (cellAt s) (path hs))) → T (boundsAt (cellAt s) y (cellAt s x))
+      → T (holds y (cycleBoundary (cellAt s) (path hs)))
   path-trans [] E x y t b = absurd t
   path-trans (h ∷ hs) E x y t b = elim (holds-cases x (h .edge ∷ endsOf (cellAt s (h .edge))) (cycleBoundary (cellAt s) (path hs)) t) [
     | inl a ↦ elim (cases (eqb x (h .edge)) (holds x (endsOf (cellAt s (h .edge)))) a) [
       | inl e ↦ holds-left y (h .edge ∷ endsOf (cellAt s (h .edge))) (cycleBoundary (cellAt s) (path hs))
-          (or-right (eqb y (h .edge)) (holds y (endsOf (cellAt s (h .edge)))) (edge-bounds y (cellAt s (h .edge)) (E .0) (subst (λ (v : ℕ). T (boundsAt (cellAt s) y (cellAt s v))) (eqb→eq x (h .edge) e) b)))
+          (or-right (eqb y (h .edge)) (holds y (endsOf (cellAt s (h .edge))))
+          (edge-bounds y (cellAt s (h .edge)) (E .0) (subst (λ (v : ℕ). T (boundsAt (cellAt s) y (cellAt s v))) (eqb→eq x (h .edge) e) b)))
       | inr e ↦ absurd (vertex-holds-none y (cellAt s x) (end-vertex (h .edge) x e) b)
     ]
     | inr a ↦ holds-right y (h .edge ∷ endsOf (cellAt s (h .edge))) (cycleBoundary (cellAt s) (path hs)) (path-trans hs (E .1) x y a b)
   ]
 
-  cycle-trans : (k : Cycle) → T (cycleOk (cellAt s) k) → (x y : ℕ) → T (holds x (cycleBoundary (cellAt s) k)) → T (boundsAt (cellAt s) y (cellAt s x)) → T (holds y (cycleBoundary (cellAt s) k))
+  cycle-trans : (k : Cycle) → T (cycleOk (cellAt s) k) → (x y : ℕ) → T (holds x (cycleBoundary (cellAt s) k)) → T (boundsAt (cellAt s) y (cellAt s x))
+      → T (holds y (cycleBoundary (cellAt s) k))
   cycle-trans (lone v) c x y t b = elim (cases (eqb x v) false t) [
     | inl e ↦ absurd (vertex-holds-none y (cellAt s x) (subst (λ (z : ℕ). T (isVertex (cellAt s z))) (sym (eqb→eq x v e)) c) b)
     | inr e ↦ absurd e
   ]
   cycle-trans (path hs) c x y t b = path-trans hs (joins-edges hs c) x y t b
 
-  cycles-trans : (ks : List Cycle) → T (all (cycleOk (cellAt s)) ks) → (x y : ℕ) → T (holds x (spread (cycleBoundary (cellAt s)) ks)) → T (boundsAt (cellAt s) y (cellAt s x)) → T (holds y (spread (cycleBoundary (cellAt s)) ks))
+  cycles-trans : (ks : List Cycle) → T (all (cycleOk (cellAt s)) ks) → (x y : ℕ) → T (holds x (spread (cycleBoundary (cellAt s)) ks))
+      → T (boundsAt (cellAt s) y (cellAt s x)) → T (holds y (spread (cycleBoundary (cellAt s)) ks))
   cycles-trans [] c x y t b = t
   cycles-trans (k ∷ ks) c x y t b =
       let d = both (cycleOk (cellAt s) k) (all (cycleOk (cellAt s)) ks) c in
@@ -186,14 +192,16 @@ module _ (s : Sheet) (S : Sound s) where
         | inr a ↦ holds-right y (cycleBoundary (cellAt s) k) (spread (cycleBoundary (cellAt s)) ks) (cycles-trans ks (d .1) x y a b)
       ]
 
-  pub bounds-trans : (t : Figure) → T (figureOk (cellAt s) t) → (x y : ℕ) → T (bounds (cellAt s) x t) → T (boundsAt (cellAt s) y (cellAt s x)) → T (bounds (cellAt s) y t)
+  pub bounds-trans : (t : Figure) → T (figureOk (cellAt s) t) → (x y : ℕ) → T (bounds (cellAt s) x t) → T (boundsAt (cellAt s) y (cellAt s x))
+      → T (bounds (cellAt s) y t)
   bounds-trans (vertex p) c x y t b = t
   bounds-trans (openEdge u w bs) c x y t b =
       let d = both (isVertex (cellAt s u)) (isVertex (cellAt s w) && all within bs) c in
       let e = both (isVertex (cellAt s w)) (all within bs) (d .1) in
       absurd (elim (cases (eqb x u) (eqb x w || false) t) [
         | inl h ↦ vertex-holds-none y (cellAt s x) (subst (λ (v : ℕ). T (isVertex (cellAt s v))) (sym (eqb→eq x u h)) (d .0)) b
-        | inr h ↦ elim (cases (eqb x w) false h) [ inl k ↦ vertex-holds-none y (cellAt s x) (subst (λ (v : ℕ). T (isVertex (cellAt s v))) (sym (eqb→eq x w k)) (e .0)) b | inr k ↦ k ]
+        | inr h ↦ elim (cases (eqb x w) false h)
+            [ inl k ↦ vertex-holds-none y (cellAt s x) (subst (λ (v : ℕ). T (isVertex (cellAt s v))) (sym (eqb→eq x w k)) (e .0)) b | inr k ↦ k ]
       ])
   bounds-trans (closedEdge bs) c x y t b = t
   bounds-trans (face ks) c x y t b = cycles-trans ks c x y t b
@@ -212,7 +220,8 @@ rests-means : (look : Look) (n x z : ℕ) → T (rests look n x z) → RestsOn l
 rests-means look zero x z t = absurd t
 rests-means look (suc n) x z t = go (λ y r. rests-means look n x y r) (boundaryAt look (look z)) (λ y h. h) t
   where
-    go : ((y : ℕ) → T (rests look n x y) → RestsOn look x y) → (ys : List ℕ) → ((y : ℕ) → T (holds y ys) → T (boundsAt look y (look z))) → T (any (λ (y : ℕ). eqb x y || rests look n x y) ys) → RestsOn look x z
+    go : ((y : ℕ) → T (rests look n x y) → RestsOn look x y) → (ys : List ℕ) → ((y : ℕ) → T (holds y ys) → T (boundsAt look y (look z)))
+        → T (any (λ (y : ℕ). eqb x y || rests look n x y) ys) → RestsOn look x z
     go m [] k t = absurd t
     go m (y ∷ ys) k t = elim (cases (eqb x y || rests look n x y) (any (λ (y : ℕ). eqb x y || rests look n x y) ys) t) [
       | inl a ↦ elim (cases (eqb x y) (rests look n x y) a) [
@@ -255,7 +264,8 @@ module _ (s : Sheet) (S : Sound s) (i : ℕ) where
 
   pub deleted-sound : T (leb (deleted s i .next) idsEnd) → T (ceilings (deleted s i .cells)) → Sound (deleted s i)
   unfolding deleted
-  deleted-sound seven eight = rebuild-sound stay asItIs [] s S seven eight (λ j t k e. shape-frame (cellAt s) (Look′ stay asItIs [] s) t (agree j t k e) (S .figures j t e)) tt
+  deleted-sound seven eight = rebuild-sound stay asItIs [] s S seven eight
+      (λ j t k e. shape-frame (cellAt s) (Look′ stay asItIs [] s) t (agree j t k e) (S .figures j t e)) tt
     where
       agree : (j : ℕ) (t : Figure) → T (stay j) → cellAt s j ≡ some t → (x : ℕ) → T (bounds (cellAt s) x t) → Look′ stay asItIs [] s x ≡ cellAt s x
       agree j t k e x h = left-at x ∙ rw (go (goes s i x) refl)
@@ -271,7 +281,8 @@ module _ (s : Sheet) (S : Sound s) (i : ℕ) where
           go false q = q
           go true q =
               absurd (lib.Dec.T-not (goes s i j) k
-              (or-right (eqb i j) (rests (cellAt s) (length (s .cells)) i j) (bounds-rests s i j (subst (λ (o : Option Figure). T (boundsAt (cellAt s) i o)) (sym e) (held (truth q))))))
+              (or-right (eqb i j) (rests (cellAt s) (length (s .cells)) i j)
+              (bounds-rests s i j (subst (λ (o : Option Figure). T (boundsAt (cellAt s) i o)) (sym e) (held (truth q))))))
 
   pub deleted-took : T (isLive (cellAt s i)) → Took s (deleted s i) i
   unfolding deleted
@@ -297,7 +308,8 @@ module _ (s : Sheet) (S : Sound s) (i : ℕ) where
 
       took : (j ≡ i) ⊎ RestsOn (cellAt s) i j → live s j × (live (rebuild stay asItIs [] s) j → ⊥)
       took (inl e) = (subst (λ (x : ℕ). T (isLive (cellAt s x))) (sym e) l, dead (or-left (eqb i j) (rests (cellAt s) (length (s .cells)) i j) (equal (sym e))))
-      took (inr r) = let b = rests-bounds s S i j r in (bounded-live (cellAt s j) b, dead (or-right (eqb i j) (rests (cellAt s) (length (s .cells)) i j) (bounds-rests s i j b)))
+      took (inr r) = let b = rests-bounds s S i j r in
+          (bounded-live (cellAt s j) b, dead (or-right (eqb i j) (rests (cellAt s) (length (s .cells)) i j) (bounds-rests s i j b)))
 
 pub delete-sound : (i : ℕ) → KeepsSound (delete i)
 unfolding result

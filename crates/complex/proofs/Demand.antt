@@ -7,7 +7,8 @@ use lib.Dec.{T, eqb}
 use borrow.Author.Tests.{eqb-true}
 use Rattle.coordinate.specs.declared.Position.{Position}
 use Rattle.complex.specs.Cells.{Sheet}
-use Rattle.complex.specs.Decode.{Command, create, move, delete, glueVertices, glueEdges, unglue, cutEdge, cutFaceVertex, cutFaceOpen, cutFaceClosed, uncut}
+use Rattle.complex.specs.Decode.{Command, create, move, delete, glueVertices, glueEdges, unglue, cutEdge, cutFaceVertex, cutFaceOpen, cutFaceClosed}
+use Rattle.complex.specs.Decode.{uncut}
 use Rattle.complex.specs.Commands.{result}
 use Rattle.complex.specs.Demands.{Demand3}
 use Rattle.complex.proofs.Keep.{Sound}
@@ -32,11 +33,13 @@ cut-sound f c1 s1 c2 s2 bs ms s S p = go (eqb c1 c2) refl
         subst (λ (c : ℕ). Passes s (cutFaceOpen f c1 s1 c s2 bs ms) → Sound (result s (cutFaceOpen f c1 s1 c s2 bs ms))) z (split-sound f c1 s1 s2 bs ms s S) p
     go false e = bridge-sound f c1 s1 c2 s2 bs ms s S p e
 
-cut-balanced : (f c1 s1 c2 s2 : ℕ) (bs : List Position) (ms : List ℕ) (s : Sheet) → Sound s → Passes s (cutFaceOpen f c1 s1 c2 s2 bs ms) → Balanced s (cutFaceOpen f c1 s1 c2 s2 bs ms)
+cut-balanced : (f c1 s1 c2 s2 : ℕ) (bs : List Position) (ms : List ℕ) (s : Sheet) → Sound s → Passes s (cutFaceOpen f c1 s1 c2 s2 bs ms)
+    → Balanced s (cutFaceOpen f c1 s1 c2 s2 bs ms)
 cut-balanced f c1 s1 c2 s2 bs ms s S p = go (eqb c1 c2) refl
   where
     go : (b : Bool) → eqb c1 c2 ≡ b → Balanced s (cutFaceOpen f c1 s1 c2 s2 bs ms)
-    go true e = subst (λ (c : ℕ). Passes s (cutFaceOpen f c1 s1 c s2 bs ms) → Balanced s (cutFaceOpen f c1 s1 c s2 bs ms)) (eqb-true c1 c2 e) (split-balanced f c1 s1 s2 bs ms s S) p
+    go true e = subst (λ (c : ℕ). Passes s (cutFaceOpen f c1 s1 c s2 bs ms) → Balanced s (cutFaceOpen f c1 s1 c s2 bs ms)) (eqb-true c1 c2 e)
+        (split-balanced f c1 s1 s2 bs ms s S) p
     go false e = bridge-balanced f c1 s1 c2 s2 bs ms s S p e
 
 held : (c : Command) → KeepsSound c × ((s : Sheet) → Sound s → Passes s c → Balanced s c)

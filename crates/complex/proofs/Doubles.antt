@@ -13,9 +13,11 @@ use Rattle.coordinate.specs.declared.Position.{Position}
 use Rattle.coordinate.specs.Bounds.{middle}
 use Rattle.coordinate.proofs.Laws.{middle-fits}
 use Rattle.complex.specs.Lists.{all, one}
-use Rattle.complex.specs.Cells.{Halfedge, Cycle, Figure, vertex, openEdge, closedEdge, face, LiveCell, Sheet, empty, origin, Look, cellAt, startOf, endOf, headOf, bendsOf, cyclesOf, positionOf}
+use Rattle.complex.specs.Cells.{Halfedge, Cycle, Figure, vertex, openEdge, closedEdge, face, LiveCell, Sheet, empty, origin, Look, cellAt, startOf, endOf}
+use Rattle.complex.specs.Cells.{headOf, bendsOf, cyclesOf, positionOf}
 use Rattle.complex.specs.Sound.{double, figureDouble, doubles, sound}
-use Rattle.complex.specs.Decode.{Command, create, move, delete, glueVertices, glueEdges, unglue, cutEdge, cutFaceVertex, cutFaceOpen, cutFaceClosed, uncut}
+use Rattle.complex.specs.Decode.{Command, create, move, delete, glueVertices, glueEdges, unglue, cutEdge, cutFaceVertex, cutFaceOpen, cutFaceClosed}
+use Rattle.complex.specs.Decode.{uncut}
 use Rattle.complex.specs.Edits.{keepIds, reshape, numbered, rebuild, everyId, others, asItIs, replaced, rewired}
 use Rattle.complex.specs.Uses.{onUses}
 use Rattle.complex.specs.Unglue.{newEnds, copies, parts, ungluing}
@@ -42,7 +44,8 @@ numbered-double n (x ∷ xs) t =
 abbrev Steady : (ℕ → Figure → Figure) → Type 0
 Steady f = (i : ℕ) (x : Figure) → T (figureDouble x) → T (figureDouble (f i x))
 
-pub rebuild-doubles : (p : ℕ → Bool) (f : ℕ → Figure → Figure) (new : List Figure) (s : Sheet) → Steady f → T (all figureDouble new) → T (doubles s) → T (doubles (rebuild p f new s))
+pub rebuild-doubles : (p : ℕ → Bool) (f : ℕ → Figure → Figure) (new : List Figure) (s : Sheet) → Steady f → T (all figureDouble new) → T (doubles s)
+    → T (doubles (rebuild p f new s))
 rebuild-doubles p f new s F N S =
     let D : LiveCell → Bool = λ (c : LiveCell). figureDouble (c .figure) in
     all-append D (reshape f (keepIds p (s .cells))) (numbered (s .next) new)
@@ -175,7 +178,8 @@ module _ (s : Sheet) (S : T (doubles s)) where
       let m = q / 2 + 1 in
       let n = q / 2 + (1 - q % 2) in
       rebuild-doubles (others e) _ (v ∷ x ∷ []) s (rewired-steady _ _)
-      (both-double v x (cut-double (cellAt s) (some (closedEdge bs)) q h) (all-append double (drop m bs) (take n bs) (all-drop double m bs h) (all-take double n bs h))) S
+      (both-double v x (cut-double (cellAt s) (some (closedEdge bs)) q h)
+      (all-append double (drop m bs) (take n bs) (all-drop double m bs h) (all-take double n bs h))) S
   cut-kept e q (some (face ks)) h = S
 
   along-kept : (h : Halfedge) → T (all double (bendsAlong (cellAt s) h))
@@ -203,7 +207,9 @@ module _ (s : Sheet) (S : T (doubles s)) where
       u : T (all double (bendsOf a))
       u = bends-at a (double-at s (x .edge) S)
 
-      go : (b : Bool) → T (figureDouble (cond b (openEdge (startOf a) (headOf (cellAt s) y) (bendsOf a ++ (p ∷ w))) (openEdge (headOf (cellAt s) y) (endOf a) (reverse w ++ (p ∷ bendsOf a)))))
+      go : (b : Bool) → T (figureDouble
+          (cond b (openEdge (startOf a) (headOf (cellAt s) y) (bendsOf a ++ (p ∷ w)))
+          (openEdge (headOf (cellAt s) y) (endOf a) (reverse w ++ (p ∷ bendsOf a)))))
       go true = all-append double (bendsOf a) (p ∷ w) u (pair (double p) (all double w) d (along-kept y))
       go false = all-append double (reverse w) (p ∷ bendsOf a) (all-reverse double w (along-kept y)) (pair (double p) (all double (bendsOf a)) d u)
 
@@ -228,11 +234,13 @@ module _ (s : Sheet) (S : T (doubles s)) where
   face-kept : (f : ℕ) (ks : List Cycle) (new : List Figure) → T (all figureDouble new) → T (doubles (rebuild everyId (replaced f (face ks)) new s))
   face-kept f ks new t = rebuild-doubles everyId (replaced f (face ks)) new s (replaced-steady f (face ks) tt) t S
 
-  split-kept : (f : ℕ) (ks : List Cycle) (x : Figure) (js : List Cycle) → T (figureDouble x) → T (doubles (rebuild everyId (replaced f (face ks)) (x ∷ face js ∷ []) s))
+  split-kept : (f : ℕ) (ks : List Cycle) (x : Figure) (js : List Cycle) → T (figureDouble x)
+      → T (doubles (rebuild everyId (replaced f (face ks)) (x ∷ face js ∷ []) s))
   split-kept f ks x js t = face-kept f ks (x ∷ face js ∷ []) (both-double x (face js) t tt)
 
   -- 0C, in one cycle or between two
-  along-edge : (f c1 s1 c2 s2 : ℕ) (bs : List Position) (ms : List ℕ) (ks : List Cycle) (b : Bool) → T (all double bs) → T (doubles (cond b (splitInTwo s f c1 s1 s2 bs ms ks) (bridged s f c1 s1 c2 s2 bs ks)))
+  along-edge : (f c1 s1 c2 s2 : ℕ) (bs : List Position) (ms : List ℕ) (ks : List Cycle) (b : Bool) → T (all double bs)
+      → T (doubles (cond b (splitInTwo s f c1 s1 s2 bs ms ks) (bridged s f c1 s1 c2 s2 bs ks)))
   along-edge f c1 s1 c2 s2 bs ms ks true t = split-kept f _ (openEdge _ _ bs) _ t
   along-edge f c1 s1 c2 s2 bs ms ks false t = face-kept f _ (openEdge _ _ bs ∷ []) (pair (all double bs) true t tt)
 

@@ -13,7 +13,8 @@ use Rattle.number.specs.Readers.{spread}
 use Rattle.coordinate.specs.declared.Position.{Position}
 use Rattle.coordinate.specs.Bounds.{within, inBounds, middle}
 use Rattle.complex.specs.Lists.{all, isEmpty, one}
-use Rattle.complex.specs.Cells.{Halfedge, Cycle, lone, path, Figure, vertex, openEdge, closedEdge, face, LiveCell, Sheet, origin, Look, someIf, lookup, isVertex, isOpen, isClosed, isEdge, startOf, endOf, bendsOf, positionOf, along, against, same, tailOf, headOf, cellAt}
+use Rattle.complex.specs.Cells.{Halfedge, Cycle, lone, path, Figure, vertex, openEdge, closedEdge, face, LiveCell, Sheet, origin, Look, someIf, lookup}
+use Rattle.complex.specs.Cells.{isVertex, isOpen, isClosed, isEdge, startOf, endOf, bendsOf, positionOf, along, against, same, tailOf, headOf, cellAt}
 use Rattle.complex.specs.Sound.{Walk, idsEnd, cycleOk, figureOk, ceilings, joins, over}
 use Rattle.complex.specs.Decode.{Command, glueEdges, cutEdge}
 use Rattle.complex.specs.Edits.{numbered, rebuild, rewired, sameVertex, others, inPlaceOf}
@@ -57,7 +58,8 @@ module _ (s : Sheet) (S : Sound s) (e : ℕ) (E : T (isEdge (cellAt s e))) (σ :
     where
       go : (o : Option Figure) → cellAt s i ≡ o → Alike o (swapped i)
       go none q = tt
-      go (some t) q = subst (Alike (some t)) (sym (stays-at (others e) (rewired sameVertex σ) new s i t (rw (ne-eqb e i (λ z. n (sym z))) tt) q)) (alike-rewired σ i t)
+      go (some t) q = subst (Alike (some t)) (sym (stays-at (others e) (rewired sameVertex σ) new s i t (rw (ne-eqb e i (λ z. n (sym z))) tt) q))
+          (alike-rewired σ i t)
 
   pub left-vertex : (v : ℕ) → T (isVertex (cellAt s v)) → T (isVertex (swapped v))
   left-vertex v t = vertex-of (cellAt s v) (swapped v) (left-alike v (λ q. edge-no-vertex (cellAt s e) E (subst (λ (i : ℕ). T (isVertex (cellAt s i))) q t))) t
@@ -70,7 +72,8 @@ module _ (s : Sheet) (S : Sound s) (e : ℕ) (E : T (isEdge (cellAt s e))) (σ :
   -- open edges carried, closed edges carried
   module _ (stay : (h : Halfedge) → eqb e (h .edge) ≡ false → σ h ≡ one h) (some-σ : (h : Halfedge) → Some (σ h))
       (here-walk : (h : Halfedge) → h .edge ≡ e → T (isOpen (cellAt s e)) → Walk swapped (tailOf (cellAt s) h) (σ h) (headOf (cellAt s) h))
-      (here-ring : (h : Halfedge) (hs : List Halfedge) → h .edge ≡ e → T (isClosed (cellAt s e)) → T (all (same h) hs) → T (joins swapped (spread σ (h ∷ hs)))) where
+      (here-ring : (h : Halfedge) (hs : List Halfedge) → h .edge ≡ e → T (isClosed (cellAt s e)) → T (all (same h) hs)
+      → T (joins swapped (spread σ (h ∷ hs)))) where
     walks : (h : Halfedge) → T (isOpen (cellAt s (h .edge))) → Walk swapped (tailOf (cellAt s) h) (σ h) (headOf (cellAt s) h)
     walks h t = go (eqb e (h .edge)) refl
       where
@@ -89,12 +92,19 @@ module _ (s : Sheet) (S : Sound s) (e : ℕ) (E : T (isEdge (cellAt s e))) (σ :
             (closed-of (cellAt s (h .edge)) (swapped (h .edge)) (left-alike (h .edge) (λ z. eqb-false e (h .edge) q (sym z))) (g .0)) (g .1)
 
     carried : Carries (cellAt s) swapped sameVertex σ
-    carried = record { vertices = left-vertex; rounds = λ hs t w. round-carried (cellAt s) swapped sameVertex σ walks hs (some-spread σ some-σ hs t) w; rings = rings }
+    carried = record {
+      vertices = left-vertex;
+      rounds = λ hs t w. round-carried (cellAt s) swapped sameVertex σ walks hs (some-spread σ some-σ hs
+          t) w;
+      rings = rings;
+    }
 
-    pub swapped-sound : T (leb (rebuild (others e) (rewired sameVertex σ) new s .next) idsEnd) → T (ceilings (rebuild (others e) (rewired sameVertex σ) new s .cells))
+    pub swapped-sound : T (leb (rebuild (others e) (rewired sameVertex σ) new s .next) idsEnd)
+        → T (ceilings (rebuild (others e) (rewired sameVertex σ) new s .cells))
         → T (all (figureOk swapped) new) → Sound (rebuild (others e) (rewired sameVertex σ) new s)
     swapped-sound seven eight fresh =
-        rebuild-sound (others e) (rewired sameVertex σ) new s S seven eight (λ i t k q. shape-carried (cellAt s) swapped sameVertex σ carried i t (S .figures i t q)) fresh
+        rebuild-sound (others e) (rewired sameVertex σ) new s S seven eight
+        (λ i t k q. shape-carried (cellAt s) swapped sameVertex σ carried i t (S .figures i t q)) fresh
 
   pub swapped-over : (g : Figure → ℕ) → ((i : ℕ) (t : Figure) → g (rewired sameVertex σ i t) ≡ g t) → (u : Figure) → cellAt s e ≡ some u
       → over g (rebuild (others e) (rewired sameVertex σ) new s .cells) + g u ≡ over g (s .cells) + Rattle.complex.specs.Lists.total g new
@@ -107,7 +117,8 @@ module _ (s : Sheet) (S : Sound s) (e : ℕ) (E : T (isEdge (cellAt s e))) (σ :
 pub stays-one : (e a : ℕ) (flip : Bool) (h : Halfedge) → eqb e (h .edge) ≡ false → inPlaceOf e a flip h ≡ one h
 stays-one e a flip h q = rw q
 
-pub becomes : (e a : ℕ) (flip : Bool) (h : Halfedge) → h .edge ≡ e → inPlaceOf e a flip h ≡ one (record { edge = a; backward = cond flip (not (h .backward)) (h .backward) })
+pub becomes : (e a : ℕ) (flip : Bool) (h : Halfedge) → h .edge ≡ e
+    → inPlaceOf e a flip h ≡ one (record { edge = a; backward = cond flip (not (h .backward)) (h .backward) })
 becomes e a flip h q = rw (eq-eqb e (h .edge) (sym q))
 
 module _ (a b flag : ℕ) (s : Sheet) (S : Sound s) (q : Passes s (glueEdges a b flag)) where
@@ -128,7 +139,8 @@ module _ (a b flag : ℕ) (s : Sheet) (S : Sound s) (q : Passes s (glueEdges a b
 
   rule : (T (isClosed (cellAt s a)) × T (isClosed (cellAt s b)))
       ⊎ (T (isOpen (cellAt s a)) × T (isOpen (cellAt s b))
-      × T (cond (eqb flag 0) (eqb (startOf (cellAt s a)) (startOf (cellAt s b)) && eqb (endOf (cellAt s a)) (endOf (cellAt s b))) (eqb (startOf (cellAt s a)) (endOf (cellAt s b)) && eqb (endOf (cellAt s a)) (startOf (cellAt s b)))))
+      × T (cond (eqb flag 0) (eqb (startOf (cellAt s a)) (startOf (cellAt s b)) && eqb (endOf (cellAt s a)) (endOf (cellAt s b)))
+      (eqb (startOf (cellAt s a)) (endOf (cellAt s b)) && eqb (endOf (cellAt s a)) (startOf (cellAt s b)))))
   unfolding question6
   rule = elim (cases (isClosed (cellAt s a) && isClosed (cellAt s b)) _ (both (not (eqb a b)) (mayGlue (cellAt s a) (cellAt s b) flag) (q .six) .1)) [
     | inl c ↦ inl (both (isClosed (cellAt s a)) (isClosed (cellAt s b)) c)
@@ -151,14 +163,19 @@ module _ (a b flag : ℕ) (s : Sheet) (S : Sound s) (q : Passes s (glueEdges a b
   ]
     where
       go : (n : ℕ) → n ≤ 1
-          → T (cond (eqb n 0) (eqb (startOf (cellAt s a)) (startOf (cellAt s b)) && eqb (endOf (cellAt s a)) (endOf (cellAt s b))) (eqb (startOf (cellAt s a)) (endOf (cellAt s b)) && eqb (endOf (cellAt s a)) (startOf (cellAt s b))))
+          → T (cond (eqb n 0) (eqb (startOf (cellAt s a)) (startOf (cellAt s b)) && eqb (endOf (cellAt s a)) (endOf (cellAt s b)))
+          (eqb (startOf (cellAt s a)) (endOf (cellAt s b)) && eqb (endOf (cellAt s a)) (startOf (cellAt s b))))
           → (bw : Bool)
           → (cond bw (endOf (cellAt s b)) (startOf (cellAt s b)) ≡ cond (cond (eqb n 1) (not bw) bw) (endOf (cellAt s a)) (startOf (cellAt s a)))
           × (cond bw (startOf (cellAt s b)) (endOf (cellAt s b)) ≡ cond (cond (eqb n 1) (not bw) bw) (startOf (cellAt s a)) (endOf (cellAt s a)))
-      go zero l t true = let x = both (eqb (startOf (cellAt s a)) (startOf (cellAt s b))) (eqb (endOf (cellAt s a)) (endOf (cellAt s b))) t in (sym (eqb→eq (endOf (cellAt s a)) (endOf (cellAt s b)) (x .1)), sym (eqb→eq (startOf (cellAt s a)) (startOf (cellAt s b)) (x .0)))
-      go zero l t false = let x = both (eqb (startOf (cellAt s a)) (startOf (cellAt s b))) (eqb (endOf (cellAt s a)) (endOf (cellAt s b))) t in (sym (eqb→eq (startOf (cellAt s a)) (startOf (cellAt s b)) (x .0)), sym (eqb→eq (endOf (cellAt s a)) (endOf (cellAt s b)) (x .1)))
-      go (suc zero) l t true = let x = both (eqb (startOf (cellAt s a)) (endOf (cellAt s b))) (eqb (endOf (cellAt s a)) (startOf (cellAt s b))) t in (sym (eqb→eq (startOf (cellAt s a)) (endOf (cellAt s b)) (x .0)), sym (eqb→eq (endOf (cellAt s a)) (startOf (cellAt s b)) (x .1)))
-      go (suc zero) l t false = let x = both (eqb (startOf (cellAt s a)) (endOf (cellAt s b))) (eqb (endOf (cellAt s a)) (startOf (cellAt s b))) t in (sym (eqb→eq (endOf (cellAt s a)) (startOf (cellAt s b)) (x .1)), sym (eqb→eq (startOf (cellAt s a)) (endOf (cellAt s b)) (x .0)))
+      go zero l t true = let x = both (eqb (startOf (cellAt s a)) (startOf (cellAt s b))) (eqb (endOf (cellAt s a)) (endOf (cellAt s b))) t in
+          (sym (eqb→eq (endOf (cellAt s a)) (endOf (cellAt s b)) (x .1)), sym (eqb→eq (startOf (cellAt s a)) (startOf (cellAt s b)) (x .0)))
+      go zero l t false = let x = both (eqb (startOf (cellAt s a)) (startOf (cellAt s b))) (eqb (endOf (cellAt s a)) (endOf (cellAt s b))) t in
+          (sym (eqb→eq (startOf (cellAt s a)) (startOf (cellAt s b)) (x .0)), sym (eqb→eq (endOf (cellAt s a)) (endOf (cellAt s b)) (x .1)))
+      go (suc zero) l t true = let x = both (eqb (startOf (cellAt s a)) (endOf (cellAt s b))) (eqb (endOf (cellAt s a)) (startOf (cellAt s b))) t in
+          (sym (eqb→eq (startOf (cellAt s a)) (endOf (cellAt s b)) (x .0)), sym (eqb→eq (endOf (cellAt s a)) (startOf (cellAt s b)) (x .1)))
+      go (suc zero) l t false = let x = both (eqb (startOf (cellAt s a)) (endOf (cellAt s b))) (eqb (endOf (cellAt s a)) (startOf (cellAt s b))) t in
+          (sym (eqb→eq (endOf (cellAt s a)) (startOf (cellAt s b)) (x .1)), sym (eqb→eq (startOf (cellAt s a)) (endOf (cellAt s b)) (x .0)))
       go (suc (suc n)) l t bw = absurd (omega arith)
 
   here-walk₈ : (h : Halfedge) → h .edge ≡ b → T (isOpen (cellAt s b)) → Walk look₈ (tailOf (cellAt s) h) (σ₈ h) (headOf (cellAt s) h)
@@ -167,8 +184,10 @@ module _ (a b flag : ℕ) (s : Sheet) (S : Sound s) (q : Passes s (glueEdges a b
       let g = ends-agree o (h .backward) in
       let oa : T (isOpen (cellAt s a)) = elim rule [ inl c ↦ absurd (apart (cellAt s b) (c .1) o) | inr r ↦ r .0 ] in
       let k = open-of (cellAt s a) (look₈ a) a-alike oa in
-      let t : tailOf (cellAt s) h ≡ cond (h .backward) (endOf (cellAt s b)) (startOf (cellAt s b)) = ap (λ (i : ℕ). cond (h .backward) (endOf (cellAt s i)) (startOf (cellAt s i))) z in
-      let u : headOf (cellAt s) h ≡ cond (h .backward) (startOf (cellAt s b)) (endOf (cellAt s b)) = ap (λ (i : ℕ). cond (h .backward) (startOf (cellAt s i)) (endOf (cellAt s i))) z in
+      let t : tailOf (cellAt s) h ≡ cond (h .backward) (endOf (cellAt s b)) (startOf (cellAt s b)) =
+      ap (λ (i : ℕ). cond (h .backward) (endOf (cellAt s i)) (startOf (cellAt s i))) z in
+      let u : headOf (cellAt s) h ≡ cond (h .backward) (startOf (cellAt s b)) (endOf (cellAt s b)) =
+      ap (λ (i : ℕ). cond (h .backward) (startOf (cellAt s i)) (endOf (cellAt s i))) z in
       subst (λ (ks : List Halfedge). Walk look₈ (tailOf (cellAt s) h) ks (headOf (cellAt s) h)) (sym (becomes b a (eqb flag 1) h z))
       (k .0, t ∙ g .0 ∙ (λ i. cond d (k .2 i) (k .1 i)), (λ i. cond d (sym (k .1) i) (sym (k .2) i)) ∙ sym (g .1) ∙ sym u)
 
@@ -190,7 +209,8 @@ module _ (a b flag : ℕ) (s : Sheet) (S : Sound s) (q : Passes s (glueEdges a b
       sums = swapped-over s S b (edges .1) σ₈ []
 
       go : (x y : Option Figure) → cellAt s a ≡ x → cellAt s b ≡ y
-          → over gain (rebuild (others b) (rewired sameVertex σ₈) [] s .cells) + over loss (s .cells) + 0 ≡ over gain (s .cells) + over loss (rebuild (others b) (rewired sameVertex σ₈) [] s .cells) + cond (isOpen (cellAt s a)) 1 0
+          → over gain (rebuild (others b) (rewired sameVertex σ₈) [] s .cells) + over loss (s .cells) + 0 ≡ over gain (s .cells)
+          + over loss (rebuild (others b) (rewired sameVertex σ₈) [] s .cells) + cond (isOpen (cellAt s a)) 1 0
       go x none d e = absurd (subst (λ (o : Option Figure). T (isEdge o)) e (edges .1))
       go x (some (vertex p)) d e = absurd (subst (λ (o : Option Figure). T (isEdge o)) e (edges .1))
       go x (some (openEdge u w bs)) d e =

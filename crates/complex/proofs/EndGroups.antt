@@ -30,7 +30,8 @@ figure-once v i (openEdge a b bs) x = go (eqb a v) (eqb b v) (full (eqb (x .edge
     full false true = omega arith
     full false false = omega arith
 
-    go : (p q : Bool) → hit same x (along i) + hit same x (against i) ≤ cond (eqb (x .edge) i) 1 0 → count same x (consIf p (along i) (consIf q (against i) [])) ≤ cond (eqb (x .edge) i) 1 0
+    go : (p q : Bool) → hit same x (along i) + hit same x (against i) ≤ cond (eqb (x .edge) i) 1 0
+        → count same x (consIf p (along i) (consIf q (against i) [])) ≤ cond (eqb (x .edge) i) 1 0
     go true true h = omega arith
     go true false h = omega arith
     go false true h = omega arith
@@ -39,13 +40,15 @@ figure-once v i (closedEdge bs) x = omega arith
 figure-once v i (face ks) x = omega arith
 
 -- ids rise, so each end stands once, and none of an edge up to lo stands after lo
-ends-once : (lo : ℕ) (cs : List LiveCell) (hi v : ℕ) (x : Halfedge) → T (rising lo (ids cs) hi) → (count same x (endsAt cs v) ≤ 1) × (x .edge ≤ lo → count same x (endsAt cs v) ≡ 0)
+ends-once : (lo : ℕ) (cs : List LiveCell) (hi v : ℕ) (x : Halfedge) → T (rising lo (ids cs) hi)
+    → (count same x (endsAt cs v) ≤ 1) × (x .edge ≤ lo → count same x (endsAt cs v) ≡ 0)
 ends-once lo [] hi v x t = (omega arith, λ l. refl)
 ends-once lo (c ∷ cs) hi v x t =
     let b = both (ltb lo (c .id)) (rising (c .id) (ids cs) hi) t in
     go (eqb (x .edge) (c .id)) refl (ltb→lt lo (c .id) (b .0)) (figure-once v (c .id) (c .figure) x) (ends-once (c .id) cs hi v x (b .1))
   where
-    go : (e : Bool) → eqb (x .edge) (c .id) ≡ e → lo < c .id → count same x (figureEnds v (c .id) (c .figure)) ≤ cond e 1 0 → (count same x (endsAt cs v) ≤ 1) × (x .edge ≤ c .id → count same x (endsAt cs v) ≡ 0)
+    go : (e : Bool) → eqb (x .edge) (c .id) ≡ e → lo < c .id → count same x (figureEnds v (c .id) (c .figure)) ≤ cond e 1 0
+        → (count same x (endsAt cs v) ≤ 1) × (x .edge ≤ c .id → count same x (endsAt cs v) ≡ 0)
         → (count same x (endsAt (c ∷ cs) v) ≤ 1) × (x .edge ≤ lo → count same x (endsAt (c ∷ cs) v) ≡ 0)
     go true q l h r =
         let z = eqb-true (x .edge) (c .id) q in
@@ -73,10 +76,12 @@ module _ (s : Sheet) (S : Sound s) (v : ℕ) where
   once x = ends-once 0 (s .cells) (s .next) v x (S .rises) .0
 
   -- ends are in one group exactly if they belong together
-  pub together-same : (p : Position) → cellAt s v ≡ some (vertex p) → {x y : Halfedge} → Together (passagesAt (s .cells) v) x y → groupOf (groups (s .cells) v) x ≡ groupOf (groups (s .cells) v) y
+  pub together-same : (p : Position) → cellAt s v ≡ some (vertex p) → {x y : Halfedge} → Together (passagesAt (s .cells) v) x y
+      → groupOf (groups (s .cells) v) x ≡ groupOf (groups (s .cells) v) y
   together-same p at t = Groups.together-same same arrival departure ends turns (turns-inside s S v p at) t
 
-  pub same-together : (x y : Halfedge) → T (isIn (endsAt (s .cells) v) x) → groupOf (groups (s .cells) v) x ≡ groupOf (groups (s .cells) v) y → Together (passagesAt (s .cells) v) x y
+  pub same-together : (x y : Halfedge) → T (isIn (endsAt (s .cells) v) x) → groupOf (groups (s .cells) v) x ≡ groupOf (groups (s .cells) v) y
+      → Together (passagesAt (s .cells) v) x y
   same-together x y t q = Groups.same-together same arrival departure ends turns halfedges x y t q
 
   -- each end is in exactly one group, the one of its place
@@ -98,9 +103,11 @@ module _ (s : Sheet) (S : Sound s) (v : ℕ) where
   none-empty i l = Groups.none-empty same arrival departure ends turns halfedges once (along 0) i l
 
   -- of a group's members the first stands earliest among the ends
-  pub first-earliest : (i : ℕ) (x : Halfedge) → T (isIn (groupAt (groups (s .cells) v) i) x) → placeOf (endsAt (s .cells) v) (firstAt (groups (s .cells) v) i) ≤ placeOf (endsAt (s .cells) v) x
+  pub first-earliest : (i : ℕ) (x : Halfedge) → T (isIn (groupAt (groups (s .cells) v) i) x)
+      → placeOf (endsAt (s .cells) v) (firstAt (groups (s .cells) v) i) ≤ placeOf (endsAt (s .cells) v) x
   first-earliest i x t = Groups.first-earliest same arrival departure ends turns halfedges once (along 0) i x t
 
   -- the groups are in the order of their first members
-  pub by-first : (i j : ℕ) → i < j → j < length (groups (s .cells) v) → placeOf (endsAt (s .cells) v) (firstAt (groups (s .cells) v) i) < placeOf (endsAt (s .cells) v) (firstAt (groups (s .cells) v) j)
+  pub by-first : (i j : ℕ) → i < j → j < length (groups (s .cells) v)
+      → placeOf (endsAt (s .cells) v) (firstAt (groups (s .cells) v) i) < placeOf (endsAt (s .cells) v) (firstAt (groups (s .cells) v) j)
   by-first i j l m = Groups.by-first same arrival departure ends turns halfedges once (along 0) i j l m

@@ -12,7 +12,8 @@ use lib.Dec.{T, eqb, ltb, ltb→lt}
 use borrow.Author.Tests.{eq-eqb, ne-eqb, eqb-true, eqb-false, ltb-true, ltb-false, lt-ltb, le-ltb}
 use Rattle.coordinate.specs.declared.Position.{Position}
 use Rattle.complex.specs.Lists.{all, consIf, filter, total, holds, rising, places, one, without, chosen}
-use Rattle.complex.specs.Cells.{Halfedge, Cycle, lone, path, Figure, vertex, openEdge, closedEdge, face, LiveCell, Sheet, Look, someIf, lookup, ids, isVertex, isOpen, isClosed, isFace, cyclesOf, stepsOf, along, against, cellAt}
+use Rattle.complex.specs.Cells.{Halfedge, Cycle, lone, path, Figure, vertex, openEdge, closedEdge, face, LiveCell, Sheet, Look, someIf, lookup, ids}
+use Rattle.complex.specs.Cells.{isVertex, isOpen, isClosed, isFace, cyclesOf, stepsOf, along, against, cellAt}
 use Rattle.complex.specs.Sound.{over}
 use Rattle.complex.specs.Euler.{euler}
 use Rattle.complex.specs.Decode.{Command, create, move, delete, cutFaceOpen}
@@ -48,8 +49,10 @@ module _ (g : Figure → ℕ) where
       go false h = omega arith
 
   -- each figure changed, which takes d from its part of the sum and adds h to it
-  pub over-reshaped : (d h : Figure → ℕ) (f : ℕ → Figure → Figure) → ((i : ℕ) (t : Figure) → g (f i t) + d t ≡ g t + h t) → (cs : List LiveCell) → over g (reshape f cs) + over d cs ≡ over g cs + over h cs
-  over-reshaped d h f e cs = total-by (λ (c : LiveCell). record { id = c .id; figure = f (c .id) (c .figure) }) (λ (c : LiveCell). g (c .figure)) (λ (c : LiveCell). g (c .figure)) (λ (c : LiveCell). d (c .figure)) (λ (c : LiveCell). h (c .figure)) (λ c. e (c .id) (c .figure)) cs
+  pub over-reshaped : (d h : Figure → ℕ) (f : ℕ → Figure → Figure) → ((i : ℕ) (t : Figure) → g (f i t) + d t ≡ g t + h t) → (cs : List LiveCell)
+      → over g (reshape f cs) + over d cs ≡ over g cs + over h cs
+  over-reshaped d h f e cs = total-by (λ (c : LiveCell). record { id = c .id; figure = f (c .id) (c .figure) }) (λ (c : LiveCell). g (c .figure))
+      (λ (c : LiveCell). g (c .figure)) (λ (c : LiveCell). d (c .figure)) (λ (c : LiveCell). h (c .figure)) (λ c. e (c .id) (c .figure)) cs
 
   pub over-reshape : (f : ℕ → Figure → Figure) → ((i : ℕ) (t : Figure) → g (f i t) ≡ g t) → (cs : List LiveCell) → over g (reshape f cs) ≡ over g cs
   over-reshape f h cs = let a = over-reshaped g g f (λ i t. ap (λ (k : ℕ). k + g t) (h i t)) cs in omega arith
@@ -63,14 +66,16 @@ module _ (g : Figure → ℕ) where
       let k = over-none i t (c .id) cs hi (b .1) (omega arith) in
       rw (ne-eqb i (c .id) (λ e. omega arith), k)
 
-  pub over-replaced : (i : ℕ) (t u : Figure) (lo : ℕ) (cs : List LiveCell) (hi : ℕ) → T (rising lo (ids cs) hi) → lookup cs i ≡ some u → over g (reshape (replaced i t) cs) + g u ≡ over g cs + g t
+  pub over-replaced : (i : ℕ) (t u : Figure) (lo : ℕ) (cs : List LiveCell) (hi : ℕ) → T (rising lo (ids cs) hi) → lookup cs i ≡ some u
+      → over g (reshape (replaced i t) cs) + g u ≡ over g cs + g t
   over-replaced i t u lo [] hi r e = absurd (let z : _≡_ {A = ℕ} 0 1 = cc in omega arith)
   over-replaced i t u lo (c ∷ cs) hi r e =
       let b = both (ltb lo (c .id)) (rising (c .id) (ids cs) hi) r in
       go (eqb (c .id) i) refl (b .1) (λ q. over-replaced i t u (c .id) cs hi (b .1) q) e
     where
       go : (y : Bool) → eqb (c .id) i ≡ y → T (rising (c .id) (ids cs) hi) → (lookup cs i ≡ some u → over g (reshape (replaced i t) cs) + g u ≡ over g cs + g t)
-          → someIf y (c .figure) (lookup cs i) ≡ some u → g (replaced i t (c .id) (c .figure)) + over g (reshape (replaced i t) cs) + g u ≡ g (c .figure) + over g cs + g t
+          → someIf y (c .figure) (lookup cs i) ≡ some u → g (replaced i t (c .id) (c .figure)) + over g (reshape (replaced i t) cs) + g u ≡ g (c .figure)
+          + over g cs + g t
       go true q r k e =
           let w : c .figure ≡ u = cc in
           let n : c .id ≡ i = eqb-true (c .id) i q in
@@ -95,14 +100,18 @@ balanced-euler s c h =
     ∙ ap (λ (z : ℤ). euler (s .cells) +ℤ z) (sym (share-sub s c))
 
 -- the sums after a change
-pub over-rebuild : (g : Figure → ℕ) (p : ℕ → Bool) (f : ℕ → Figure → Figure) (new : List Figure) (s : Sheet) → over g (rebuild p f new s .cells) ≡ over g (reshape f (keepIds p (s .cells))) + total g new
-over-rebuild g p f new s = over-append g (reshape f (keepIds p (s .cells))) (numbered (s .next) new) ∙ ap (λ (k : ℕ). over g (reshape f (keepIds p (s .cells))) + k) (over-new g (s .next) new)
+pub over-rebuild : (g : Figure → ℕ) (p : ℕ → Bool) (f : ℕ → Figure → Figure) (new : List Figure) (s : Sheet)
+    → over g (rebuild p f new s .cells) ≡ over g (reshape f (keepIds p (s .cells))) + total g new
+over-rebuild g p f new s = over-append g (reshape f (keepIds p (s .cells))) (numbered (s .next) new)
+    ∙ ap (λ (k : ℕ). over g (reshape f (keepIds p (s .cells))) + k) (over-new g (s .next) new)
 
 -- a change that leaves each figure's part of the sum as it was
-pub over-kept : (g : Figure → ℕ) (f : ℕ → Figure → Figure) → ((i : ℕ) (t : Figure) → g (f i t) ≡ g t) → (p : ℕ → Bool) (new : List Figure) (s : Sheet) → over g (rebuild p f new s .cells) ≡ over g (keepIds p (s .cells)) + total g new
+pub over-kept : (g : Figure → ℕ) (f : ℕ → Figure → Figure) → ((i : ℕ) (t : Figure) → g (f i t) ≡ g t) → (p : ℕ → Bool) (new : List Figure) (s : Sheet)
+    → over g (rebuild p f new s .cells) ≡ over g (keepIds p (s .cells)) + total g new
 over-kept g f h p new s = over-rebuild g p f new s ∙ ap (λ (k : ℕ). k + total g new) (over-reshape g f h (keepIds p (s .cells)))
 
-pub over-all : (g : Figure → ℕ) (f : ℕ → Figure → Figure) → ((i : ℕ) (t : Figure) → g (f i t) ≡ g t) → (new : List Figure) (s : Sheet) → over g (rebuild everyId f new s .cells) ≡ over g (s .cells) + total g new
+pub over-all : (g : Figure → ℕ) (f : ℕ → Figure → Figure) → ((i : ℕ) (t : Figure) → g (f i t) ≡ g t) → (new : List Figure) (s : Sheet)
+    → over g (rebuild everyId f new s .cells) ≡ over g (s .cells) + total g new
 over-all g f h new s = over-kept g f h everyId new s ∙ ap (λ (cs : List LiveCell). over g cs + total g new) (kept-all (s .cells))
 
 pub over-added : (g : Figure → ℕ) (new : List Figure) (s : Sheet) → over g (rebuild everyId asItIs new s .cells) ≡ over g (s .cells) + total g new
@@ -113,7 +122,8 @@ pub over-put : (g : Figure → ℕ) (p : ℕ → Bool) (i : ℕ) (t u : Figure) 
     → over g (rebuild p (replaced i t) new s .cells) + g u ≡ over g (keepIds p (s .cells)) + g t + total g new
 over-put g p i t u new s S k e =
     let a = over-rebuild g p (replaced i t) new s in
-    let b = over-replaced g i t u 0 (keepIds p (s .cells)) (s .next) (rising-filter (λ (c : LiveCell). p (c .id)) 0 (s .cells) (s .next) (S .rises)) (lookup-keep p (s .cells) i ∙ rw (true-of (p i) k) e) in
+    let b = over-replaced g i t u 0 (keepIds p (s .cells)) (s .next) (rising-filter (λ (c : LiveCell). p (c .id)) 0 (s .cells) (s .next) (S .rises))
+    (lookup-keep p (s .cells) i ∙ rw (true-of (p i) k) e) in
     omega arith
 
 pub over-changed : (g : Figure → ℕ) (i : ℕ) (t u : Figure) (new : List Figure) (s : Sheet) → Sound s → lookup (s .cells) i ≡ some u
@@ -143,7 +153,8 @@ delete-balanced s i =
     omega arith
 
 -- ---- 0C with c1 = c2
-pub split-balanced : (f c s1 s2 : ℕ) (bs : List Position) (ms : List ℕ) (s : Sheet) → Sound s → Passes s (cutFaceOpen f c s1 c s2 bs ms) → Balanced s (cutFaceOpen f c s1 c s2 bs ms)
+pub split-balanced : (f c s1 s2 : ℕ) (bs : List Position) (ms : List ℕ) (s : Sheet) → Sound s → Passes s (cutFaceOpen f c s1 c s2 bs ms)
+    → Balanced s (cutFaceOpen f c s1 c s2 bs ms)
 unfolding question4 question5 result faceCutAlong
 split-balanced f c s1 s2 bs ms s S q =
     let E : eqb c c ≡ true = eq-eqb c c refl in
@@ -159,12 +170,14 @@ split-balanced f c s1 s2 bs ms s S q =
     ks = cyclesOf (cellAt s f)
 
     go : T (places 0 ms (length ks))
-        → over gain (splitInTwo s f c s1 s2 bs ms ks .cells) + over loss (s .cells) + 0 ≡ over gain (s .cells) + over loss (splitInTwo s f c s1 s2 bs ms ks .cells) + 0
+        → over gain (splitInTwo s f c s1 s2 bs ms ks .cells) + over loss (s .cells) + 0 ≡ over gain (s .cells)
+        + over loss (splitInTwo s f c s1 s2 bs ms ks .cells) + 0
     go p =
         let k = getD ks c noCycle in
         let x = set ks c (path (stretch s1 s2 (stepsOf k) ++ one (against (s .next)))) in
         let t = face (without ms 0 x) in
-        let new = openEdge (corner (cellAt s) k s1) (corner (cellAt s) k s2) bs ∷ face (path (remainder s1 s2 (stepsOf k) ++ one (along (s .next))) ∷ chosen noCycle ms ks) ∷ [] in
+        let new = openEdge (corner (cellAt s) k s1) (corner (cellAt s) k s2) bs
+        ∷ face (path (remainder s1 s2 (stepsOf k) ++ one (along (s .next))) ∷ chosen noCycle ms ks) ∷ [] in
         let e = is-face s f (q .four) in
         let u = over-changed gain f t (face ks) new s S e in
         let v = over-changed loss f t (face ks) new s S e in

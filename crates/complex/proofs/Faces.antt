@@ -13,7 +13,8 @@ use borrow.Author.Tests.{eq-eqb, ne-eqb, eqb-true, eqb-false}
 use Rattle.coordinate.specs.declared.Position.{Position}
 use Rattle.coordinate.specs.Bounds.{within}
 use Rattle.complex.specs.Lists.{all, isEmpty, consIf, total, holds, rising, places, one, rotated, without, chosen}
-use Rattle.complex.specs.Cells.{Halfedge, Cycle, lone, path, Figure, vertex, openEdge, closedEdge, face, LiveCell, Sheet, Look, someIf, lookup, ids, isVertex, isOpen, isClosed, isFace, startOf, endOf, cyclesOf, stepsOf, along, against, same, tailOf, headOf, cellAt}
+use Rattle.complex.specs.Cells.{Halfedge, Cycle, lone, path, Figure, vertex, openEdge, closedEdge, face, LiveCell, Sheet, Look, someIf, lookup, ids}
+use Rattle.complex.specs.Cells.{isVertex, isOpen, isClosed, isFace, startOf, endOf, cyclesOf, stepsOf, along, against, same, tailOf, headOf, cellAt}
 use Rattle.complex.specs.Sound.{Walk, idsEnd, cycleOk, figureOk, ceilings, joins, over}
 use Rattle.complex.specs.Decode.{Command, move, glueVertices, cutFaceVertex, cutFaceOpen, cutFaceClosed}
 use Rattle.complex.specs.Edits.{keepIds, reshape, rebuild, everyId, asItIs, replaced, rewired, others}
@@ -56,7 +57,8 @@ module _ (g : Figure → ℕ) where
           rw (eq-eqb i (c .id) (sym n), o, w) (omega arith)
       go false q r k e = rw (ne-eqb i (c .id) (λ z. eqb-false (c .id) i q (sym z))) (k e)
 
-  pub over-others : (i : ℕ) (u : Figure) (lo : ℕ) (cs : List LiveCell) (hi : ℕ) → T (rising lo (ids cs) hi) → lookup cs i ≡ some u → over g (keepIds (others i) cs) + g u ≡ over g cs
+  pub over-others : (i : ℕ) (u : Figure) (lo : ℕ) (cs : List LiveCell) (hi : ℕ) → T (rising lo (ids cs) hi) → lookup cs i ≡ some u
+      → over g (keepIds (others i) cs) + g u ≡ over g cs
   over-others i u lo cs hi r e = let a = over-keep g (eqb i) cs in let b = over-only i u lo cs hi r e in omega arith
 
 pub keep-keep : (p q : ℕ → Bool) (cs : List LiveCell) → keepIds (λ (j : ℕ). p j && q j) cs ≡ keepIds p (keepIds q cs)
@@ -75,7 +77,8 @@ pub over-less : (g : Figure → ℕ) (i : ℕ) (u : Figure) (p : ℕ → Bool) (
     → over g (keepIds (λ (j : ℕ). others i j && p j) (s .cells)) + g u ≡ over g (keepIds p (s .cells))
 over-less g i u p s S e k =
     ap (λ (cs : List LiveCell). over g cs + g u) (keep-keep (others i) p (s .cells))
-    ∙ over-others g i u 0 (keepIds p (s .cells)) (s .next) (rising-filter (λ (c : LiveCell). p (c .id)) 0 (s .cells) (s .next) (S .rises)) (lookup-keep p (s .cells) i ∙ rw (true-of (p i) k) e)
+    ∙ over-others g i u 0 (keepIds p (s .cells)) (s .next) (rising-filter (λ (c : LiveCell). p (c .id)) 0 (s .cells) (s .next) (S .rises))
+    (lookup-keep p (s .cells) i ∙ rw (true-of (p i) k) e)
 
 -- the cells that p keeps are all but us, whatever is summed
 abbrev pub Without : Sheet → (ℕ → Bool) → List Figure → Type 0
@@ -84,7 +87,8 @@ Without s p us = (g : Figure → ℕ) → over g (keepIds p (s .cells)) + total 
 pub without-one : (i : ℕ) (u : Figure) (s : Sheet) → Sound s → lookup (s .cells) i ≡ some u → Without s (others i) (one u)
 without-one i u s S e g = let a = over-others g i u 0 (s .cells) (s .next) (S .rises) e in omega arith
 
-pub without-more : (i : ℕ) (u : Figure) (p : ℕ → Bool) (us : List Figure) (s : Sheet) → Sound s → lookup (s .cells) i ≡ some u → T (p i) → Without s p us → Without s (λ (j : ℕ). others i j && p j) (u ∷ us)
+pub without-more : (i : ℕ) (u : Figure) (p : ℕ → Bool) (us : List Figure) (s : Sheet) → Sound s → lookup (s .cells) i ≡ some u → T (p i) → Without s p us
+    → Without s (λ (j : ℕ). others i j && p j) (u ∷ us)
 without-more i u p us s S e k w g = let a = over-less g i u p s S e k in let b = w g in omega arith
 
 pub gain-rewired : (r : ℕ → ℕ) (σ : Halfedge → List Halfedge) (i : ℕ) (t : Figure) → gain (rewired r σ i t) ≡ gain t
@@ -146,11 +150,13 @@ module _ (s : Sheet) (S : Sound s) (f : ℕ) (isF : T (isFace (cellAt s f))) (ks
       → T (all (cycleOk refaced) ks′) → T (all (figureOk refaced) new) → Sound (rebuild everyId (replaced f (face ks′)) new s)
   refaced-sound seven eight here there = replaced-sound f (face ks′) new s S (λ t q. face-serves (cellAt s f) isF t q ks′) seven eight here there
 
-  pub refaced-over : (g : Figure → ℕ) → over g (rebuild everyId (replaced f (face ks′)) new s .cells) + g (face (cyclesOf (cellAt s f))) ≡ over g (s .cells) + g (face ks′) + total g new
+  pub refaced-over : (g : Figure → ℕ) → over g (rebuild everyId (replaced f (face ks′)) new s .cells) + g (face (cyclesOf (cellAt s f))) ≡ over g (s .cells)
+      + g (face ks′) + total g new
   refaced-over g = over-changed g f (face ks′) (face (cyclesOf (cellAt s f))) new s S (is-face s f isF)
 
 -- the first new cell
-pub first-new : (f : ℕ) (ks′ : List Cycle) (t : Figure) (ts : List Figure) (s : Sheet) → Sound s → Look′ everyId (replaced f (face ks′)) (t ∷ ts) s (s .next) ≡ some t
+pub first-new : (f : ℕ) (ks′ : List Cycle) (t : Figure) (ts : List Figure) (s : Sheet) → Sound s
+    → Look′ everyId (replaced f (face ks′)) (t ∷ ts) s (s .next) ≡ some t
 first-new f ks′ t ts s S = new-at everyId (replaced f (face ks′)) (t ∷ ts) s S (s .next) (omega arith) ∙ rw (eq-eqb (s .next) (s .next) refl)
 
 -- ---- 0B
@@ -199,7 +205,8 @@ module _ (f : ℕ) (bs : List Position) (ms : List ℕ) (s : Sheet) (S : Sound s
   bends = q .three
 
   ring : (h : Halfedge) → h .edge ≡ s .next → T (joins (Look′ everyId (replaced f (face rks′)) rnew s) (one h))
-  ring h e = ring-joins (Look′ everyId (replaced f (face rks′)) rnew s) (one h) (rw (e, first-new f rks′ (closedEdge bs) (face (path (one (against (s .next))) ∷ chosen noCycle ms rks) ∷ []) s S) tt, tt)
+  ring h e = ring-joins (Look′ everyId (replaced f (face rks′)) rnew s) (one h)
+      (rw (e, first-new f rks′ (closedEdge bs) (face (path (one (against (s .next))) ∷ chosen noCycle ms rks) ∷ []) s S) tt, tt)
 
   pub round-sound : Sound (result s (cutFaceClosed f bs ms))
   unfolding result faceCutRound
@@ -211,7 +218,8 @@ module _ (f : ℕ) (bs : List Position) (ms : List ℕ) (s : Sheet) (S : Sound s
       (pair (joins look′ (one (along (s .next)))) true (ring (along (s .next)) refl) tt))
       (pair (not (isEmpty bs) && all within bs) _ (pair (not (isEmpty bs)) (all within bs) (counts .0) bends)
       (pair (joins look′ (one (against (s .next))) && all (cycleOk look′) (chosen noCycle ms rks)) true
-      (pair (joins look′ (one (against (s .next)))) (all (cycleOk look′) (chosen noCycle ms rks)) (ring (against (s .next)) refl) (all-chosen (cycleOk look′) noCycle 0 ms rks old (counts .1))) tt))
+      (pair (joins look′ (one (against (s .next)))) (all (cycleOk look′) (chosen noCycle ms rks)) (ring (against (s .next)) refl)
+      (all-chosen (cycleOk look′) noCycle 0 ms rks old (counts .1))) tt))
 
   pub round-balanced : Balanced s (cutFaceClosed f bs ms)
   unfolding result faceCutRound
@@ -225,7 +233,8 @@ module _ (f : ℕ) (bs : List Position) (ms : List ℕ) (s : Sheet) (S : Sound s
 
 -- ---- 0C with c1 ≠ c2
 -- a cycle from a corner on leads back to the corner
-pub corner-round : (look : Look) (k : Cycle) (n : ℕ) → T (cycleOk look k) → T (cornerExists look k n) → Walk look (corner look k n) (rotated n (stepsOf k)) (corner look k n)
+pub corner-round : (look : Look) (k : Cycle) (n : ℕ) → T (cycleOk look k) → T (cornerExists look k n)
+    → Walk look (corner look k n) (rotated n (stepsOf k)) (corner look k n)
 corner-round look (lone v) n c h = nothing n
   where
     nothing : (n : ℕ) → Walk look v (rotated n []) v
@@ -241,10 +250,12 @@ corner-round look (path hs) n c h =
   where
     go : n < length hs → Round look (rotated n hs) → Walk look (tailOf look (getD hs n noStep)) (rotated n hs) (tailOf look (getD hs n noStep))
     go l r =
-        let e : r .0 ≡ tailOf look (getD hs n noStep) = (subst (λ (ks : List Halfedge). Walk look (r .0) (ks ++ take n hs) (r .0)) (drop-cons hs n noStep l) (r .1)) .1 in
+        let e : r .0 ≡ tailOf look (getD hs n noStep) =
+        (subst (λ (ks : List Halfedge). Walk look (r .0) (ks ++ take n hs) (r .0)) (drop-cons hs n noStep l) (r .1)) .1 in
         subst (λ (u : ℕ). Walk look u (rotated n hs) u) e (r .1)
 
-module _ (f c1 s1 c2 s2 : ℕ) (bs : List Position) (ms : List ℕ) (s : Sheet) (S : Sound s) (q : Passes s (cutFaceOpen f c1 s1 c2 s2 bs ms)) (ne : eqb c1 c2 ≡ false) where
+module _ (f c1 s1 c2 s2 : ℕ) (bs : List Position) (ms : List ℕ) (s : Sheet) (S : Sound s) (q : Passes s (cutFaceOpen f c1 s1 c2 s2 bs ms))
+    (ne : eqb c1 c2 ≡ false) where
   abbrev bks : List Cycle
   bks = cyclesOf (cellAt s f)
 
@@ -299,9 +310,12 @@ module _ (f c1 s1 c2 s2 : ℕ) (bs : List Position) (ms : List ℕ) (s : Sheet) 
       let b = walk-kept (cellAt s) blook K w (rotated s2 (stepsOf k2)) w (corner-round (cellAt s) k2 s2 ok2 (corners .3)) in
       let o : T (isOpen (blook (s .next))) = rw e tt in
       let back : Walk blook w (one (against (s .next))) u = (o, ap endOf (sym e), ap startOf e) in
-      let tail : Walk blook w (rotated s2 (stepsOf k2) ++ one (against (s .next))) u = walk-append blook w (rotated s2 (stepsOf k2)) w (one (against (s .next))) u b back in
-      let over-e : Walk blook u (along (s .next) ∷ rotated s2 (stepsOf k2) ++ one (against (s .next))) u = (o, ap startOf (sym e), subst (λ (v : ℕ). Walk blook v (rotated s2 (stepsOf k2) ++ one (against (s .next))) u) (ap endOf (sym e)) tail) in
-      round-joins blook joinedPath (some-middle (rotated s1 (stepsOf k1))) (u, walk-append blook u (rotated s1 (stepsOf k1)) u (along (s .next) ∷ rotated s2 (stepsOf k2) ++ one (against (s .next))) u a over-e)
+      let tail : Walk blook w (rotated s2 (stepsOf k2) ++ one (against (s .next))) u =
+      walk-append blook w (rotated s2 (stepsOf k2)) w (one (against (s .next))) u b back in
+      let over-e : Walk blook u (along (s .next) ∷ rotated s2 (stepsOf k2) ++ one (against (s .next))) u =
+      (o, ap startOf (sym e), subst (λ (v : ℕ). Walk blook v (rotated s2 (stepsOf k2) ++ one (against (s .next))) u) (ap endOf (sym e)) tail) in
+      round-joins blook joinedPath (some-middle (rotated s1 (stepsOf k1)))
+      (u, walk-append blook u (rotated s1 (stepsOf k1)) u (along (s .next) ∷ rotated s2 (stepsOf k2) ++ one (against (s .next))) u a over-e)
     where
       some-middle : (hs : List Halfedge) → Some (hs ++ (along (s .next) ∷ rotated s2 (stepsOf k2) ++ one (against (s .next))))
       some-middle [] = tt
@@ -317,7 +331,8 @@ module _ (f c1 s1 c2 s2 : ℕ) (bs : List Position) (ms : List ℕ) (s : Sheet) 
       let u = corner (cellAt s) k1 s1 in
       let w = corner (cellAt s) k2 s2 in
       rw cut-two (refaced-sound s S f bisF bks′ bnew (rw cut-two at (q .seven)) (rw cut-two at (q .eight))
-      (all-without (cycleOk blook) (one c2) 0 (set bks c1 (path joinedPath)) (all-set (cycleOk blook) bks c1 (path joinedPath) (cycles-ok′ s S f bisF bks′ bnew) bridge-walk))
+      (all-without (cycleOk blook) (one c2) 0 (set bks c1 (path joinedPath))
+      (all-set (cycleOk blook) bks c1 (path joinedPath) (cycles-ok′ s S f bisF bks′ bnew) bridge-walk))
       (pair (isVertex (blook u) && (isVertex (blook w) && all within bs)) true
       (pair (isVertex (blook u)) (isVertex (blook w) && all within bs) (K .vertices u (corner-vertex s S k1 s1 ok1 (corners .2)))
       (pair (isVertex (blook w)) (all within bs) (K .vertices w (corner-vertex s S k2 s2 ok2 (corners .3))) bbends)) tt))

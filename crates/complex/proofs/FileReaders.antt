@@ -101,15 +101,18 @@ cell-back c h t =
     number-then _ (c .id) (figureBytes (c .figure)) t (h .0)
     ∙ kind-back (c .figure) (h .1) (λ x u. got (record { id = c .id; figure = x }) u) t
 
-pub sheet-back : (s : Sheet) → s .next < numbersEnd → length (s .cells) < numbersEnd → Each CellHeld (s .cells) → (t : List ℕ) → readSheet (fileOf s ++ t) ≡ got s t
+pub sheet-back : (s : Sheet) → s .next < numbersEnd → length (s .cells) < numbersEnd → Each CellHeld (s .cells) → (t : List ℕ)
+    → readSheet (fileOf s ++ t) ≡ got s t
 unfolding fileOf
 sheet-back s n l h t =
     number-then _ (s .next) (countedBytes cellBytes (s .cells)) t n
-    ∙ ap (λ (q : Read (List LiveCell)). andThen q λ cs u. got (record { next = s .next; cells = cs }) u) (counted-back readCell cellBytes CellHeld cell-back (s .cells) h l t)
+    ∙ ap (λ (q : Read (List LiveCell)). andThen q λ cs u. got (record { next = s .next; cells = cs }) u)
+    (counted-back readCell cellBytes CellHeld cell-back (s .cells) h l t)
 
 -- ---- one reader after another: what was read first, and then
 module _ {A B X : Type 0} where
-  pub then-from : (q : Read A) (k : A → List ℕ → Read B) (y : B) (t : List ℕ) → andThen q k ≡ got y t → ((x : A) (u : List ℕ) → q ≡ got x u → k x u ≡ got y t → X) → X
+  pub then-from : (q : Read A) (k : A → List ℕ → Read B) (y : B) (t : List ℕ) → andThen q k ≡ got y t
+      → ((x : A) (u : List ℕ) → q ≡ got x u → k x u ≡ got y t → X) → X
   then-from (got x u) k y t e f = f x u refl e
   then-from bad k y t e f = absurd (not-bad y t e)
 
@@ -212,7 +215,8 @@ module _ (look : Look) where
       let h = subst (λ (z : LiveCell). T (figureOk look (z .figure))) (sym (got-thing y c w t l)) ok in
       last-part cellBytes y c s t w (both-parts (spell i) (figureBytes x) s w u f (g ∙ kind-from n v w x D r h)) l
 
-  pub sheet-from : (s t : List ℕ) (d : Sheet) → Bytes s → readSheet s ≡ got d t → T (all (λ (c : LiveCell). figureOk look (c .figure)) (d .cells)) → s ≡ fileOf d ++ t
+  pub sheet-from : (s t : List ℕ) (d : Sheet) → Bytes s → readSheet s ≡ got d t → T (all (λ (c : LiveCell). figureOk look (c .figure)) (d .cells))
+      → s ≡ fileOf d ++ t
   unfolding fileOf
   sheet-from s t d B e ok =
       number-from _ s t d B e λ n u f C g.

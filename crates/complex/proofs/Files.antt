@@ -17,8 +17,10 @@ use Rattle.coordinate.specs.declared.Position.{Position}
 use Rattle.coordinate.specs.Bounds.{within}
 use Rattle.coordinate.specs.Positions.{FloatFits}
 use Rattle.complex.specs.Lists.{all, total, rising}
-use Rattle.complex.specs.Cells.{Halfedge, Cycle, lone, path, Figure, vertex, openEdge, closedEdge, face, LiveCell, Sheet, empty, Look, lookup, ids, isVertex, isOpen, isClosed, same, headOf}
-use Rattle.complex.specs.Sound.{idsEnd, Walk, joins, cycleOk, figureOk, cellsMost, cyclesMost, stepsMost, bendsMost, stepCount, cyclesIn, stepsIn, bendsIn, over, figuresOk, sound, double, figureDouble, doubles}
+use Rattle.complex.specs.Cells.{Halfedge, Cycle, lone, path, Figure, vertex, openEdge, closedEdge, face, LiveCell, Sheet, empty, Look, lookup, ids}
+use Rattle.complex.specs.Cells.{isVertex, isOpen, isClosed, same, headOf}
+use Rattle.complex.specs.Sound.{idsEnd, Walk, joins, cycleOk, figureOk, cellsMost, cyclesMost, stepsMost, bendsMost, stepCount, cyclesIn, stepsIn}
+use Rattle.complex.specs.Sound.{bendsIn, over, figuresOk, sound, double, figureDouble, doubles}
 use Rattle.complex.specs.File.{fileOf, readSheet, ReadAnswer, judged, readFile}
 use Rattle.complex.specs.Demands.{areBytes, OneFile}
 use Rattle.complex.proofs.Bools.{true-of, both}
@@ -82,7 +84,8 @@ module _ (look : Look) (live : (i : ℕ) → (look i ≡ none → ⊥) → i < i
   figure-held (closedEdge bs) t d k l m = bends-held bs d m
   figure-held (face ks) t d k l m = (omega arith, cycles-held ks t l)
 
-  cells-held : (lo hi : ℕ) (cs : List LiveCell) → hi ≤ idsEnd → T (rising lo (ids cs) hi) → T (all (λ (c : LiveCell). figureOk look (c .figure)) cs) → T (all (λ (c : LiveCell). figureDouble (c .figure)) cs)
+  cells-held : (lo hi : ℕ) (cs : List LiveCell) → hi ≤ idsEnd → T (rising lo (ids cs) hi) → T (all (λ (c : LiveCell). figureOk look (c .figure)) cs)
+      → T (all (λ (c : LiveCell). figureDouble (c .figure)) cs)
       → over cyclesIn cs ≤ cyclesMost → over stepsIn cs ≤ stepsMost → over bendsIn cs ≤ bendsMost → Each CellHeld cs
   cells-held lo hi [] h r t d k l m = tt
   cells-held lo hi (c ∷ cs) h r t d k l m =
@@ -102,13 +105,15 @@ sheet-read s t d =
     let S = sound-parts s t in
     let cs = s .cells in
     let n = leb→le (s .next) idsEnd (S .inIds) in
-    let a = both (leb (length cs) cellsMost) (leb (over cyclesIn cs) cyclesMost && (leb (over stepsIn cs) stepsMost && leb (over bendsIn cs) bendsMost)) (S .fits) in
+    let a = both (leb (length cs) cellsMost) (leb (over cyclesIn cs) cyclesMost && (leb (over stepsIn cs) stepsMost && leb (over bendsIn cs) bendsMost))
+    (S .fits) in
     let b = both (leb (over cyclesIn cs) cyclesMost) (leb (over stepsIn cs) stepsMost && leb (over bendsIn cs) bendsMost) (a .1) in
     let c = both (leb (over stepsIn cs) stepsMost) (leb (over bendsIn cs) bendsMost) (b .1) in
     let l = leb→le (length cs) cellsMost (a .0) in
     sheet-back s (omega arith) (omega arith)
     (cells-held (lookup cs) (λ i z. ⊎-elim (λ h. omega arith) (λ h. absurd (z (lookup-from 0 cs (s .next) i (S .rises) h))) (lt-or-le i (s .next)))
-    0 (s .next) cs n (S .rises) (figures s S) d (leb→le (over cyclesIn cs) cyclesMost (b .0)) (leb→le (over stepsIn cs) stepsMost (c .0)) (leb→le (over bendsIn cs) bendsMost (c .1))) []
+    0 (s .next) cs n (S .rises) (figures s S) d (leb→le (over cyclesIn cs) cyclesMost (b .0)) (leb→le (over stepsIn cs) stepsMost (c .0))
+    (leb→le (over bendsIn cs) bendsMost (c .1))) []
 
 -- ---- what an answer says
 abbrev readAs : Sheet → ReadAnswer

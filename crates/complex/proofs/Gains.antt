@@ -12,7 +12,8 @@ use borrow.Author.Tests.{ltb-true, ltb-false, lt-ltb, le-ltb}
 use Rattle.complex.specs.Cells.{Figure, vertex, openEdge, closedEdge, face, LiveCell, Sheet, isOpen, cellAt}
 use Rattle.complex.specs.Sound.{over}
 use Rattle.complex.specs.Euler.{cellShare, euler}
-use Rattle.complex.specs.Decode.{Command, create, move, delete, glueVertices, glueEdges, unglue, cutEdge, cutFaceVertex, cutFaceOpen, cutFaceClosed, uncut}
+use Rattle.complex.specs.Decode.{Command, create, move, delete, glueVertices, glueEdges, unglue, cutEdge, cutFaceVertex, cutFaceOpen, cutFaceClosed}
+use Rattle.complex.specs.Decode.{uncut}
 use Rattle.complex.specs.Delete.{going}
 use Rattle.complex.specs.Unglue.{parts}
 use Rattle.complex.specs.Commands.{unglueShare, share}
@@ -72,7 +73,8 @@ sub-equal a b c d e = go (ltb a b) (ltb c d) refl refl
 pub sub-add : (a b c d : ℕ) → subℕ a b +ℤ subℕ c d ≡ subℕ (a + c) (b + d)
 sub-add a b c d = go (ltb a b) (ltb c d) refl refl
   where
-    go : (x y : Bool) → ltb a b ≡ x → ltb c d ≡ y → cond x (negsuc (b - suc a)) (pos (a - b)) +ℤ cond y (negsuc (d - suc c)) (pos (c - d)) ≡ subℕ (a + c) (b + d)
+    go : (x y : Bool) → ltb a b ≡ x → ltb c d ≡ y → cond x (negsuc (b - suc a)) (pos (a - b)) +ℤ cond y (negsuc (d - suc c)) (pos (c - d))
+        ≡ subℕ (a + c) (b + d)
     go true true p q =
         let l = ltb-true a b p in
         let k = ltb-true c d q in
@@ -107,7 +109,8 @@ cell-sub (face ks) = refl
 
 pub euler-sub : (cs : List LiveCell) → euler cs ≡ subℕ (over gain cs) (over loss cs)
 euler-sub [] = refl
-euler-sub (c ∷ cs) = ap (λ (z : ℤ). z +ℤ euler cs) (cell-sub (c .figure)) ∙ ap (λ (z : ℤ). subℕ (gain (c .figure)) (loss (c .figure)) +ℤ z) (euler-sub cs) ∙ sub-add (gain (c .figure)) (loss (c .figure)) (over gain cs) (over loss cs)
+euler-sub (c ∷ cs) = ap (λ (z : ℤ). z +ℤ euler cs) (cell-sub (c .figure)) ∙ ap (λ (z : ℤ). subℕ (gain (c .figure)) (loss (c .figure)) +ℤ z) (euler-sub cs)
+    ∙ sub-add (gain (c .figure)) (loss (c .figure)) (over gain cs) (over loss cs)
 
 unglue-sub : (n : ℕ) (o : Option Figure) → unglueShare n o ≡ subℕ (unglueShift n o .up) (unglueShift n o .down)
 unglue-sub n none = refl

@@ -30,7 +30,8 @@ flat-one [] = refl
 flat-one (x ∷ xs) = ap (λ (l : List _). x ∷ l) (flat-one xs)
 
 -- every sum over the members is one over those of the groups with p and one over the others
-total-split : {A : Type 0} (u : A → ℕ) (p : List A → Bool) (gs : List (List A)) → total u (flat (filter p gs)) + total u (flat (filter (λ (g : List A). not (p g)) gs)) ≡ total u (flat gs)
+total-split : {A : Type 0} (u : A → ℕ) (p : List A → Bool) (gs : List (List A))
+    → total u (flat (filter p gs)) + total u (flat (filter (λ (g : List A). not (p g)) gs)) ≡ total u (flat gs)
 total-split u p [] = refl
 total-split u p (g ∷ gs) = go (p g) (total-split u p gs)
   where
@@ -108,7 +109,8 @@ module _ {A : Type 0} (same : A → A → Bool) where
     alike-flat [] x y t = refl
     alike-flat (g ∷ gs) x y t = go (p g) (alike-flat gs x y (t .1))
       where
-        go : (b : Bool) → isIn (flat (filter p gs)) x ≡ isIn (flat (filter p gs)) y → isIn (flat (consIf b g (filter p gs))) x ≡ isIn (flat (consIf b g (filter p gs))) y
+        go : (b : Bool) → isIn (flat (filter p gs)) x ≡ isIn (flat (filter p gs)) y
+            → isIn (flat (consIf b g (filter p gs))) x ≡ isIn (flat (consIf b g (filter p gs))) y
         go true r = in-append g (flat (filter p gs)) x ∙ (λ i. t .0 i || r i) ∙ sym (in-append g (flat (filter p gs)) y)
         go false r = r
 
@@ -191,7 +193,8 @@ module _ {A : Type 0} (same : A → A → Bool) where
   own [] x a = absurd a
   own (g ∷ gs) x a = go (isIn g x) refl a (own gs x)
     where
-      go : (b : Bool) → isIn g x ≡ b → Among (g ∷ gs) x → (Among gs x → T (isIn (groupAt gs (groupOf gs x)) x)) → T (isIn (groupAt (g ∷ gs) (cond b 0 (suc (groupOf gs x)))) x)
+      go : (b : Bool) → isIn g x ≡ b → Among (g ∷ gs) x → (Among gs x → T (isIn (groupAt gs (groupOf gs x)) x))
+          → T (isIn (groupAt (g ∷ gs) (cond b 0 (suc (groupOf gs x)))) x)
       go true q a r = truth q
       go false q (inl t) r = absurd (subst T q t)
       go false q (inr c) r = r c
@@ -250,9 +253,14 @@ module _ {A : Type 0} (same : A → A → Bool) where
   placeOf (y ∷ ys) x = cond (same x y) 0 (suc (placeOf ys x))
 
   -- elements that stand once are sorted by their places; n stand before xs
-  sorted-one : Decides same → (k : A → ℕ) (n : ℕ) (xs : List A) → ((x : A) → T (isIn xs x) → k x ≡ n + placeOf xs x) → ((x : A) → count x xs ≤ 1) → Sorted k (map one xs)
+  sorted-one : Decides same → (k : A → ℕ) (n : ℕ) (xs : List A) → ((x : A) → T (isIn xs x) → k x ≡ n + placeOf xs x) → ((x : A) → count x xs ≤ 1)
+      → Sorted k (map one xs)
   sorted-one D k n [] f o = tt
-  sorted-one D k n (a ∷ xs) f o = (λ x t. go x (subst (λ (l : List A). T (isIn l x)) (flat-one xs) t), sorted-one D k (suc n) xs later (λ x. let h = o x in omega arith))
+  sorted-one D k n (a ∷ xs) f o = (
+    λ x t. go x (subst (λ (l : List A). T (isIn l x)) (flat-one xs) t),
+    sorted-one D k (suc n) xs later (λ x. let h = o x in
+        omega arith),
+  )
     where
       other : (x : A) → T (isIn xs x) → same x a ≡ false
       other x t = go (same x a) (o x)
@@ -377,7 +385,8 @@ module _ {A : Type 0} (same : A → A → Bool) where
           later x f q (inl i) = absurd (subst T q (f g i))
           later x f q (inr c) = c
 
-          go : (b : Bool) → touches t g ≡ b → (Among gs (from t) → Among gs (to t) → Alike (joinGroups t gs) (from t) (to t)) → Alike (Joined t g gs b) (from t) (to t)
+          go : (b : Bool) → touches t g ≡ b → (Among gs (from t) → Among gs (to t) → Alike (joinGroups t gs) (from t) (to t))
+              → Alike (Joined t g gs b) (from t) (to t)
           go true q r = (here (from t) by-from a ∙ sym (here (to t) by-to b), neither-all gs)
           go false q r = (neither g q, r (later (from t) by-from q a) (later (to t) by-to q b))
 
@@ -415,7 +424,8 @@ module _ {A : Type 0} (same : A → A → Bool) where
 
     join-all : (ts : List L) (gs : List (List A)) → Every (Ends gs) ts → Every (λ (t : L). Alike (joinAll ts gs) (from t) (to t)) ts
     join-all [] gs e = tt
-    join-all (u ∷ us) gs e = (alike-all us (joinGroups u gs) (from u) (to u) (join-alike u gs (e .0 .0) (e .0 .1)), join-all us (joinGroups u gs) (ends-join u gs us (e .1)))
+    join-all (u ∷ us) gs e =
+        (alike-all us (joinGroups u gs) (from u) (to u) (join-alike u gs (e .0 .0) (e .0 .1)), join-all us (joinGroups u gs) (ends-join u gs us (e .1)))
 
     -- ---- members of a group belong together
     module _ (ts : List L) where
@@ -444,7 +454,8 @@ module _ {A : Type 0} (same : A → A → Bool) where
         reach-all [] e x i = absurd i
         reach-all (g ∷ gs) e x i = go (touches t g) refl i (reach-all gs (e .1) x)
           where
-            go : (b : Bool) → touches t g ≡ b → T (isIn (flat (consIf b g (filter (touches t) gs))) x) → (T (isIn (touched t gs) x) → Together from to ts x (from t)) → Together from to ts x (from t)
+            go : (b : Bool) → touches t g ≡ b → T (isIn (flat (consIf b g (filter (touches t) gs))) x)
+                → (T (isIn (touched t gs) x) → Together from to ts x (from t)) → Together from to ts x (from t)
             go true q i r = elim (cases (isIn g x) (isIn (touched t gs) x) (subst T (in-append g (touched t gs) x) i)) [
               | inl a ↦ reach g (truth q) (e .0) x a
               | inr b ↦ r b
@@ -462,7 +473,11 @@ module _ {A : Type 0} (same : A → A → Bool) where
             ]
 
             go : (b : Bool) → touches t g ≡ b → Every Close (joinGroups t gs) → Every Close (Joined t g gs b)
-            go true q r = (λ x y i j. chain (toward (truth q) x i) (back (toward (truth q) y j)), every-filter Close (λ (k : List A). not (touches t k)) gs (e .1))
+            go true q r = (
+              λ x y i j. chain (toward (truth q) x i) (back (toward (truth q) y j)),
+              every-filter Close (λ (k : List A). not
+                  (touches t k)) gs (e .1),
+            )
             go false q r = (e .0, r)
 
       close-all : (us : List L) (gs : List (List A)) → Every Link us → Every Close gs → Every Close (joinAll us gs)
@@ -473,7 +488,8 @@ module _ {A : Type 0} (same : A → A → Bool) where
       close-group [] x y e a q = absurd a
       close-group (g ∷ gs) x y e a q = go (isIn g x) (isIn g y) refl refl a q (close-group gs x y (e .1))
         where
-          go : (b c : Bool) → isIn g x ≡ b → isIn g y ≡ c → Among (g ∷ gs) x → cond b 0 (suc (groupOf gs x)) ≡ cond c 0 (suc (groupOf gs y)) → (Among gs x → groupOf gs x ≡ groupOf gs y → Together from to ts x y) → Together from to ts x y
+          go : (b c : Bool) → isIn g x ≡ b → isIn g y ≡ c → Among (g ∷ gs) x → cond b 0 (suc (groupOf gs x)) ≡ cond c 0 (suc (groupOf gs y))
+              → (Among gs x → groupOf gs x ≡ groupOf gs y → Together from to ts x y) → Together from to ts x y
           go true true i j a q r = e .0 x y (truth i) (truth j)
           go true false i j a q r = absurd (omega arith)
           go false true i j a q r = absurd (omega arith)
@@ -508,7 +524,8 @@ module _ {A : Type 0} (same : A → A → Bool) where
 
       -- elements are in one group exactly if they belong together
       pub linked-same : Every Inside ts → Every (λ (t : L). groupOf parts (from t) ≡ groupOf parts (to t)) ts
-      linked-same e = every-of (λ (t : L). groupOf parts (from t) ≡ groupOf parts (to t)) ts (λ t m. alike-group parts (from t) (to t) (every-at (λ (t : L). Alike parts (from t) (to t)) ts (join-all ts (map one xs) ends) m))
+      linked-same e = every-of (λ (t : L). groupOf parts (from t) ≡ groupOf parts (to t)) ts
+          (λ t m. alike-group parts (from t) (to t) (every-at (λ (t : L). Alike parts (from t) (to t)) ts (join-all ts (map one xs) ends) m))
         where
           ends : Every (Ends (map one xs)) ts
           ends = every-of (Ends (map one xs)) ts (λ t m. let i = every-at Inside ts e m in (among-one xs (from t) (i .0), among-one xs (to t) (i .1)))

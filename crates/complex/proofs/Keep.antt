@@ -13,7 +13,8 @@ use Rattle.number.specs.Readers.{spread}
 use Rattle.coordinate.specs.declared.Position.{Position}
 use Rattle.coordinate.specs.Bounds.{within}
 use Rattle.complex.specs.Lists.{all, isEmpty, rising, one}
-use Rattle.complex.specs.Cells.{Halfedge, Cycle, lone, path, Figure, vertex, openEdge, closedEdge, face, LiveCell, Sheet, Look, someIf, lookup, ids, isVertex, isOpen, isClosed, startOf, endOf, same, tailOf, headOf}
+use Rattle.complex.specs.Cells.{Halfedge, Cycle, lone, path, Figure, vertex, openEdge, closedEdge, face, LiveCell, Sheet, Look, someIf, lookup, ids}
+use Rattle.complex.specs.Cells.{isVertex, isOpen, isClosed, startOf, endOf, same, tailOf, headOf}
 use Rattle.complex.specs.Sound.{idsEnd, Walk, cycleOk, figureOk, ceilings, figuresOk, sound, joins}
 use Rattle.complex.specs.Edits.{numbered, rebuild, rewiredCycle, rewired, sameVertex}
 use Rattle.complex.proofs.Bools.{truth, true-of, either, both, pair, cases, false-not, equal, all-map, all-more}
@@ -61,7 +62,13 @@ module _ (p : ℕ → Bool) (f : ℕ → Figure → Figure) (new : List Figure) 
       → ((i : ℕ) (t : Figure) → T (p i) → lookup (s .cells) i ≡ some t → T (figureOk Look′ (f i t)))
       → T (all (figureOk Look′) new) → Sound (rebuild p f new s)
   rebuild-sound S seven eight old fresh =
-      record { rises = rising-rebuild p f new s (S .rises); inIds = seven; fits = eight; figures = λ i t e. go i t (p i) (lookup (s .cells) i) refl refl (sym (lookup-rebuild p f new s i) ∙ e) }
+      record {
+        rises = rising-rebuild p f new s (S .rises);
+        inIds = seven;
+        fits = eight;
+        figures = λ i t e. go i t (p i) (lookup (s .cells) i) refl refl (sym
+            (lookup-rebuild p f new s i) ∙ e);
+      }
     where
       go : (i : ℕ) (t : Figure) (b : Bool) (o : Option Figure) → p i ≡ b → lookup (s .cells) i ≡ o
           → orElse (changed (f i) (cond b o none)) (lookup (numbered (s .next) new) i) ≡ some t → T (figureOk Look′ t)
@@ -102,7 +109,8 @@ module _ (look look′ : Look) (σ : Halfedge → List Halfedge) where
       let q : σ g ≡ one k = ap σ (sym (same-eq h g (b .0))) ∙ e in
       rw q (pair (same k k) (all (same k) (spread σ gs)) (same-refl k) (ring-all h k gs e (b .1)))
 
-  pub ring-carried : (h : Halfedge) (hs : List Halfedge) (k : Halfedge) → σ h ≡ one k → T (isClosed (look′ (k .edge))) → T (all (same h) hs) → T (joins look′ (spread σ (h ∷ hs)))
+  pub ring-carried : (h : Halfedge) (hs : List Halfedge) (k : Halfedge) → σ h ≡ one k → T (isClosed (look′ (k .edge))) → T (all (same h) hs)
+      → T (joins look′ (spread σ (h ∷ hs)))
   ring-carried h hs k e c t =
       let r : Ring look′ (spread σ (h ∷ hs)) = rw e (c, ring-all h k hs e t) in
       ring-joins look′ (spread σ (h ∷ hs)) r

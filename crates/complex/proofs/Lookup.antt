@@ -76,7 +76,8 @@ pub lookup-rebuild : (p : ℕ → Bool) (f : ℕ → Figure → Figure) (new : L
     → lookup (rebuild p f new s .cells) i ≡ orElse (changed (f i) (cond (p i) (lookup (s .cells) i) none)) (lookup (numbered (s .next) new) i)
 lookup-rebuild p f new s i =
     lookup-append (reshape f (keepIds p (s .cells))) (numbered (s .next) new) i
-    ∙ ap (λ (o : Option Figure). orElse o (lookup (numbered (s .next) new) i)) (lookup-reshape f (keepIds p (s .cells)) i ∙ ap (changed (f i)) (lookup-keep p (s .cells) i))
+    ∙ ap (λ (o : Option Figure). orElse o (lookup (numbered (s .next) new) i))
+    (lookup-reshape f (keepIds p (s .cells)) i ∙ ap (changed (f i)) (lookup-keep p (s .cells) i))
 
 -- ---- rising ids
 pub rising-lt : (lo : ℕ) (ns : List ℕ) (hi : ℕ) → T (rising lo ns hi) → lo < hi
@@ -114,7 +115,8 @@ rising-new lo hi (t ∷ ts) h =
     pair (ltb lo hi) (rising hi (ids (numbered (suc hi) ts)) (hi + suc (length ts))) (lt→ltb lo hi h)
     (subst (λ (k : ℕ). T (rising hi (ids (numbered (suc hi) ts)) k)) (omega arith) (rising-new hi (suc hi) ts (omega arith)))
 
-rising-more : (lo : ℕ) (cs : List LiveCell) (hi : ℕ) (new : List Figure) → T (rising lo (ids cs) hi) → T (rising lo (ids (cs ++ numbered hi new)) (hi + length new))
+rising-more : (lo : ℕ) (cs : List LiveCell) (hi : ℕ) (new : List Figure) → T (rising lo (ids cs) hi)
+    → T (rising lo (ids (cs ++ numbered hi new)) (hi + length new))
 rising-more lo [] hi new t = rising-new lo hi new (ltb→lt lo hi t)
 rising-more lo (c ∷ cs) hi new t =
     let b = both (ltb lo (c .id)) (rising (c .id) (ids cs) hi) t in
@@ -124,7 +126,8 @@ pub rising-rebuild : (p : ℕ → Bool) (f : ℕ → Figure → Figure) (new : L
     → T (rising 0 (ids (rebuild p f new s .cells)) (rebuild p f new s .next))
 rising-rebuild p f new s t =
     rising-more 0 (reshape f (keepIds p (s .cells))) (s .next) new
-    (subst (λ (ns : List ℕ). T (rising 0 ns (s .next))) (sym (ids-reshape f (keepIds p (s .cells)))) (rising-filter (λ (c : LiveCell). p (c .id)) 0 (s .cells) (s .next) t))
+    (subst (λ (ns : List ℕ). T (rising 0 ns (s .next))) (sym (ids-reshape f (keepIds p (s .cells))))
+    (rising-filter (λ (c : LiveCell). p (c .id)) 0 (s .cells) (s .next) t))
 
 -- ---- ids that stand for nothing
 pub lookup-from : (lo : ℕ) (cs : List LiveCell) (hi i : ℕ) → T (rising lo (ids cs) hi) → hi ≤ i → lookup cs i ≡ none
@@ -161,7 +164,8 @@ later c cs hi r i t e = go (eqb (c .id) i) refl
     go false f = e
     go true f = let n = lookup-upto (c .id) cs hi i r (let q = eqb-true (c .id) i f in omega arith) in cc
 
-pub all-from : (P : Figure → Bool) (lo : ℕ) (cs : List LiveCell) (hi : ℕ) → T (rising lo (ids cs) hi) → ((i : ℕ) (t : Figure) → lookup cs i ≡ some t → T (P t)) → T (all (λ (c : LiveCell). P (c .figure)) cs)
+pub all-from : (P : Figure → Bool) (lo : ℕ) (cs : List LiveCell) (hi : ℕ) → T (rising lo (ids cs) hi) → ((i : ℕ) (t : Figure) → lookup cs i ≡ some t → T (P t))
+    → T (all (λ (c : LiveCell). P (c .figure)) cs)
 all-from P lo [] hi r h = tt
 all-from P lo (c ∷ cs) hi r h =
     let b = both (ltb lo (c .id)) (rising (c .id) (ids cs) hi) r in

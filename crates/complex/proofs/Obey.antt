@@ -75,7 +75,8 @@ module _ (keeps : (c : Command) → KeepsSound c) (balances : (c : Command) (s :
     | obeyed c t e p q ↦ subst (λ (a : Answer). T (sound (a .sheet))) (sym q) (parts-sound (result s c) (keeps c s (sound-parts s S) p))
   ]
 
-  pub command-euler : (s : Sheet) (b : List ℕ) → T (sound s) → euler (command s b .sheet .cells) ≡ euler (s .cells) +ℤ cond (accepted s b) (shareRead s (decode b)) (pos 0)
+  pub command-euler : (s : Sheet) (b : List ℕ) → T (sound s)
+      → euler (command s b .sheet .cells) ≡ euler (s .cells) +ℤ cond (accepted s b) (shareRead s (decode b)) (pos 0)
   command-euler s b S = elim (outcome s b S) [
     | refusal n z q ↦ rw q (sym (unmoved n z))
     | obeyed c t e p q ↦ rw (q, e) (balanced-euler s c (balances c s (sound-parts s S) p))

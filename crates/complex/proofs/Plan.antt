@@ -8,14 +8,18 @@ use lib.ListN.{getD, set}
 use lib.Dec.{eqb}
 use Rattle.coordinate.specs.declared.Position.{Position}
 use Rattle.complex.specs.Lists.{one, rotated, without, chosen}
-use Rattle.complex.specs.Cells.{Cycle, lone, path, Figure, vertex, openEdge, closedEdge, face, Sheet, cellAt, bendsOf, cyclesOf, positionOf, stepsOf, along, against, headOf}
+use Rattle.complex.specs.Cells.{Cycle, lone, path, Figure, vertex, openEdge, closedEdge, face, Sheet, cellAt, bendsOf, cyclesOf, positionOf, stepsOf}
+use Rattle.complex.specs.Cells.{along, against, headOf}
 use Rattle.complex.specs.Edits.{rebuild, everyId, asItIs, others, replaced, rewired, sameVertex, inPlaceOf}
 use Rattle.complex.specs.Delete.{goes, moved, deleted}
 use Rattle.complex.specs.Glue.{renamed, gluedVertices, gluedEdges}
 use Rattle.complex.specs.Unglue.{copies, parts, ungluing, unglued}
-use Rattle.complex.specs.Cut.{cutPlace, bendsBefore, bendsAfter, bendsRound, inTwo, noCycle, corner, stretch, remainder, splitInTwo, bridged, cutFigure, edgeCut, faceCutAt, faceCutAlong, faceCutRound}
-use Rattle.complex.specs.Uncut.{Uncut, refused, lonely, loop, joint, twoFaces, oneCycle, rings, uncutCase, withoutLone, inOne, joined, pathOr, following, followingTo, uncutResult, uncutAt}
-use Rattle.complex.specs.Decode.{Command, create, move, delete, glueVertices, glueEdges, unglue, cutEdge, cutFaceVertex, cutFaceOpen, cutFaceClosed, uncut}
+use Rattle.complex.specs.Cut.{cutPlace, bendsBefore, bendsAfter, bendsRound, inTwo, noCycle, corner, stretch, remainder, splitInTwo, bridged, cutFigure}
+use Rattle.complex.specs.Cut.{edgeCut, faceCutAt, faceCutAlong, faceCutRound}
+use Rattle.complex.specs.Uncut.{Uncut, refused, lonely, loop, joint, twoFaces, oneCycle, rings, uncutCase, withoutLone, inOne, joined, pathOr, following}
+use Rattle.complex.specs.Uncut.{followingTo, uncutResult, uncutAt}
+use Rattle.complex.specs.Decode.{Command, create, move, delete, glueVertices, glueEdges, unglue, cutEdge, cutFaceVertex, cutFaceOpen, cutFaceClosed}
+use Rattle.complex.specs.Decode.{uncut}
 use Rattle.complex.specs.Commands.{result}
 use Rattle.complex.proofs.Lookup.{rebuild-none}
 
@@ -140,7 +144,8 @@ built-cut s e q (some (closedEdge bs)) = refl
 built-cut s e q (some (face ks)) = sym (rebuild-none s)
 
 built-along : (y : Bool) (s : Sheet) (f c1 s1 c2 s2 : ℕ) (bs : List Position) (ms : List ℕ)
-    → cond y (splitInTwo s f c1 s1 s2 bs ms (cyclesOf (cellAt s f))) (bridged s f c1 s1 c2 s2 bs (cyclesOf (cellAt s f))) ≡ built (alongPlan y s f c1 s1 c2 s2 bs ms) s
+    → cond y (splitInTwo s f c1 s1 s2 bs ms (cyclesOf (cellAt s f))) (bridged s f c1 s1 c2 s2 bs (cyclesOf (cellAt s f)))
+    ≡ built (alongPlan y s f c1 s1 c2 s2 bs ms) s
 built-along true s f c1 s1 c2 s2 bs ms = refl
 built-along false s f c1 s1 c2 s2 bs ms = refl
 

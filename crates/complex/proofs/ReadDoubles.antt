@@ -17,7 +17,9 @@ use Rattle.bends.specs.Bends.{readBends}
 use Rattle.complex.specs.Lists.{all, one}
 use Rattle.complex.specs.Cells.{Figure, vertex, openEdge, closedEdge, face, LiveCell, Sheet}
 use Rattle.complex.specs.Sound.{double, figureDouble, doubles}
-use Rattle.complex.specs.Decode.{Command, create, move, delete, glueVertices, glueEdges, unglue, cutEdge, cutFaceVertex, cutFaceOpen, cutFaceClosed, uncut, readCycle, readVertex, readOpenEdge, readClosedEdge, readFace, readCreate, readCellOnly, readTwo, readPlace, readGlueEdges, readCutFaceOpen, readCutFaceClosed, unreadable, kinds, decode}
+use Rattle.complex.specs.Decode.{Command, create, move, delete, glueVertices, glueEdges, unglue, cutEdge, cutFaceVertex, cutFaceOpen, cutFaceClosed}
+use Rattle.complex.specs.Decode.{uncut, readCycle, readVertex, readOpenEdge, readClosedEdge, readFace, readCreate, readCellOnly, readTwo, readPlace}
+use Rattle.complex.specs.Decode.{readGlueEdges, readCutFaceOpen, readCutFaceClosed, unreadable, kinds, decode}
 use Rattle.complex.specs.Commands.{positions}
 use Rattle.complex.specs.File.{figureReaders, noFigure, readCell, readSheet}
 use Rattle.complex.proofs.Bools.{both, pair}
@@ -87,7 +89,8 @@ faces-double : Gives Double readFace
 faces-double s t x e = then-from (counted readCycle s) _ x t e λ ks u r l. gives-last Double {x = face ks} l tt
 
 figures-double : (n : ℕ) → Gives Double (getD figureReaders n noFigure)
-figures-double = getD-gives Double figureReaders noFigure (vertices-double & opens-double & closeds-double & faces-double & tt) (λ s t x e. absurd (not-bad x t e))
+figures-double = getD-gives Double figureReaders noFigure (vertices-double & opens-double & closeds-double & faces-double & tt)
+    (λ s t x e. absurd (not-bad x t e))
 
 abbrev DoubleCell : LiveCell → Type 0
 DoubleCell c = T (figureDouble (c .figure))

@@ -13,7 +13,8 @@ use borrow.Author.Tests.{eq-eqb, eqb-true, eqb-false, le-leb, lt-leb, leb-true, 
 use Rattle.coordinate.specs.declared.Position.{Position}
 use Rattle.coordinate.specs.Bounds.{within}
 use Rattle.complex.specs.Lists.{all, isEmpty, consIf, holds, places, one, rotated, without, chosen, distance}
-use Rattle.complex.specs.Cells.{Halfedge, Cycle, lone, path, Figure, vertex, openEdge, closedEdge, face, LiveCell, Sheet, Look, lookup, isVertex, isOpen, isClosed, isFace, startOf, endOf, cyclesOf, stepsOf, along, against, same, tailOf, headOf, cellAt}
+use Rattle.complex.specs.Cells.{Halfedge, Cycle, lone, path, Figure, vertex, openEdge, closedEdge, face, LiveCell, Sheet, Look, lookup, isVertex, isOpen}
+use Rattle.complex.specs.Cells.{isClosed, isFace, startOf, endOf, cyclesOf, stepsOf, along, against, same, tailOf, headOf, cellAt}
 use Rattle.complex.specs.Sound.{Walk, idsEnd, cycleOk, figureOk, ceilings, joins}
 use Rattle.complex.specs.Decode.{Command, cutFaceOpen}
 use Rattle.complex.specs.Edits.{rebuild, everyId, replaced}
@@ -70,14 +71,16 @@ module _ {A : Type 0} where
       go : (b : Bool) → leb s t ≡ b → getD (rotated s hs) (cond b (t - s) (t + length hs - s)) d ≡ getD hs t d
       go true e =
           let l = leb-true s t e in
-          List·getD-append (drop s hs) (take s hs) d (t - s) (simp length-drop (omega arith)) ∙ getD-drop s hs (t - s) d ∙ ap (λ (n : ℕ). getD hs n d) (omega arith)
+          List·getD-append (drop s hs) (take s hs) d (t - s) (simp length-drop (omega arith)) ∙ getD-drop s hs (t - s) d
+          ∙ ap (λ (n : ℕ). getD hs n d) (omega arith)
       go false e =
           let l = leb-false s t e in
           let z : t + length hs - s ≡ length (drop s hs) + t = simp length-drop (omega arith) in
           ap (λ (n : ℕ). getD (rotated s hs) n d) z ∙ getD-append-add (drop s hs) (take s hs) t d ∙ getD-take s hs t d l
 
 -- a walk that is not over begins where its next step does
-pub walk-begins : (look : Look) (u : ℕ) (hs : List Halfedge) (w n : ℕ) (d : Halfedge) → n < length hs → Walk look u (drop n hs) w → u ≡ tailOf look (getD hs n d)
+pub walk-begins : (look : Look) (u : ℕ) (hs : List Halfedge) (w n : ℕ) (d : Halfedge) → n < length hs → Walk look u (drop n hs) w
+    → u ≡ tailOf look (getD hs n d)
 walk-begins look u hs w n d h k = (subst (λ (ks : List Halfedge). Walk look u ks w) (drop-cons hs n d h) k) .1
 
 pub apart : (x : Option Figure) → T (isClosed x) → T (isOpen x) → ⊥
@@ -92,17 +95,20 @@ module _ (look : Look) where
   pub ring-no-corner : (hs : List Halfedge) (n : ℕ) → Ring look hs → n < length hs → T (isOpen (look (getD hs n noStep .edge))) → ⊥
   ring-no-corner [] n r h o = r
   ring-no-corner (h₀ ∷ hs) zero r h o = apart (look (h₀ .edge)) (r .0) o
-  ring-no-corner (h₀ ∷ hs) (suc n) r h o = apart (look (h₀ .edge)) (r .0) (subst (λ (k : Halfedge). T (isOpen (look (k .edge)))) (sym (same-eq h₀ (getD hs n noStep) (all-getD (same h₀) hs n noStep (r .1) (omega arith)))) o)
+  ring-no-corner (h₀ ∷ hs) (suc n) r h o = apart (look (h₀ .edge)) (r .0)
+      (subst (λ (k : Halfedge). T (isOpen (look (k .edge)))) (sym (same-eq h₀ (getD hs n noStep) (all-getD (same h₀) hs n noStep (r .1) (omega arith)))) o)
 
   pub Parted : Cycle → ℕ → ℕ → Type 0
-  Parted k s t = Walk look (corner look k s) (stretch s t (stepsOf k)) (corner look k t) × Walk look (corner look k t) (remainder s t (stepsOf k)) (corner look k s)
+  Parted k s t = Walk look (corner look k s) (stretch s t (stepsOf k)) (corner look k t) × Walk look (corner look k t) (remainder s t (stepsOf k))
+      (corner look k s)
 
   round-parted : (hs : List Halfedge) (s t : ℕ) → Round look hs → s < length hs → t < length hs → Parted (path hs) s t
   unfolding Parted
   round-parted hs s t k hs< ht< =
       let r = round-rotated look s hs k in
       let d = distance (length hs) s t in
-      let w : Walk look (r .0) (take d (rotated s hs) ++ drop d (rotated s hs)) (r .0) = subst (λ (ks : List Halfedge). Walk look (r .0) ks (r .0)) (sym (take-append-drop d (rotated s hs))) (r .1) in
+      let w : Walk look (r .0) (take d (rotated s hs) ++ drop d (rotated s hs)) (r .0) = subst (λ (ks : List Halfedge). Walk look (r .0) ks (r .0))
+      (sym (take-append-drop d (rotated s hs))) (r .1) in
       let m = walk-split look (r .0) (take d (rotated s hs)) (drop d (rotated s hs)) (r .0) w in
       let b : r .0 ≡ tailOf look (getD hs s noStep) = at-start (r .0) (r .1) in
       let e : m .0 ≡ tailOf look (getD hs t noStep) =
@@ -140,7 +146,8 @@ module _ (look : Look) where
       ]
 
 -- ---- corners are vertices
-pub ends-vertices : (s : Sheet) → Sound s → (e : ℕ) → T (isOpen (cellAt s e)) → T (isVertex (cellAt s (startOf (cellAt s e)))) × T (isVertex (cellAt s (endOf (cellAt s e))))
+pub ends-vertices : (s : Sheet) → Sound s → (e : ℕ) → T (isOpen (cellAt s e))
+    → T (isVertex (cellAt s (startOf (cellAt s e)))) × T (isVertex (cellAt s (endOf (cellAt s e))))
 ends-vertices s S e t = go (cellAt s e) refl t
   where
     go : (o : Option Figure) → cellAt s e ≡ o → T (isOpen o) → T (isVertex (cellAt s (startOf o))) × T (isVertex (cellAt s (endOf o)))
@@ -152,14 +159,16 @@ ends-vertices s S e t = go (cellAt s e) refl t
     go (some (closedEdge bs)) q k = absurd k
     go (some (face ks)) q k = absurd k
 
-pub corner-vertex : (s : Sheet) → Sound s → (k : Cycle) (n : ℕ) → T (cycleOk (cellAt s) k) → T (cornerExists (cellAt s) k n) → T (isVertex (cellAt s (corner (cellAt s) k n)))
+pub corner-vertex : (s : Sheet) → Sound s → (k : Cycle) (n : ℕ) → T (cycleOk (cellAt s) k) → T (cornerExists (cellAt s) k n)
+    → T (isVertex (cellAt s (corner (cellAt s) k n)))
 corner-vertex s S (lone v) n c h = c
 corner-vertex s S (path hs) n c h =
     let o = both (ltb n (length hs)) (isOpen (cellAt s (getD hs n noStep .edge))) h .1 in
     let v = ends-vertices s S (getD hs n noStep .edge) o in
     go (getD hs n noStep .backward) (v .0) (v .1)
   where
-    go : (b : Bool) → T (isVertex (cellAt s (startOf (cellAt s (getD hs n noStep .edge))))) → T (isVertex (cellAt s (endOf (cellAt s (getD hs n noStep .edge)))))
+    go : (b : Bool) → T (isVertex (cellAt s (startOf (cellAt s (getD hs n noStep .edge)))))
+        → T (isVertex (cellAt s (endOf (cellAt s (getD hs n noStep .edge)))))
         → T (isVertex (cellAt s (cond b (endOf (cellAt s (getD hs n noStep .edge))) (startOf (cellAt s (getD hs n noStep .edge))))))
     go true a b = b
     go false a b = a
@@ -169,7 +178,8 @@ some-last : (hs : List Halfedge) (h : Halfedge) → Some (hs ++ one h)
 some-last [] h = tt
 some-last (k ∷ hs) h = tt
 
-pub closed-by : (look : Look) (u : ℕ) (hs : List Halfedge) (w : ℕ) (h : Halfedge) → Walk look u hs w → T (isOpen (look (h .edge))) → w ≡ tailOf look h → headOf look h ≡ u → T (joins look (hs ++ one h))
+pub closed-by : (look : Look) (u : ℕ) (hs : List Halfedge) (w : ℕ) (h : Halfedge) → Walk look u hs w → T (isOpen (look (h .edge))) → w ≡ tailOf look h
+    → headOf look h ≡ u → T (joins look (hs ++ one h))
 closed-by look u hs w h k o a b = round-joins look (hs ++ one h) (some-last hs h) (u, walk-append look u hs w (one h) u k (o, a, b))
 
 -- ---- the cut
@@ -247,17 +257,22 @@ module _ (s : Sheet) (S : Sound s) (f c s1 s2 : ℕ) (bs : List Position) (ms : 
   new-ok =
       let v1 = kept .vertices u (corner-vertex s S k s1 kOk h1) in
       let v2 = kept .vertices w (corner-vertex s S k s2 kOk h2) in
-      pair (isVertex (look′ u) && (isVertex (look′ w) && all within bs)) ((joins look′ (Q ++ one (along e)) && all (cycleOk look′) (chosen noCycle ms ks)) && true)
+      pair (isVertex (look′ u) && (isVertex (look′ w) && all within bs)) ((joins look′ (Q ++ one (along e)) && all (cycleOk look′) (chosen noCycle ms ks))
+      && true)
       (pair (isVertex (look′ u)) (isVertex (look′ w) && all within bs) v1 (pair (isVertex (look′ w)) (all within bs) v2 bsOk))
       (pair (joins look′ (Q ++ one (along e)) && all (cycleOk look′) (chosen noCycle ms ks)) true
-      (pair (joins look′ (Q ++ one (along e))) (all (cycleOk look′) (chosen noCycle ms ks)) Q-closed (all-chosen (cycleOk look′) noCycle 0 ms ks cyclesOk′ hm)) tt)
+      (pair (joins look′ (Q ++ one (along e))) (all (cycleOk look′) (chosen noCycle ms ks)) Q-closed (all-chosen (cycleOk look′) noCycle 0 ms ks cyclesOk′ hm))
+      tt)
 
-  pub split-parts : T (leb (splitInTwo s f c s1 s2 bs ms ks .next) idsEnd) → T (ceilings (splitInTwo s f c s1 s2 bs ms ks .cells)) → Sound (splitInTwo s f c s1 s2 bs ms ks)
+  pub split-parts : T (leb (splitInTwo s f c s1 s2 bs ms ks .next) idsEnd) → T (ceilings (splitInTwo s f c s1 s2 bs ms ks .cells))
+      → Sound (splitInTwo s f c s1 s2 bs ms ks)
   split-parts seven eight =
       replaced-sound f (face ks′) new s S (λ t q. face-serves (cellAt s f) isF t q ks′) seven eight
-      (all-without (cycleOk look′) ms 0 (set ks c (path (P ++ one (against e)))) (all-set (cycleOk look′) ks c (path (P ++ one (against e))) cyclesOk′ P-closed)) new-ok
+      (all-without (cycleOk look′) ms 0 (set ks c (path (P ++ one (against e))))
+      (all-set (cycleOk look′) ks c (path (P ++ one (against e))) cyclesOk′ P-closed)) new-ok
 
-pub split-sound : (f c s1 s2 : ℕ) (bs : List Position) (ms : List ℕ) (s : Sheet) → Sound s → Passes s (cutFaceOpen f c s1 c s2 bs ms) → Sound (result s (cutFaceOpen f c s1 c s2 bs ms))
+pub split-sound : (f c s1 s2 : ℕ) (bs : List Position) (ms : List ℕ) (s : Sheet) → Sound s → Passes s (cutFaceOpen f c s1 c s2 bs ms)
+    → Sound (result s (cutFaceOpen f c s1 c s2 bs ms))
 unfolding question3 question4 question5 result faceCutAlong
 split-sound f c s1 s2 bs ms s S q =
     let ks = cyclesOf (cellAt s f) in

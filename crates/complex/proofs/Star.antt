@@ -46,7 +46,8 @@ module _ (Q : Figure → Bool) where
       let b = both (ltb lo (c .id)) (rising (c .id) (ids cs) hi) r in
       go (ofCell c) (eqb (c .id) j) refl refl (chosen-at (c .id) cs hi j (b .1)) (λ h. absent ofCell (c .id) cs hi j (b .1) h)
     where
-      go : (x y : Bool) → ofCell c ≡ x → eqb (c .id) j ≡ y → holds j (ids (filter ofCell cs)) ≡ holdsOf (lookup cs j) → (j ≤ c .id → holds j (ids (filter ofCell cs)) ≡ false)
+      go : (x y : Bool) → ofCell c ≡ x → eqb (c .id) j ≡ y → holds j (ids (filter ofCell cs)) ≡ holdsOf (lookup cs j)
+          → (j ≤ c .id → holds j (ids (filter ofCell cs)) ≡ false)
           → holds j (ids (consIf x c (filter ofCell cs))) ≡ holdsOf (someIf y (c .figure) (lookup cs j))
       go true true e f h n = rw (eq-eqb j (c .id) (sym (eqb-true (c .id) j f)), e)
       go true false e f h n = rw (ne-eqb j (c .id) (λ z. eqb-false (c .id) j f (sym z))) h

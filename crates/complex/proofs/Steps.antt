@@ -6,7 +6,8 @@ use lib.IntN.{ℤ, pos, _+ℤ_, +ℤ-idr, +ℤ-assoc}
 use Rattle.complex.specs.Demands.{Step, afterItems, acceptedItem, sharesOfItems, Each}
 
 -- every step keeps what is good
-module _ {State Item : Type 0} (step : State → Item → Step State) (Good : State → Type 0) (keeps : (s : State) (i : Item) → Good s → Good (step s i .state)) where
+module _ {State Item : Type 0} (step : State → Item → Step State) (Good : State → Type 0) (keeps : (s : State) (i : Item) → Good s
+    → Good (step s i .state)) where
   pub items-good : (s : State) (is : List Item) → Good s → Good (afterItems step s is)
   items-good s [] g = g
   items-good s (i ∷ is) g = items-good (step s i .state) is (keeps s i g)
@@ -23,6 +24,7 @@ module _ {State Item : Type 0} (step : State → Item → Step State) (Good : St
       ∙ +ℤ-assoc (value s) (cond (acceptedItem step s i) (share s i) (pos 0)) (sharesOfItems step share t is)
 
   -- what holds of every item
-  pub items-each : (Claim : State → Item → Type 0) → ((s : State) (i : Item) → Good s → Claim s i) → (s : State) (is : List Item) → Good s → Each step Claim s is
+  pub items-each : (Claim : State → Item → Type 0) → ((s : State) (i : Item) → Good s → Claim s i) → (s : State) (is : List Item) → Good s
+      → Each step Claim s is
   items-each Claim holds s [] g = tt
   items-each Claim holds s (i ∷ is) g = (holds s i g, items-each Claim holds (step s i .state) is (keeps s i g))

@@ -39,13 +39,15 @@ module _ {A : Type 0} where
   total-set f (x ∷ xs) (suc n) y d l = let h = total-set f xs n y d (omega arith) in omega arith
 
 -- each element changed, which takes d from its part of the sum and adds h to it
-pub total-by : {A B : Type 0} (f : A → B) (g : B → ℕ) (k d h : A → ℕ) → ((x : A) → g (f x) + d x ≡ k x + h x) → (xs : List A) → total g (map f xs) + total d xs ≡ total k xs + total h xs
+pub total-by : {A B : Type 0} (f : A → B) (g : B → ℕ) (k d h : A → ℕ) → ((x : A) → g (f x) + d x ≡ k x + h x) → (xs : List A)
+    → total g (map f xs) + total d xs ≡ total k xs + total h xs
 total-by f g k d h e [] = refl
 total-by f g k d h e (x ∷ xs) = let a = e x in let b = total-by f g k d h e xs in omega arith
 
 -- ---- places taken out of a list
 -- a place that is named at most once
-named-once : (n y lo : ℕ) (ms : List ℕ) (hi : ℕ) → T (places lo ms hi) → (total (λ (m : ℕ). cond (eqb n m) y 0) ms ≡ cond (holds n ms) y 0) × (n < lo → holds n ms ≡ false)
+named-once : (n y lo : ℕ) (ms : List ℕ) (hi : ℕ) → T (places lo ms hi)
+    → (total (λ (m : ℕ). cond (eqb n m) y 0) ms ≡ cond (holds n ms) y 0) × (n < lo → holds n ms ≡ false)
 named-once n y lo [] hi t = (refl, λ l. refl)
 named-once n y lo (m ∷ ms) hi t =
     let b = both (leb lo m) (ltb m hi && places (suc m) ms hi) t in
@@ -70,7 +72,8 @@ module _ {A : Type 0} (f : A → ℕ) where
   partAt n [] m = 0
   partAt n (x ∷ xs) m = cond (eqb n m) (f x) 0 + partAt (suc n) xs m
 
-  total-without : (lo : ℕ) (ms : List ℕ) (hi : ℕ) → T (places lo ms hi) → (n : ℕ) (xs : List A) → total f (without ms n xs) + total (partAt n xs) ms ≡ total f xs
+  total-without : (lo : ℕ) (ms : List ℕ) (hi : ℕ) → T (places lo ms hi) → (n : ℕ) (xs : List A)
+      → total f (without ms n xs) + total (partAt n xs) ms ≡ total f xs
   unfolding partAt
   total-without lo ms hi t n [] = let z = total-zero ms in omega arith
   total-without lo ms hi t n (x ∷ xs) =
@@ -78,8 +81,10 @@ module _ {A : Type 0} (f : A → ℕ) where
       let b = named-once n (f x) lo ms hi t .0 in
       go (holds n ms) a b (total-without lo ms hi t (suc n) xs)
     where
-      go : (y : Bool) → total (partAt n (x ∷ xs)) ms ≡ total (λ (m : ℕ). cond (eqb n m) (f x) 0) ms + total (partAt (suc n) xs) ms → total (λ (m : ℕ). cond (eqb n m) (f x) 0) ms ≡ cond y (f x) 0
-          → total f (without ms (suc n) xs) + total (partAt (suc n) xs) ms ≡ total f xs → total f (consIf (not y) x (without ms (suc n) xs)) + total (partAt n (x ∷ xs)) ms ≡ f x + total f xs
+      go : (y : Bool) → total (partAt n (x ∷ xs)) ms ≡ total (λ (m : ℕ). cond (eqb n m) (f x) 0) ms + total (partAt (suc n) xs) ms
+          → total (λ (m : ℕ). cond (eqb n m) (f x) 0) ms ≡ cond y (f x) 0
+          → total f (without ms (suc n) xs) + total (partAt (suc n) xs) ms ≡ total f xs
+          → total f (consIf (not y) x (without ms (suc n) xs)) + total (partAt n (x ∷ xs)) ms ≡ f x + total f xs
       go true a b h = omega arith
       go false a b h = omega arith
 
@@ -132,6 +137,7 @@ module _ {A : Type 0} where
   chosen-set d [] xs c y t = refl
   chosen-set d (m ∷ ms) xs c y t = go (eqb c m) refl t (λ u. chosen-set d ms xs c y u)
     where
-      go : (b : Bool) → eqb c m ≡ b → T (not (b || holds c ms)) → (T (not (holds c ms)) → chosen d ms (set xs c y) ≡ chosen d ms xs) → chosen d (m ∷ ms) (set xs c y) ≡ chosen d (m ∷ ms) xs
+      go : (b : Bool) → eqb c m ≡ b → T (not (b || holds c ms)) → (T (not (holds c ms)) → chosen d ms (set xs c y) ≡ chosen d ms xs)
+          → chosen d (m ∷ ms) (set xs c y) ≡ chosen d (m ∷ ms) xs
       go true q u k = absurd u
       go false q u k = λ i. getD-set-other xs c m y d (λ e. eqb-false c m q (sym e)) i ∷ k u i

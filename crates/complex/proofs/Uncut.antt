@@ -13,7 +13,8 @@ use Rattle.complex.specs.Cells.{Halfedge, Cycle, Figure, vertex, openEdg
 use Rattle.complex.specs.Sound.{idsEnd, ceilings}
 use Rattle.complex.specs.Decode.{Command, uncut}
 use Rattle.complex.specs.Uses.{endsAt, passagesAt, loneUse, usesBy, Use, usesOf}
-use Rattle.complex.specs.Uncut.{Uncut, refused, lonely, loop, joint, twoFaces, oneCycle, rings, endsOfOneEdge, doublesBack, staysOnEdge, opposite, uncutVertex, uncutOpen, uncutClosed, uncutFigure, uncutCase, uncutResult, uncutAt, allowed}
+use Rattle.complex.specs.Uncut.{Uncut, refused, lonely, loop, joint, twoFaces, oneCycle, rings, endsOfOneEdge, doublesBack, staysOnEdge, opposite}
+use Rattle.complex.specs.Uncut.{uncutVertex, uncutOpen, uncutClosed, uncutFigure, uncutCase, uncutResult, uncutAt, allowed}
 use Rattle.complex.specs.Commands.{question4, question6, result}
 use Rattle.complex.proofs.Gains.{Even}
 use Rattle.complex.proofs.Bools.{truth, true-of, both, false-not}
@@ -31,10 +32,12 @@ pub data Holds (s : Sheet) (i : ℕ) : Uncut → Type 0 where
       → T (endsOfOneEdge x y) → doublesBack (passagesAt (s .cells) i) ≡ false → Holds s i (loop (x .edge))
   is-joint : (p : Position) → cellAt s i ≡ some (vertex p) → (x y : Halfedge) → endsAt (s .cells) i ≡ x ∷ y ∷ [] → usesBy (loneUse i) (s .cells) ≡ 0
       → eqb (x .edge) (y .edge) ≡ false → staysOnEdge (passagesAt (s .cells) i) ≡ false → Holds s i (joint x y)
-  is-two : (a b : ℕ) (bs : List Position) → cellAt s i ≡ some (openEdge a b bs) → (u w : Use) → usesOf (s .cells) i ≡ u ∷ w ∷ [] → T (opposite u w) → (u .face ≡ w .face → ⊥) → Holds s i (twoFaces u w)
+  is-two : (a b : ℕ) (bs : List Position) → cellAt s i ≡ some (openEdge a b bs) → (u w : Use) → usesOf (s .cells) i ≡ u ∷ w ∷ [] → T (opposite u w)
+      → (u .face ≡ w .face → ⊥) → Holds s i (twoFaces u w)
   is-one : (a b : ℕ) (bs : List Position) → cellAt s i ≡ some (openEdge a b bs) → (u w : Use) → Placed (cellAt s) i u → Placed (cellAt s) i w → Only s i u w
       → T (opposite u w) → u .face ≡ w .face → u .cycle ≡ w .cycle → Holds s i (oneCycle u w)
-  is-rings : (bs : List Position) → cellAt s i ≡ some (closedEdge bs) → (u w : Use) → usesOf (s .cells) i ≡ u ∷ w ∷ [] → T (opposite u w) → (u .face ≡ w .face → ⊥) → Holds s i (rings u w)
+  is-rings : (bs : List Position) → cellAt s i ≡ some (closedEdge bs) → (u w : Use) → usesOf (s .cells) i ≡ u ∷ w ∷ [] → T (opposite u w)
+      → (u .face ≡ w .face → ⊥) → Holds s i (rings u w)
 
 opposite-sym : (u w : Use) → T (opposite u w) → T (opposite w u)
 opposite-sym u w t = go (u .halfedge .backward) (w .halfedge .backward) t
@@ -47,7 +50,8 @@ opposite-sym u w t = go (u .halfedge .backward) (w .halfedge .backward) t
 
 module _ (s : Sheet) (S : Sound s) (i : ℕ) where
   holds-vertex : (p : Position) → cellAt s i ≡ some (vertex p) → (ends : List Halfedge) → endsAt (s .cells) i ≡ ends
-      → T (allowed (uncutVertex (passagesAt (s .cells) i) (usesBy (loneUse i) (s .cells)) ends)) → Holds s i (uncutVertex (passagesAt (s .cells) i) (usesBy (loneUse i) (s .cells)) ends)
+      → T (allowed (uncutVertex (passagesAt (s .cells) i) (usesBy (loneUse i) (s .cells)) ends))
+      → Holds s i (uncutVertex (passagesAt (s .cells) i) (usesBy (loneUse i) (s .cells)) ends)
   holds-vertex p at [] q t = go (eqb (usesBy (loneUse i) (s .cells)) 1) refl t
     where
       go : (b : Bool) → eqb (usesBy (loneUse i) (s .cells)) 1 ≡ b → T (allowed (cond b lonely refused)) → Holds s i (cond b lonely refused)
@@ -55,13 +59,16 @@ module _ (s : Sheet) (S : Sound s) (i : ℕ) where
       go false z t = absurd t
   holds-vertex p at (x ∷ []) q t = absurd t
   holds-vertex p at (x ∷ y ∷ []) q t =
-      go (eqb (usesBy (loneUse i) (s .cells)) 0) (endsOfOneEdge x y) (doublesBack (passagesAt (s .cells) i)) (staysOnEdge (passagesAt (s .cells) i)) refl refl refl refl t
+      go (eqb (usesBy (loneUse i) (s .cells)) 0) (endsOfOneEdge x y) (doublesBack (passagesAt (s .cells) i))
+      (staysOnEdge (passagesAt (s .cells) i)) refl refl refl refl t
     where
       distinct : endsOfOneEdge x y ≡ false → eqb (x .edge) (y .edge) ≡ false
       distinct z = ne-eqb (x .edge) (y .edge) (λ e. false-not z (ends-of-one 0 (s .cells) (s .next) i x y (S .rises) q e))
 
-      go : (a b c d : Bool) → eqb (usesBy (loneUse i) (s .cells)) 0 ≡ a → endsOfOneEdge x y ≡ b → doublesBack (passagesAt (s .cells) i) ≡ c → staysOnEdge (passagesAt (s .cells) i) ≡ d
-          → T (allowed (cond (not a) refused (cond b (cond c refused (loop (x .edge))) (cond d refused (joint x y))))) → Holds s i (cond (not a) refused (cond b (cond c refused (loop (x .edge))) (cond d refused (joint x y))))
+      go : (a b c d : Bool) → eqb (usesBy (loneUse i) (s .cells)) 0 ≡ a → endsOfOneEdge x y ≡ b → doublesBack (passagesAt (s .cells) i) ≡ c
+          → staysOnEdge (passagesAt (s .cells) i) ≡ d
+          → T (allowed (cond (not a) refused (cond b (cond c refused (loop (x .edge))) (cond d refused (joint x y)))))
+          → Holds s i (cond (not a) refused (cond b (cond c refused (loop (x .edge))) (cond d refused (joint x y))))
       go false b c d z₀ z₁ z₂ z₃ t = absurd t
       go true true true d z₀ z₁ z₂ z₃ t = absurd t
       go true true false d z₀ z₁ z₂ z₃ t = is-loop p at x y q (eqb-true (usesBy (loneUse i) (s .cells)) 0 z₀) (truth z₁) z₂
@@ -69,7 +76,8 @@ module _ (s : Sheet) (S : Sound s) (i : ℕ) where
       go true false c false z₀ z₁ z₂ z₃ t = is-joint p at x y q (eqb-true (usesBy (loneUse i) (s .cells)) 0 z₀) (distinct z₁) z₃
   holds-vertex p at (x ∷ y ∷ z ∷ zs) q t = absurd t
 
-  holds-open : (a b : ℕ) (bs : List Position) → cellAt s i ≡ some (openEdge a b bs) → (us : List Use) → usesOf (s .cells) i ≡ us → T (allowed (uncutOpen us)) → Holds s i (uncutOpen us)
+  holds-open : (a b : ℕ) (bs : List Position) → cellAt s i ≡ some (openEdge a b bs) → (us : List Use) → usesOf (s .cells) i ≡ us → T (allowed (uncutOpen us))
+      → Holds s i (uncutOpen us)
   holds-open a b bs at [] q t = absurd t
   holds-open a b bs at (u ∷ []) q t = absurd t
   holds-open a b bs at (u ∷ w ∷ []) q t = go (opposite u w) (eqb (u .face) (w .face)) (eqb (u .cycle) (w .cycle)) (u .halfedge .backward) refl refl refl t
@@ -88,21 +96,26 @@ module _ (s : Sheet) (S : Sound s) (i : ℕ) where
       swap (inr x) = inl x
 
       go : (c d e f : Bool) → opposite u w ≡ c → eqb (u .face) (w .face) ≡ d → eqb (u .cycle) (w .cycle) ≡ e
-          → T (allowed (cond (not c) refused (cond (not d) (twoFaces u w) (cond (not e) refused (cond f (oneCycle u w) (oneCycle w u)))))) → Holds s i (cond (not c) refused (cond (not d) (twoFaces u w) (cond (not e) refused (cond f (oneCycle u w) (oneCycle w u)))))
+          → T (allowed (cond (not c) refused (cond (not d) (twoFaces u w) (cond (not e) refused (cond f (oneCycle u w) (oneCycle w u))))))
+          → Holds s i (cond (not c) refused (cond (not d) (twoFaces u w) (cond (not e) refused (cond f (oneCycle u w) (oneCycle w u)))))
       go false d e f z₀ z₁ z₂ t = absurd t
       go true false e f z₀ z₁ z₂ t = is-two a b bs at u w q (truth z₀) (eqb-false (u .face) (w .face) z₁)
       go true true false f z₀ z₁ z₂ t = absurd t
-      go true true true true z₀ z₁ z₂ t = is-one a b bs at u w ru rw′ (listed s S i E u w q) (truth z₀) (eqb-true (u .face) (w .face) z₁) (eqb-true (u .cycle) (w .cycle) z₂)
+      go true true true true z₀ z₁ z₂ t = is-one a b bs at u w ru rw′ (listed s S i E u w q) (truth z₀) (eqb-true (u .face) (w .face) z₁)
+          (eqb-true (u .cycle) (w .cycle) z₂)
       go true true true false z₀ z₁ z₂ t =
-          is-one a b bs at w u rw′ ru (λ f ks k c l j m z. swap (listed s S i E u w q f ks k c l j m z)) (opposite-sym u w (truth z₀)) (sym (eqb-true (u .face) (w .face) z₁)) (sym (eqb-true (u .cycle) (w .cycle) z₂))
+          is-one a b bs at w u rw′ ru (λ f ks k c l j m z. swap (listed s S i E u w q f ks k c l j m z)) (opposite-sym u w (truth z₀))
+          (sym (eqb-true (u .face) (w .face) z₁)) (sym (eqb-true (u .cycle) (w .cycle) z₂))
   holds-open a b bs at (u ∷ w ∷ x ∷ xs) q t = absurd t
 
-  holds-closed : (bs : List Position) → cellAt s i ≡ some (closedEdge bs) → (us : List Use) → usesOf (s .cells) i ≡ us → T (allowed (uncutClosed us)) → Holds s i (uncutClosed us)
+  holds-closed : (bs : List Position) → cellAt s i ≡ some (closedEdge bs) → (us : List Use) → usesOf (s .cells) i ≡ us → T (allowed (uncutClosed us))
+      → Holds s i (uncutClosed us)
   holds-closed bs at [] q t = absurd t
   holds-closed bs at (u ∷ []) q t = absurd t
   holds-closed bs at (u ∷ w ∷ []) q t = go (opposite u w) (eqb (u .face) (w .face)) refl refl t
     where
-      go : (c d : Bool) → opposite u w ≡ c → eqb (u .face) (w .face) ≡ d → T (allowed (cond (c && not d) (rings u w) refused)) → Holds s i (cond (c && not d) (rings u w) refused)
+      go : (c d : Bool) → opposite u w ≡ c → eqb (u .face) (w .face) ≡ d → T (allowed (cond (c && not d) (rings u w) refused))
+          → Holds s i (cond (c && not d) (rings u w) refused)
       go false d z₀ z₁ t = absurd t
       go true true z₀ z₁ t = absurd t
       go true false z₀ z₁ t = is-rings bs at u w q (truth z₀) (eqb-false (u .face) (w .face) z₁)

@@ -13,7 +13,9 @@ use Rattle.number.specs.Readers.{spread}
 use Rattle.coordinate.specs.declared.Position.{Position}
 use Rattle.coordinate.specs.Bounds.{within}
 use Rattle.complex.specs.Lists.{all, any, filter, consIf, total, one, isEmpty, rising}
-use Rattle.complex.specs.Cells.{Halfedge, Cycle, lone, path, Figure, vertex, openEdge, closedEdge, face, LiveCell, Sheet, Look, someIf, lookup, ids, isVertex, isOpen, isClosed, isEdge, startOf, endOf, bendsOf, cyclesOf, positionOf, stepsOf, along, against, flipped, same, tailOf, headOf, cellAt}
+use Rattle.complex.specs.Cells.{Halfedge, Cycle, lone, path, Figure, vertex, openEdge, closedEdge, face, LiveCell, Sheet, Look, someIf, lookup, ids}
+use Rattle.complex.specs.Cells.{isVertex, isOpen, isClosed, isEdge, startOf, endOf, bendsOf, cyclesOf, positionOf, stepsOf, along, against, flipped, same}
+use Rattle.complex.specs.Cells.{tailOf, headOf, cellAt}
 use Rattle.complex.specs.Sound.{Walk, idsEnd, cycleOk, figureOk, ceilings, joins, stepCount, over}
 use Rattle.complex.specs.Edits.{keepIds, numbered, rebuild, rewired, rewiredCycle, sameVertex, others, neither, inPlaceOf}
 use Rattle.complex.specs.Uses.{figureEnds, endsAt, Passage, passage, passagesFrom, passages, allCycles, passagesAt, isIn, loneUse, usesBy}
@@ -47,9 +49,11 @@ turned h k z = go (h .backward) (k .backward) refl refl
     go false false p q = inl (λ i. record { edge = sym z i; backward = (q ∙ sym p) i })
 
 -- ---- a vertex's ends, as they are listed
-ends-real : (look : Look) (v : ℕ) (cs : List LiveCell) → Every (λ (c : LiveCell). look (c .id) ≡ some (c .figure)) cs → Every (λ (h : Halfedge). T (isOpen (look (h .edge))) × (tailOf look h ≡ v)) (endsAt cs v)
+ends-real : (look : Look) (v : ℕ) (cs : List LiveCell) → Every (λ (c : LiveCell). look (c .id) ≡ some (c .figure)) cs
+    → Every (λ (h : Halfedge). T (isOpen (look (h .edge))) × (tailOf look h ≡ v)) (endsAt cs v)
 ends-real look v [] h = tt
-ends-real look v (c ∷ cs) h = every-both (λ (x : Halfedge). T (isOpen (look (x .edge))) × (tailOf look x ≡ v)) (figureEnds v (c .id) (c .figure)) (endsAt cs v) (go (c .figure) (h .0)) (ends-real look v cs (h .1))
+ends-real look v (c ∷ cs) h = every-both (λ (x : Halfedge). T (isOpen (look (x .edge))) × (tailOf look x ≡ v)) (figureEnds v (c .id) (c .figure)) (endsAt cs v)
+    (go (c .figure) (h .0)) (ends-real look v cs (h .1))
   where
     go : (t : Figure) → look (c .id) ≡ some t → Every (λ (x : Halfedge). T (isOpen (look (x .edge))) × (tailOf look x ≡ v)) (figureEnds v (c .id) t)
     go (vertex p) q = tt
@@ -88,7 +92,8 @@ ends-above lo (c ∷ cs) hi v t =
     own (face ks) l = tt
 
 -- two ends of a vertex that are of one edge are that edge's two ends
-pub ends-of-one : (lo : ℕ) (cs : List LiveCell) (hi v : ℕ) (x y : Halfedge) → T (rising lo (ids cs) hi) → endsAt cs v ≡ x ∷ y ∷ [] → x .edge ≡ y .edge → T (endsOfOneEdge x y)
+pub ends-of-one : (lo : ℕ) (cs : List LiveCell) (hi v : ℕ) (x y : Halfedge) → T (rising lo (ids cs) hi) → endsAt cs v ≡ x ∷ y ∷ [] → x .edge ≡ y .edge
+    → T (endsOfOneEdge x y)
 ends-of-one lo [] hi v x y t e q = absurd (let z : _≡_ {A = ℕ} 0 2 = ap length e in omega arith)
 ends-of-one lo (c ∷ cs) hi v x y t e q =
     let b = parts (ltb lo (c .id)) (rising (c .id) (ids cs) hi) t in
@@ -194,7 +199,8 @@ module _ (s : Sheet) (S : Sound s) (v : ℕ) (p : Position) (at : cellAt s v ≡
   old j (closedEdge bs) q o = o
   old j (face ks) q o = all-filter (cycleOk (cellAt s)) (cycleOk lookˡ) (λ (k : Cycle). not (isLone v k)) cycle-stays ks o
 
-  pub lonely-sound : T (leb (rebuild (others v) (withoutLone v) [] s .next) idsEnd) → T (ceilings (rebuild (others v) (withoutLone v) [] s .cells)) → Sound (rebuild (others v) (withoutLone v) [] s)
+  pub lonely-sound : T (leb (rebuild (others v) (withoutLone v) [] s .next) idsEnd) → T (ceilings (rebuild (others v) (withoutLone v) [] s .cells))
+      → Sound (rebuild (others v) (withoutLone v) [] s)
   lonely-sound seven eight = rebuild-sound (others v) (withoutLone v) [] s S seven eight (λ j t k q. old j t q (S .figures j t q)) tt
 
   gain-same : (j : ℕ) (t : Figure) → gain (withoutLone v j t) ≡ gain t
@@ -203,7 +209,8 @@ module _ (s : Sheet) (S : Sound s) (v : ℕ) (p : Position) (at : cellAt s v ≡
   gain-same j (closedEdge bs) = refl
   gain-same j (face ks) = refl
 
-  lone-less : (f : Cycle → ℕ) → ((w : ℕ) → f (lone w) ≡ 1) → (ks : List Cycle) → total f (filter (λ (k : Cycle). not (isLone v k)) ks) + total (loneUse v) ks ≡ total f ks
+  lone-less : (f : Cycle → ℕ) → ((w : ℕ) → f (lone w) ≡ 1) → (ks : List Cycle)
+      → total f (filter (λ (k : Cycle). not (isLone v k)) ks) + total (loneUse v) ks ≡ total f ks
   lone-less f n [] = refl
   lone-less f n (lone w ∷ ks) = go (eqb v w) (n w) (lone-less f n ks)
     where
@@ -214,7 +221,8 @@ module _ (s : Sheet) (S : Sound s) (v : ℕ) (p : Position) (at : cellAt s v ≡
   lone-less f n (path hs ∷ ks) = let h = lone-less f n ks in omega arith
 
   pub cycles-less : (ks : List Cycle) → length (filter (λ (k : Cycle). not (isLone v k)) ks) + total (loneUse v) ks ≡ length ks
-  cycles-less ks = let h = lone-less (λ (k : Cycle). 1) (λ w. refl) ks in let a = total-ones (filter (λ (k : Cycle). not (isLone v k)) ks) in let b = total-ones ks in omega arith
+  cycles-less ks = let h = lone-less (λ (k : Cycle). 1) (λ w. refl) ks in let a = total-ones (filter (λ (k : Cycle). not (isLone v k)) ks) in
+      let b = total-ones ks in omega arith
 
   pub steps-less : (ks : List Cycle) → total stepCount (filter (λ (k : Cycle). not (isLone v k)) ks) + total (loneUse v) ks ≡ total stepCount ks
   steps-less ks = lone-less stepCount (λ w. refl) ks
@@ -224,13 +232,15 @@ module _ (s : Sheet) (S : Sound s) (v : ℕ) (p : Position) (at : cellAt s v ≡
       → over g (rebuild (others v) (withoutLone v) [] s .cells) + usesBy (loneUse v) (s .cells) + g (vertex p) ≡ over g (s .cells)
   lonely-less g h =
       let a = over-rebuild g (others v) (withoutLone v) [] s in
-      let b = over-reshaped g (λ (t : Figure). total (loneUse v) (cyclesOf (some t))) (λ (t : Figure). 0) (withoutLone v) (λ j t. let e = h j t in omega arith) (keepIds (others v) (s .cells)) in
+      let b = over-reshaped g (λ (t : Figure). total (loneUse v) (cyclesOf (some t))) (λ (t : Figure). 0) (withoutLone v) (λ j t. let e = h j t in omega arith)
+      (keepIds (others v) (s .cells)) in
       let z = total-zero (keepIds (others v) (s .cells)) in
       let c = without-one v (vertex p) s S at g in
       let d = without-one v (vertex p) s S at (λ (t : Figure). total (loneUse v) (cyclesOf (some t))) in
       omega arith
 
-  pub lonely-same : (g : Figure → ℕ) → ((j : ℕ) (t : Figure) → g (withoutLone v j t) ≡ g t) → over g (rebuild (others v) (withoutLone v) [] s .cells) + g (vertex p) ≡ over g (s .cells)
+  pub lonely-same : (g : Figure → ℕ) → ((j : ℕ) (t : Figure) → g (withoutLone v j t) ≡ g t)
+      → over g (rebuild (others v) (withoutLone v) [] s .cells) + g (vertex p) ≡ over g (s .cells)
   lonely-same g h = let a = over-kept g (withoutLone v) h (others v) [] s in let b = without-one v (vertex p) s S at g in omega arith
 
   loss-less : (j : ℕ) (t : Figure) → loss (withoutLone v j t) + total (loneUse v) (cyclesOf (some t)) ≡ loss t
@@ -258,9 +268,11 @@ every-of-any q (x ∷ xs) z = go (q x) refl z (λ w. every-of-any q xs w)
     go true w z r = absurd (true≢false z)
     go false w z r = (w, r z)
 
-module _ (s : Sheet) (S : Sound s) (v : ℕ) (p : Position) (at : cellAt s v ≡ some (vertex p)) (x y : Halfedge) (two : endsAt (s .cells) v ≡ x ∷ y ∷ []) (alone : usesBy (loneUse v) (s .cells) ≡ 0) where
+module _ (s : Sheet) (S : Sound s) (v : ℕ) (p : Position) (at : cellAt s v ≡ some (vertex p)) (x y : Halfedge) (two : endsAt (s .cells) v ≡ x ∷ y ∷ [])
+    (alone : usesBy (loneUse v) (s .cells) ≡ 0) where
   pub real-ends : (T (isOpen (cellAt s (x .edge))) × (tailOf (cellAt s) x ≡ v)) × ((T (isOpen (cellAt s (y .edge))) × (tailOf (cellAt s) y ≡ v)) × Unit {0})
-  real-ends = subst (Every (λ (h : Halfedge). T (isOpen (cellAt s (h .edge))) × (tailOf (cellAt s) h ≡ v))) two (ends-real (cellAt s) v (s .cells) (own-cells (cellAt s) 0 (s .cells) (s .next) (S .rises) (λ i t q. q)))
+  real-ends = subst (Every (λ (h : Halfedge). T (isOpen (cellAt s (h .edge))) × (tailOf (cellAt s) h ≡ v))) two
+      (ends-real (cellAt s) v (s .cells) (own-cells (cellAt s) 0 (s .cells) (s .next) (S .rises) (λ i t q. q)))
 
   pub is-end : (h : Halfedge) → T (isOpen (cellAt s (h .edge))) → tailOf (cellAt s) h ≡ v → (h ≡ x) ⊎ (h ≡ y)
   is-end h o q = elim (cases (same h x) (same h y || false) (subst (λ (hs : List Halfedge). T (isIn hs h)) two (end-listed s v h o q))) [
@@ -272,7 +284,8 @@ module _ (s : Sheet) (S : Sound s) (v : ℕ) (p : Position) (at : cellAt s v ≡
   Here t = isOpen (cellAt s (t .leaves .edge)) && eqb (tailOf (cellAt s) (t .leaves)) v
 
   module _ (keep : ℕ → Bool) (σ : Halfedge → List Halfedge) (t : Figure) (Q : Passage → Type 0)
-      (gone : (j : ℕ) → T (keep j) → (j ≡ x .edge → ⊥) × (j ≡ y .edge → ⊥)) (kept : (j : ℕ) → (j ≡ v → ⊥) → (j ≡ x .edge → ⊥) → (j ≡ y .edge → ⊥) → T (keep j)) where
+      (gone : (j : ℕ) → T (keep j) → (j ≡ x .edge → ⊥) × (j ≡ y .edge → ⊥)) (kept : (j : ℕ) → (j ≡ v → ⊥) → (j ≡ x .edge → ⊥) → (j ≡ y .edge → ⊥)
+      → T (keep j)) where
     abbrev pub look² : Look
     look² = Look′ keep (rewired sameVertex σ) (t ∷ []) s
 
@@ -302,7 +315,8 @@ module _ (s : Sheet) (S : Sound s) (v : ℕ) (p : Position) (at : cellAt s v ≡
         go (some (face ks)) a b = b
 
     pub vertex² : (z : ℕ) → (z ≡ v → ⊥) → T (isVertex (cellAt s z)) → T (isVertex (look² z))
-    vertex² z n w = subst (λ (o : Option Figure). T (isVertex o)) (sym (stays² z n (open-no-vertex (x .edge) z (real-ends .0 .0) w) (open-no-vertex (y .edge) z (real-ends .1 .0 .0) w) (inl w))) w
+    vertex² z n w = subst (λ (o : Option Figure). T (isVertex o))
+        (sym (stays² z n (open-no-vertex (x .edge) z (real-ends .0 .0) w) (open-no-vertex (y .edge) z (real-ends .1 .0 .0) w) (inl w))) w
 
     pub edge-not-v² : (e : ℕ) → T (isEdge (cellAt s e)) → e ≡ v → ⊥
     edge-not-v² e k z = subst (λ (o : Option Figure). T (isEdge o)) (ap (cellAt s) z ∙ at) k
@@ -311,8 +325,10 @@ module _ (s : Sheet) (S : Sound s) (v : ℕ) (p : Position) (at : cellAt s v ≡
     pub ends² : (h : Halfedge) → T (isOpen (cellAt s (h .edge))) → (h .edge ≡ x .edge → ⊥) → (h .edge ≡ y .edge → ⊥) → tailOf (cellAt s) h ≡ v → ⊥
     ends² h o a b q = elim (is-end h o q) [ inl z ↦ a (ap (λ (k : Halfedge). k .edge) z) | inr z ↦ b (ap (λ (k : Halfedge). k .edge) z) ]
 
-    module _ (path-ok : (hs : List Halfedge) → T (joins (cellAt s) hs) → Every Q (filter Here (passages hs)) → T (joins look² (spread σ hs))) (all-pass : Every Q (passagesAt (s .cells) v)) where
-      cycles² : (ks : List Cycle) → total (loneUse v) ks ≡ 0 → T (all (cycleOk (cellAt s)) ks) → Every Q (filter Here (turnsOf ks)) → T (all (cycleOk look²) (map (rewiredCycle sameVertex σ) ks))
+    module _ (path-ok : (hs : List Halfedge) → T (joins (cellAt s) hs) → Every Q (filter Here (passages hs))
+        → T (joins look² (spread σ hs))) (all-pass : Every Q (passagesAt (s .cells) v)) where
+      cycles² : (ks : List Cycle) → total (loneUse v) ks ≡ 0 → T (all (cycleOk (cellAt s)) ks) → Every Q (filter Here (turnsOf ks))
+          → T (all (cycleOk look²) (map (rewiredCycle sameVertex σ) ks))
       cycles² [] z o e = tt
       cycles² (k ∷ ks) z o e =
           let b = parts (cycleOk (cellAt s) k) (all (cycleOk (cellAt s)) ks) o in
@@ -321,7 +337,8 @@ module _ (s : Sheet) (S : Sound s) (v : ℕ) (p : Position) (at : cellAt s v ≡
           (one-of k (omega arith) (b .0) (every-left Q (filter Here (passages (stepsOf k))) (filter Here (turnsOf ks)) d))
           (cycles² ks (omega arith) (b .1) (every-right Q (filter Here (passages (stepsOf k))) (filter Here (turnsOf ks)) d))
         where
-          one-of : (k : Cycle) → loneUse v k ≡ 0 → T (cycleOk (cellAt s) k) → Every Q (filter Here (passages (stepsOf k))) → T (cycleOk look² (rewiredCycle sameVertex σ k))
+          one-of : (k : Cycle) → loneUse v k ≡ 0 → T (cycleOk (cellAt s) k) → Every Q (filter Here (passages (stepsOf k)))
+              → T (cycleOk look² (rewiredCycle sameVertex σ k))
           one-of (lone w) z o e = vertex² w (λ q. let r : _≡_ {A = ℕ} (loneUse v (lone w)) 1 = rw (eq-eqb v w (sym q)) in omega arith) o
           one-of (path hs) z o e = path-ok hs o e
 
@@ -337,8 +354,10 @@ module _ (s : Sheet) (S : Sound s) (v : ℕ) (p : Position) (at : cellAt s v ≡
       old² j (closedEdge bs) k q o = o
       old² j (face ks) k q o = cycles² ks (no-lone s v alone j ks q) o (passages-in Q Here (s .cells) all-pass j (face ks) q)
 
-      pub two-sound : T (leb (rebuild keep (rewired sameVertex σ) (t ∷ []) s .next) idsEnd) → T (ceilings (rebuild keep (rewired sameVertex σ) (t ∷ []) s .cells)) → T (figureOk look² t) → Sound (rebuild keep (rewired sameVertex σ) (t ∷ []) s)
-      two-sound seven eight o = rebuild-sound keep (rewired sameVertex σ) (t ∷ []) s S seven eight (λ j u k q. old² j u k q (S .figures j u q)) (pair (figureOk look² t) true o tt)
+      pub two-sound : T (leb (rebuild keep (rewired sameVertex σ) (t ∷ []) s .next) idsEnd)
+          → T (ceilings (rebuild keep (rewired sameVertex σ) (t ∷ []) s .cells)) → T (figureOk look² t) → Sound (rebuild keep (rewired sameVertex σ) (t ∷ []) s)
+      two-sound seven eight o = rebuild-sound keep (rewired sameVertex σ) (t ∷ []) s S seven eight (λ j u k q. old² j u k q (S .figures j u q))
+          (pair (figureOk look² t) true o tt)
 
   -- ---- the two ends of one edge
   module _ (fl : T (same (flipped x) y)) (no-turn : any (λ (t : Passage). same (t .arrives) (t .leaves)) (passagesAt (s .cells) v) ≡ false) where
@@ -387,14 +406,16 @@ module _ (s : Sheet) (S : Sound s) (v : ℕ) (p : Position) (at : cellAt s v ≡
     e-end k o q = elim (is-end k o q) [ inl z ↦ ap (λ (h : Halfedge). h .edge) z | inr z ↦ ap (λ (h : Halfedge). h .edge) z ∙ ye ]
 
     -- after a step of the edge comes the same step; before one, too, comes one
-    next-same : (h k : Halfedge) (ts : List Passage) → T (isOpen (cellAt s (k .edge))) → headOf (cellAt s) h ≡ tailOf (cellAt s) k → Every Qˡ (consIf (Here (passage h k)) (passage h k) ts) → h .edge ≡ eˡ → k ≡ h
+    next-same : (h k : Halfedge) (ts : List Passage) → T (isOpen (cellAt s (k .edge))) → headOf (cellAt s) h ≡ tailOf (cellAt s) k
+        → Every Qˡ (consIf (Here (passage h k)) (passage h k) ts) → h .edge ≡ eˡ → k ≡ h
     next-same h k ts o m e z =
         let q : tailOf (cellAt s) k ≡ v = sym m ∙ head-v h z in
         let here : Here (passage h k) ≡ true = true-of (Here (passage h k)) (pair (isOpen (cellAt s (k .edge))) (eqb (tailOf (cellAt s) k) v) o (equal q)) in
         let r : Every Qˡ (passage h k ∷ ts) = subst (λ (b : Bool). Every Qˡ (consIf b (passage h k) ts)) here e in
         elim (turned h k (z ∙ sym (e-end k o q))) [
           | inl w ↦ w
-          | inr w ↦ absurd (false≢true (sym (r .0) ∙ true-of (same (flipped h) k) (subst (λ (j : Halfedge). T (same (flipped h) j)) (sym w) (same-refl (flipped h)))))
+          | inr w ↦ absurd (false≢true
+              (sym (r .0) ∙ true-of (same (flipped h) k) (subst (λ (j : Halfedge). T (same (flipped h) j)) (sym w) (same-refl (flipped h)))))
         ]
 
     rest : (h k : Halfedge) (ts : List Passage) → Every Qˡ (consIf (Here (passage h k)) (passage h k) ts) → Every Qˡ ts
@@ -404,21 +425,24 @@ module _ (s : Sheet) (S : Sound s) (v : ℕ) (p : Position) (at : cellAt s v ≡
         go true r = r .1
         go false r = r
 
-    all-same : (f h₀ h : Halfedge) (hs : List Halfedge) → Walk (cellAt s) (headOf (cellAt s) h) hs (tailOf (cellAt s) f) → Every Qˡ (filter Here (passagesFrom f h hs)) → h₀ ≡ h → h .edge ≡ eˡ → T (all (same h₀) hs)
+    all-same : (f h₀ h : Halfedge) (hs : List Halfedge) → Walk (cellAt s) (headOf (cellAt s) h) hs (tailOf (cellAt s) f)
+        → Every Qˡ (filter Here (passagesFrom f h hs)) → h₀ ≡ h → h .edge ≡ eˡ → T (all (same h₀) hs)
     all-same f h₀ h [] w e q z = tt
     all-same f h₀ h (k ∷ ks) w e q z =
         let i = next-same h k (filter Here (passagesFrom f k ks)) (w .0) (w .1) e z in
         pair (same h₀ k) (all (same h₀) ks) (subst (λ (j : Halfedge). T (same h₀ j)) (q ∙ sym i) (same-refl h₀))
         (all-same f h₀ k ks (w .2) (rest h k (filter Here (passagesFrom f k ks)) e) (q ∙ sym i) (ap (λ (j : Halfedge). j .edge) i ∙ z))
 
-    none-of : (h : Halfedge) (hs : List Halfedge) (u : ℕ) → T (isOpen (cellAt s (h .edge))) → Walk (cellAt s) (headOf (cellAt s) h) hs u → (h .edge ≡ eˡ → ⊥) → Every (λ (k : Halfedge). k .edge ≡ eˡ → ⊥) hs
+    none-of : (h : Halfedge) (hs : List Halfedge) (u : ℕ) → T (isOpen (cellAt s (h .edge))) → Walk (cellAt s) (headOf (cellAt s) h) hs u → (h .edge ≡ eˡ → ⊥)
+        → Every (λ (k : Halfedge). k .edge ≡ eˡ → ⊥) hs
     none-of h [] u o w n = tt
     none-of h (k ∷ ks) u o w n =
         let m : k .edge ≡ eˡ → ⊥ = λ z. n (e-end (flipped h) o (flip-tail (cellAt s) h ∙ w .1 ∙ tail-v k z)) in
         (m, none-of k ks u (w .0) (w .2) m)
       where
         tail-v : (k : Halfedge) → k .edge ≡ eˡ → tailOf (cellAt s) k ≡ v
-        tail-v k z = ap (λ (b : Bool). tailOf (cellAt s) (record { edge = k .edge; backward = b })) (sym (mathlib.Core.Bool.Bool·not-not (k .backward))) ∙ flip-tail (cellAt s) (flipped k) ∙ head-v (flipped k) z
+        tail-v k z = ap (λ (b : Bool). tailOf (cellAt s) (record { edge = k .edge; backward = b })) (sym (mathlib.Core.Bool.Bool·not-not (k .backward)))
+            ∙ flip-tail (cellAt s) (flipped k) ∙ head-v (flipped k) z
 
     new-closed : T (isClosed (lookᵖ (s .next)))
     new-closed = let e = new-at keepˡ (rewired sameVertex σˡ) (tˡ ∷ []) s S (s .next) (omega arith) in rw (e, eq-eqb (s .next) (s .next) refl) tt
@@ -427,11 +451,15 @@ module _ (s : Sheet) (S : Sound s) (v : ℕ) (p : Position) (at : cellAt s v ≡
     spread-none [] a = refl
     spread-none (h ∷ hs) a = rw (ne-eqb eˡ (h .edge) (λ z. a .0 (sym z))) (ap (λ (ks : List Halfedge). h ∷ ks) (spread-none hs (a .1)))
 
-    stay-all : (hs : List Halfedge) → Edges s S hs → Every (λ (k : Halfedge). k .edge ≡ eˡ → ⊥) hs → Every (λ (h : Halfedge). lookᵖ (h .edge) ≡ cellAt s (h .edge)) hs
+    stay-all : (hs : List Halfedge) → Edges s S hs → Every (λ (k : Halfedge). k .edge ≡ eˡ → ⊥) hs
+        → Every (λ (h : Halfedge). lookᵖ (h .edge) ≡ cellAt s (h .edge)) hs
     stay-all [] a b = tt
     stay-all (h ∷ hs) a b =
-        let k = edge-of (cellAt s (h .edge)) (a .0) in
-        (stays² keepˡ σˡ tˡ Qˡ goneˡ keptˡ (h .edge) (edge-not-v² keepˡ σˡ tˡ Qˡ goneˡ keptˡ (h .edge) k) (b .0) (λ z. b .0 (z ∙ ye)) (inr k), stay-all hs (a .1) (b .1))
+        let k = edge-of (cellAt s (h .edge)) (a .0) in (
+          stays² keepˡ σˡ tˡ Qˡ goneˡ keptˡ (h .edge) (edge-not-v² keepˡ σˡ tˡ Qˡ goneˡ keptˡ (h .edge) k) (b .0) (λ z. b .0
+              (z ∙ ye)) (inr k),
+          stay-all hs (a .1) (b .1),
+        )
 
     path-okˡ : (hs : List Halfedge) → T (joins (cellAt s) hs) → Every Qˡ (filter Here (passages hs)) → T (joins lookᵖ (spread σˡ hs))
     path-okˡ [] t e = t
@@ -441,16 +469,19 @@ module _ (s : Sheet) (S : Sound s) (v : ℕ) (p : Position) (at : cellAt s v ≡
     ]
       where
         untouched : Every (λ (k : Halfedge). k .edge ≡ eˡ → ⊥) (h ∷ hs) → T (joins lookᵖ (spread σˡ (h ∷ hs)))
-        untouched a = subst (λ (ks : List Halfedge). T (joins lookᵖ ks)) (sym (spread-none (h ∷ hs) a)) (joins-stay (cellAt s) lookᵖ (h ∷ hs) (stay-all (h ∷ hs) (joins-edges s S (h ∷ hs) t) a) t)
+        untouched a = subst (λ (ks : List Halfedge). T (joins lookᵖ ks)) (sym (spread-none (h ∷ hs) a))
+            (joins-stay (cellAt s) lookᵖ (h ∷ hs) (stay-all (h ∷ hs) (joins-edges s S (h ∷ hs) t) a) t)
 
         ring-none : (j : ℕ) → T (isClosed (cellAt s j)) → j ≡ eˡ → ⊥
         ring-none j c z = apart (cellAt s j) c (subst (λ (i : ℕ). T (isOpen (cellAt s i))) (sym z) (real-ends .0 .0))
 
         rings : (ks : List Halfedge) → T (all (same h) ks) → T (isClosed (cellAt s (h .edge))) → Every (λ (k : Halfedge). k .edge ≡ eˡ → ⊥) ks
         rings [] a c = tt
-        rings (k ∷ ks) a c = let b = parts (same h k) (all (same h) ks) a in (ring-none (k .edge) (subst (λ (j : Halfedge). T (isClosed (cellAt s (j .edge)))) (same-eq h k (b .0)) c), rings ks (b .1) c)
+        rings (k ∷ ks) a c = let b = parts (same h k) (all (same h) ks) a in
+            (ring-none (k .edge) (subst (λ (j : Halfedge). T (isClosed (cellAt s (j .edge)))) (same-eq h k (b .0)) c), rings ks (b .1) c)
 
-        go : T (isOpen (cellAt s (h .edge))) → Walk (cellAt s) (headOf (cellAt s) h) hs (tailOf (cellAt s) h) → (b : Bool) → eqb eˡ (h .edge) ≡ b → T (joins lookᵖ (spread σˡ (h ∷ hs)))
+        go : T (isOpen (cellAt s (h .edge))) → Walk (cellAt s) (headOf (cellAt s) h) hs (tailOf (cellAt s) h) → (b : Bool) → eqb eˡ (h .edge) ≡ b
+            → T (joins lookᵖ (spread σˡ (h ∷ hs)))
         go k w true q =
             let z : h .edge ≡ eˡ = sym (eqb-true eˡ (h .edge) q) in
             ring-carried (cellAt s) lookᵖ σˡ h hs (record { edge = s .next; backward = h .backward }) (rw q) new-closed (all-same h h h hs w e refl z)
@@ -463,13 +494,16 @@ module _ (s : Sheet) (S : Sound s) (v : ℕ) (p : Position) (at : cellAt s v ≡
         let c = parts (isVertex (cellAt s (k .1))) (all within (k .2)) (b .1) in
         rw (at, k .3) (pair (within p) (all within (k .2)) (S .figures v (vertex p) at) (c .1))
 
-    pub loop-sound : T (leb (rebuild keepˡ (rewired sameVertex σˡ) (tˡ ∷ []) s .next) idsEnd) → T (ceilings (rebuild keepˡ (rewired sameVertex σˡ) (tˡ ∷ []) s .cells)) → Sound (rebuild keepˡ (rewired sameVertex σˡ) (tˡ ∷ []) s)
-    loop-sound seven eight = two-sound keepˡ σˡ tˡ Qˡ goneˡ keptˡ path-okˡ (every-of-any (λ (t : Passage). same (t .arrives) (t .leaves)) (passagesAt (s .cells) v) no-turn) seven eight new-okˡ
+    pub loop-sound : T (leb (rebuild keepˡ (rewired sameVertex σˡ) (tˡ ∷ []) s .next) idsEnd)
+        → T (ceilings (rebuild keepˡ (rewired sameVertex σˡ) (tˡ ∷ []) s .cells)) → Sound (rebuild keepˡ (rewired sameVertex σˡ) (tˡ ∷ []) s)
+    loop-sound seven eight = two-sound keepˡ σˡ tˡ Qˡ goneˡ keptˡ path-okˡ
+        (every-of-any (λ (t : Passage). same (t .arrives) (t .leaves)) (passagesAt (s .cells) v) no-turn) seven eight new-okˡ
 
     -- the vertex and the edge go
     pub loop-gone : (t : Figure) → cellAt s eˡ ≡ some t → Without s keepˡ (vertex p ∷ t ∷ [])
     loop-gone t k =
-        let n : T (others eˡ v) = rw (ne-eqb eˡ v (λ z. edge-not-v² keepˡ σˡ tˡ Qˡ goneˡ keptˡ eˡ (or-left (isOpen (cellAt s eˡ)) (isClosed (cellAt s eˡ)) (real-ends .0 .0)) z)) tt in
+        let n : T (others eˡ v) = rw
+        (ne-eqb eˡ v (λ z. edge-not-v² keepˡ σˡ tˡ Qˡ goneˡ keptˡ eˡ (or-left (isOpen (cellAt s eˡ)) (isClosed (cellAt s eˡ)) (real-ends .0 .0)) z)) tt in
         without-more v (vertex p) (others eˡ) (one t) s S at n (without-one eˡ t s S k)
 
     pub loop-over : Even s (rebuild keepˡ (rewired sameVertex σˡ) (tˡ ∷ []) s)
@@ -482,7 +516,8 @@ module _ (s : Sheet) (S : Sound s) (v : ℕ) (p : Position) (at : cellAt s v ≡
         omega arith
 
   -- ---- one end each of two edges
-  module _ (ne : eqb (x .edge) (y .edge) ≡ false) (no-self : any (λ (t : Passage). eqb (t .arrives .edge) (t .leaves .edge)) (passagesAt (s .cells) v) ≡ false) where
+  module _ (ne : eqb (x .edge) (y .edge) ≡ false) (no-self : any (λ (t : Passage). eqb (t .arrives .edge) (t .leaves .edge)) (passagesAt (s .cells) v)
+      ≡ false) where
     abbrev a : ℕ
     a = x .edge
 
@@ -513,7 +548,8 @@ module _ (s : Sheet) (S : Sound s) (v : ℕ) (p : Position) (at : cellAt s v ≡
         ((λ z. lib.Dec.T-not (eqb a j) (m .0) (equal (sym z))), (λ z. lib.Dec.T-not (eqb b j) (m .1) (equal (sym z))))
 
     keptʲ : (j : ℕ) → (j ≡ v → ⊥) → (j ≡ x .edge → ⊥) → (j ≡ y .edge → ⊥) → T (keepʲ j)
-    keptʲ j m n o = pair (others v j) (neither a b j) (rw (ne-eqb v j (λ z. m (sym z))) tt) (pair (others a j) (others b j) (rw (ne-eqb a j (λ z. n (sym z))) tt) (rw (ne-eqb b j (λ z. o (sym z))) tt))
+    keptʲ j m n o = pair (others v j) (neither a b j) (rw (ne-eqb v j (λ z. m (sym z))) tt)
+        (pair (others a j) (others b j) (rw (ne-eqb a j (λ z. n (sym z))) tt) (rw (ne-eqb b j (λ z. o (sym z))) tt))
 
     abbrev lookʲ : Look
     lookʲ = look² keepʲ σʲ tʲ Qʲ goneʲ keptʲ
@@ -527,10 +563,12 @@ module _ (s : Sheet) (S : Sound s) (v : ℕ) (p : Position) (at : cellAt s v ≡
 
     -- the other ends are not at the vertex
     far-not : far ≡ v → ⊥
-    far-not z = elim (is-end (flipped y) (real-ends .1 .0 .0) (flip-tail (cellAt s) y ∙ z)) [ inl q ↦ apart-ab (sym (ap (λ (h : Halfedge). h .edge) q)) | inr q ↦ flip-not y q ]
+    far-not z = elim (is-end (flipped y) (real-ends .1 .0 .0) (flip-tail (cellAt s) y ∙ z))
+        [ inl q ↦ apart-ab (sym (ap (λ (h : Halfedge). h .edge) q)) | inr q ↦ flip-not y q ]
 
     near-not : headOf (cellAt s) x ≡ v → ⊥
-    near-not z = elim (is-end (flipped x) (real-ends .0 .0) (flip-tail (cellAt s) x ∙ z)) [ inl q ↦ flip-not x q | inr q ↦ apart-ab (ap (λ (h : Halfedge). h .edge) q) ]
+    near-not z = elim (is-end (flipped x) (real-ends .0 .0) (flip-tail (cellAt s) x ∙ z))
+        [ inl q ↦ flip-not x q | inr q ↦ apart-ab (ap (λ (h : Halfedge). h .edge) q) ]
 
     -- the vertex goes to the far end of b
     abbrev r : ℕ → ℕ
@@ -553,12 +591,24 @@ module _ (s : Sheet) (S : Sound s) (v : ℕ) (p : Position) (at : cellAt s v ≡
     new-at-next = new-at keepʲ (rewired sameVertex σʲ) (tʲ ∷ []) s S (s .next) (omega arith) ∙ rw (eq-eqb (s .next) (s .next) refl)
 
     -- the new edge, passed as x is: from the far end of b to the other end of a
-    new-ends : T (isOpen (some tʲ)) × (far ≡ cond (x .backward) (endOf (some tʲ)) (startOf (some tʲ))) × (headOf (cellAt s) x ≡ cond (x .backward) (startOf (some tʲ)) (endOf (some tʲ)))
+    new-ends : T (isOpen (some tʲ)) × (far ≡ cond (x .backward) (endOf (some tʲ)) (startOf (some tʲ)))
+        × (headOf (cellAt s) x ≡ cond (x .backward) (startOf (some tʲ)) (endOf (some tʲ)))
     new-ends = go (x .backward)
       where
-        go : (c : Bool) → T (isOpen (some (cond c (openEdge (startOf (cellAt s a)) far (bendsOf (cellAt s a) ++ (positionOf (cellAt s v) ∷ bendsAlong (cellAt s) y))) (openEdge far (endOf (cellAt s a)) (reverse (bendsAlong (cellAt s) y) ++ (positionOf (cellAt s v) ∷ bendsOf (cellAt s a)))))))
-            × (far ≡ cond c (endOf (some (cond c (openEdge (startOf (cellAt s a)) far (bendsOf (cellAt s a) ++ (positionOf (cellAt s v) ∷ bendsAlong (cellAt s) y))) (openEdge far (endOf (cellAt s a)) (reverse (bendsAlong (cellAt s) y) ++ (positionOf (cellAt s v) ∷ bendsOf (cellAt s a))))))) (startOf (some (cond c (openEdge (startOf (cellAt s a)) far (bendsOf (cellAt s a) ++ (positionOf (cellAt s v) ∷ bendsAlong (cellAt s) y))) (openEdge far (endOf (cellAt s a)) (reverse (bendsAlong (cellAt s) y) ++ (positionOf (cellAt s v) ∷ bendsOf (cellAt s a))))))))
-            × (cond c (startOf (cellAt s a)) (endOf (cellAt s a)) ≡ cond c (startOf (some (cond c (openEdge (startOf (cellAt s a)) far (bendsOf (cellAt s a) ++ (positionOf (cellAt s v) ∷ bendsAlong (cellAt s) y))) (openEdge far (endOf (cellAt s a)) (reverse (bendsAlong (cellAt s) y) ++ (positionOf (cellAt s v) ∷ bendsOf (cellAt s a))))))) (endOf (some (cond c (openEdge (startOf (cellAt s a)) far (bendsOf (cellAt s a) ++ (positionOf (cellAt s v) ∷ bendsAlong (cellAt s) y))) (openEdge far (endOf (cellAt s a)) (reverse (bendsAlong (cellAt s) y) ++ (positionOf (cellAt s v) ∷ bendsOf (cellAt s a))))))))
+        go : (c : Bool) → T (isOpen
+            (some (cond c (openEdge (startOf (cellAt s a)) far (bendsOf (cellAt s a) ++ (positionOf (cellAt s v) ∷ bendsAlong (cellAt s) y)))
+            (openEdge far (endOf (cellAt s a)) (reverse (bendsAlong (cellAt s) y) ++ (positionOf (cellAt s v) ∷ bendsOf (cellAt s a)))))))
+            × (far ≡ cond c (endOf (some
+            (cond c (openEdge (startOf (cellAt s a)) far (bendsOf (cellAt s a) ++ (positionOf (cellAt s v) ∷ bendsAlong (cellAt s) y)))
+            (openEdge far (endOf (cellAt s a)) (reverse (bendsAlong (cellAt s) y) ++ (positionOf (cellAt s v) ∷ bendsOf (cellAt s a)))))))
+            (startOf (some (cond c (openEdge (startOf (cellAt s a)) far (bendsOf (cellAt s a) ++ (positionOf (cellAt s v) ∷ bendsAlong (cellAt s) y)))
+            (openEdge far (endOf (cellAt s a)) (reverse (bendsAlong (cellAt s) y) ++ (positionOf (cellAt s v) ∷ bendsOf (cellAt s a))))))))
+            × (cond c (startOf (cellAt s a)) (endOf (cellAt s a))
+            ≡ cond c (startOf (some (cond c
+            (openEdge (startOf (cellAt s a)) far (bendsOf (cellAt s a) ++ (positionOf (cellAt s v) ∷ bendsAlong (cellAt s) y)))
+            (openEdge far (endOf (cellAt s a)) (reverse (bendsAlong (cellAt s) y) ++ (positionOf (cellAt s v) ∷ bendsOf (cellAt s a)))))))
+            (endOf (some (cond c (openEdge (startOf (cellAt s a)) far (bendsOf (cellAt s a) ++ (positionOf (cellAt s v) ∷ bendsAlong (cellAt s) y)))
+            (openEdge far (endOf (cellAt s a)) (reverse (bendsAlong (cellAt s) y) ++ (positionOf (cellAt s v) ∷ bendsOf (cellAt s a))))))))
         go true = (tt, refl, refl)
         go false = (tt, refl, refl)
 
@@ -577,16 +627,23 @@ module _ (s : Sheet) (S : Sound s) (v : ℕ) (p : Position) (at : cellAt s v ≡
         hb : h .edge ≡ b → r (tailOf (cellAt s) h) ≡ r (headOf (cellAt s) h)
         hb z = elim (turned y h (sym z)) [
           | inl q ↦ r-v (tailOf (cellAt s) h) (ap (tailOf (cellAt s)) q ∙ real-ends .1 .0 .1) ∙ sym (r-else far far-not) ∙ ap r (ap (headOf (cellAt s)) (sym q))
-          | inr q ↦ ap r (ap (tailOf (cellAt s)) q ∙ flip-tail (cellAt s) y) ∙ r-else far far-not ∙ sym (r-v (headOf (cellAt s) h) (ap (headOf (cellAt s)) q ∙ flip-head (cellAt s) y ∙ real-ends .1 .0 .1))
+          | inr q ↦ ap r (ap (tailOf (cellAt s)) q ∙ flip-tail (cellAt s) y) ∙ r-else far far-not
+              ∙ sym (r-v (headOf (cellAt s) h) (ap (headOf (cellAt s)) q ∙ flip-head (cellAt s) y ∙ real-ends .1 .0 .1))
         ]
 
         ha : h .edge ≡ a → Walk lookʲ (r (tailOf (cellAt s) h)) (one (record { edge = s .next; backward = h .backward })) (r (headOf (cellAt s) h))
         ha z = elim (turned x h (sym z)) [
-          | inl q ↦ shift far (headOf (cellAt s) x) (x .backward) (r-v (tailOf (cellAt s) h) (ap (tailOf (cellAt s)) q ∙ real-ends .0 .1)) (ap r (ap (headOf (cellAt s)) q) ∙ r-else (headOf (cellAt s) x) near-not) (ap (λ (k : Halfedge). k .backward) q) along-new
-          | inr q ↦ shift (headOf (cellAt s) x) far (not (x .backward)) (ap r (ap (tailOf (cellAt s)) q ∙ flip-tail (cellAt s) x) ∙ r-else (headOf (cellAt s) x) near-not) (r-v (headOf (cellAt s) h) (ap (headOf (cellAt s)) q ∙ flip-head (cellAt s) x ∙ real-ends .0 .1)) (ap (λ (k : Halfedge). k .backward) q) against-new
+          | inl q ↦ shift far (headOf (cellAt s) x) (x .backward) (r-v (tailOf (cellAt s) h) (ap (tailOf (cellAt s)) q ∙ real-ends .0 .1))
+              (ap r (ap (headOf (cellAt s)) q) ∙ r-else (headOf (cellAt s) x) near-not) (ap (λ (k : Halfedge). k .backward) q) along-new
+          | inr q ↦ shift (headOf (cellAt s) x) far (not (x .backward))
+              (ap r (ap (tailOf (cellAt s)) q ∙ flip-tail (cellAt s) x) ∙ r-else (headOf (cellAt s) x) near-not)
+              (r-v (headOf (cellAt s) h) (ap (headOf (cellAt s)) q ∙ flip-head (cellAt s) x ∙ real-ends .0 .1))
+              (ap (λ (k : Halfedge). k .backward) q) against-new
         ]
           where
-            shift : (m n : ℕ) (c : Bool) → r (tailOf (cellAt s) h) ≡ m → r (headOf (cellAt s) h) ≡ n → h .backward ≡ c → Walk lookʲ m (one (record { edge = s .next; backward = c })) n → Walk lookʲ (r (tailOf (cellAt s) h)) (one (record { edge = s .next; backward = h .backward })) (r (headOf (cellAt s) h))
+            shift : (m n : ℕ) (c : Bool) → r (tailOf (cellAt s) h) ≡ m → r (headOf (cellAt s) h) ≡ n → h .backward ≡ c
+                → Walk lookʲ m (one (record { edge = s .next; backward = c })) n
+                → Walk lookʲ (r (tailOf (cellAt s) h)) (one (record { edge = s .next; backward = h .backward })) (r (headOf (cellAt s) h))
             shift m n c p q t w =
                 subst (λ (i : ℕ). Walk lookʲ i (one (record { edge = s .next; backward = h .backward })) (r (headOf (cellAt s) h))) (sym p)
                 (subst (λ (i : ℕ). Walk lookʲ m (one (record { edge = s .next; backward = h .backward })) i) (sym q)
@@ -597,17 +654,21 @@ module _ (s : Sheet) (S : Sound s) (v : ℕ) (p : Position) (at : cellAt s v ≡
             let k : T (isEdge (cellAt s (h .edge))) = or-left (isOpen (cellAt s (h .edge))) (isClosed (cellAt s (h .edge))) o in
             let q = stays² keepʲ σʲ tʲ Qʲ goneʲ keptʲ (h .edge) (edge-not-v² keepʲ σʲ tʲ Qʲ goneʲ keptʲ (h .edge) k) m n (inr k) in (
               subst (λ (z : Option Figure). T (isOpen z)) (sym q) o,
-              r-else (tailOf (cellAt s) h) (ends² keepʲ σʲ tʲ Qʲ goneʲ keptʲ h o m n) ∙ ap (λ (z : Option Figure). cond (h .backward) (endOf z) (startOf z)) (sym q),
-              ap (λ (z : Option Figure). cond (h .backward) (startOf z) (endOf z)) q ∙ sym (r-else (headOf (cellAt s) h) (λ w. ends² keepʲ σʲ tʲ Qʲ goneʲ keptʲ (flipped h) o m n (flip-tail (cellAt s) h ∙ w))),
+              r-else (tailOf (cellAt s) h) (ends² keepʲ σʲ tʲ Qʲ goneʲ keptʲ h o m n) ∙ ap (λ (z : Option Figure). cond (h .backward) (endOf z) (startOf z))
+                  (sym q),
+              ap (λ (z : Option Figure). cond (h .backward) (startOf z) (endOf z)) q
+                  ∙ sym (r-else (headOf (cellAt s) h) (λ w. ends² keepʲ σʲ tʲ Qʲ goneʲ keptʲ (flipped h) o m n (flip-tail (cellAt s) h ∙ w))),
             )
 
-        go : (c d : Bool) → eqb b (h .edge) ≡ c → eqb a (h .edge) ≡ d → Walk lookʲ (r (tailOf (cellAt s) h)) (cond c [] (one (cond d (record { edge = s .next; backward = h .backward }) h))) (r (headOf (cellAt s) h))
+        go : (c d : Bool) → eqb b (h .edge) ≡ c → eqb a (h .edge) ≡ d
+            → Walk lookʲ (r (tailOf (cellAt s) h)) (cond c [] (one (cond d (record { edge = s .next; backward = h .backward }) h))) (r (headOf (cellAt s) h))
         go true d p q = hb (sym (eqb-true b (h .edge) p))
         go false true p q = ha (sym (eqb-true a (h .edge) q))
         go false false p q = hn (λ z. eqb-false a (h .edge) q (sym z)) (λ z. eqb-false b (h .edge) p (sym z))
 
     -- ---- a cycle of b alone would turn at the vertex
-    turn-at : (h k : Halfedge) (ts : List Passage) → T (isOpen (cellAt s (k .edge))) → tailOf (cellAt s) k ≡ v → h .edge ≡ b → k .edge ≡ b → Every Qʲ (consIf (Here (passage h k)) (passage h k) ts) → ⊥
+    turn-at : (h k : Halfedge) (ts : List Passage) → T (isOpen (cellAt s (k .edge))) → tailOf (cellAt s) k ≡ v → h .edge ≡ b → k .edge ≡ b
+        → Every Qʲ (consIf (Here (passage h k)) (passage h k) ts) → ⊥
     turn-at h k ts o q z w e =
         let here : Here (passage h k) ≡ true = true-of (Here (passage h k)) (pair (isOpen (cellAt s (k .edge))) (eqb (tailOf (cellAt s) k) v) o (equal q)) in
         let m : Every Qʲ (passage h k ∷ ts) = subst (λ (c : Bool). Every Qʲ (consIf c (passage h k) ts)) here e in
@@ -620,11 +681,14 @@ module _ (s : Sheet) (S : Sound s) (v : ℕ) (p : Position) (at : cellAt s v ≡
         go true m = m .1
         go false m = m
 
-    last-turn : (f h : Halfedge) (hs : List Halfedge) → T (isOpen (cellAt s (f .edge))) → tailOf (cellAt s) f ≡ v → f .edge ≡ b → h .edge ≡ b → Every (λ (k : Halfedge). k .edge ≡ b) hs → Every Qʲ (filter Here (passagesFrom f h hs)) → ⊥
+    last-turn : (f h : Halfedge) (hs : List Halfedge) → T (isOpen (cellAt s (f .edge))) → tailOf (cellAt s) f ≡ v → f .edge ≡ b → h .edge ≡ b
+        → Every (λ (k : Halfedge). k .edge ≡ b) hs → Every Qʲ (filter Here (passagesFrom f h hs)) → ⊥
     last-turn f h [] o q z w m e = turn-at h f [] o q w z e
     last-turn f h (k ∷ ks) o q z w m e = last-turn f k ks o q z (m .0) (m .1) (restʲ h k (filter Here (passagesFrom f k ks)) e)
 
-    first-turn : (f h : Halfedge) (hs : List Halfedge) → T (isOpen (cellAt s (f .edge))) → headOf (cellAt s) h ≡ v → f .edge ≡ b → h .edge ≡ b → Every (λ (k : Halfedge). k .edge ≡ b) hs → Walk (cellAt s) (headOf (cellAt s) h) hs (tailOf (cellAt s) f) → Every Qʲ (filter Here (passagesFrom f h hs)) → ⊥
+    first-turn : (f h : Halfedge) (hs : List Halfedge) → T (isOpen (cellAt s (f .edge))) → headOf (cellAt s) h ≡ v → f .edge ≡ b → h .edge ≡ b
+        → Every (λ (k : Halfedge). k .edge ≡ b) hs → Walk (cellAt s) (headOf (cellAt s) h) hs (tailOf (cellAt s) f)
+        → Every Qʲ (filter Here (passagesFrom f h hs)) → ⊥
     first-turn f h [] o q z w m k e = turn-at h f [] o (sym k ∙ q) w z e
     first-turn f h (g ∷ gs) o q z w m k e = turn-at h g (filter Here (passagesFrom f g gs)) (k .0) (sym (k .1) ∙ q) w (m .0) e
 
@@ -633,7 +697,8 @@ module _ (s : Sheet) (S : Sound s) (v : ℕ) (p : Position) (at : cellAt s v ≡
     some-or-b (h ∷ hs) = go (eqb b (h .edge)) refl (some-or-b hs)
       where
         go : (c : Bool) → eqb b (h .edge) ≡ c → Some (spread σʲ hs) ⊎ Every (λ (k : Halfedge). k .edge ≡ b) hs
-            → Some (cond c [] (one (cond (eqb a (h .edge)) (record { edge = s .next; backward = h .backward }) h)) ++ spread σʲ hs) ⊎ Every (λ (k : Halfedge). k .edge ≡ b) (h ∷ hs)
+            → Some (cond c [] (one (cond (eqb a (h .edge)) (record { edge = s .next; backward = h .backward }) h)) ++ spread σʲ hs)
+            ⊎ Every (λ (k : Halfedge). k .edge ≡ b) (h ∷ hs)
         go true q (inl t) = inl t
         go true q (inr t) = inr (sym (eqb-true b (h .edge) q), t)
         go false q t = inl tt
@@ -648,7 +713,8 @@ module _ (s : Sheet) (S : Sound s) (v : ℕ) (p : Position) (at : cellAt s v ≡
       | inr g ↦ ring-carried (cellAt s) lookʲ σʲ h hs h (stay-one h (g .0)) (closed-left (h .edge) (g .0)) (g .1)
     ]
       where
-        turns : T (isOpen (cellAt s (h .edge))) → Walk (cellAt s) (headOf (cellAt s) h) hs (tailOf (cellAt s) h) → Every (λ (k : Halfedge). k .edge ≡ b) (h ∷ hs) → ⊥
+        turns : T (isOpen (cellAt s (h .edge))) → Walk (cellAt s) (headOf (cellAt s) h) hs (tailOf (cellAt s) h)
+            → Every (λ (k : Halfedge). k .edge ≡ b) (h ∷ hs) → ⊥
         turns o w m = elim (turned y h (sym (m .0))) [
           | inl q ↦ last-turn h h hs o (ap (tailOf (cellAt s)) q ∙ real-ends .1 .0 .1) (m .0) (m .0) (m .1) e
           | inr q ↦ first-turn h h hs o (ap (headOf (cellAt s)) q ∙ flip-head (cellAt s) y ∙ real-ends .1 .0 .1) (m .0) (m .0) (m .1) w e
@@ -658,12 +724,18 @@ module _ (s : Sheet) (S : Sound s) (v : ℕ) (p : Position) (at : cellAt s v ≡
         not-open j i c o z = apart (cellAt s j) c (subst (λ (k : ℕ). T (isOpen (cellAt s k))) (sym z) o)
 
         stay-one : (k : Halfedge) → T (isClosed (cellAt s (k .edge))) → σʲ k ≡ one k
-        stay-one k c = rw (ne-eqb b (k .edge) (λ z. not-open (k .edge) b c (real-ends .1 .0 .0) (sym z)), ne-eqb a (k .edge) (λ z. not-open (k .edge) a c (real-ends .0 .0) (sym z)))
+        stay-one k c = rw (
+          ne-eqb b (k .edge) (λ z. not-open (k .edge) b c (real-ends .1 .0 .0) (sym z)),
+          ne-eqb a (k .edge) (λ z. not-open (k .edge) a c
+              (real-ends .0 .0) (sym z)),
+        )
 
         closed-left : (j : ℕ) → T (isClosed (cellAt s j)) → T (isClosed (lookʲ j))
         closed-left j c =
             let k : T (isEdge (cellAt s j)) = or-right (isOpen (cellAt s j)) (isClosed (cellAt s j)) c in
-            subst (λ (z : Option Figure). T (isClosed z)) (sym (stays² keepʲ σʲ tʲ Qʲ goneʲ keptʲ j (edge-not-v² keepʲ σʲ tʲ Qʲ goneʲ keptʲ j k) (not-open j a c (real-ends .0 .0)) (not-open j b c (real-ends .1 .0 .0)) (inr k))) c
+            subst (λ (z : Option Figure). T (isClosed z))
+            (sym (stays² keepʲ σʲ tʲ Qʲ goneʲ keptʲ j (edge-not-v² keepʲ σʲ tʲ Qʲ goneʲ keptʲ j k) (not-open j a c (real-ends .0 .0))
+            (not-open j b c (real-ends .1 .0 .0)) (inr k))) c
 
     bends-ok : (e : ℕ) → T (isOpen (cellAt s e)) → T (all within (bendsOf (cellAt s e)))
     bends-ok e o =
@@ -690,26 +762,39 @@ module _ (s : Sheet) (S : Sound s) (v : ℕ) (p : Position) (at : cellAt s v ≡
         here : T (within (positionOf (cellAt s v)))
         here = rw at (S .figures v (vertex p) at)
 
-        go : (c : Bool) → x .backward ≡ c → T (figureOk lookʲ (cond c (openEdge (startOf (cellAt s a)) far (bendsOf (cellAt s a) ++ (positionOf (cellAt s v) ∷ bendsAlong (cellAt s) y))) (openEdge far (endOf (cellAt s a)) (reverse (bendsAlong (cellAt s) y) ++ (positionOf (cellAt s v) ∷ bendsOf (cellAt s a))))))
+        go : (c : Bool) → x .backward ≡ c → T
+            (figureOk lookʲ (cond c (openEdge (startOf (cellAt s a)) far (bendsOf (cellAt s a) ++ (positionOf (cellAt s v) ∷ bendsAlong (cellAt s) y)))
+            (openEdge far (endOf (cellAt s a)) (reverse (bendsAlong (cellAt s) y) ++ (positionOf (cellAt s v) ∷ bendsOf (cellAt s a))))))
         go true q =
             let l = bendsOf (cellAt s a) ++ (positionOf (cellAt s v) ∷ bendsAlong (cellAt s) y) in
-            let m : T (isVertex (lookʲ (startOf (cellAt s a)))) = subst (λ (d : Bool). T (isVertex (lookʲ (cond d (startOf (cellAt s a)) (endOf (cellAt s a)))))) q near-ok in
+            let m : T (isVertex (lookʲ (startOf (cellAt s a)))) =
+            subst (λ (d : Bool). T (isVertex (lookʲ (cond d (startOf (cellAt s a)) (endOf (cellAt s a)))))) q near-ok in
             pair (isVertex (lookʲ (startOf (cellAt s a)))) (isVertex (lookʲ far) && all within l) m
-            (pair (isVertex (lookʲ far)) (all within l) far-ok (all-append within (bendsOf (cellAt s a)) (positionOf (cellAt s v) ∷ bendsAlong (cellAt s) y) (bends-ok a (real-ends .0 .0)) (pair (within (positionOf (cellAt s v))) (all within (bendsAlong (cellAt s) y)) here along-ok)))
+            (pair (isVertex (lookʲ far)) (all within l) far-ok
+            (all-append within (bendsOf (cellAt s a)) (positionOf (cellAt s v) ∷ bendsAlong (cellAt s) y) (bends-ok a (real-ends .0 .0))
+            (pair (within (positionOf (cellAt s v))) (all within (bendsAlong (cellAt s) y)) here along-ok)))
         go false q =
             let l = reverse (bendsAlong (cellAt s) y) ++ (positionOf (cellAt s v) ∷ bendsOf (cellAt s a)) in
-            let m : T (isVertex (lookʲ (endOf (cellAt s a)))) = subst (λ (d : Bool). T (isVertex (lookʲ (cond d (startOf (cellAt s a)) (endOf (cellAt s a)))))) q near-ok in
+            let m : T (isVertex (lookʲ (endOf (cellAt s a)))) =
+            subst (λ (d : Bool). T (isVertex (lookʲ (cond d (startOf (cellAt s a)) (endOf (cellAt s a)))))) q near-ok in
             pair (isVertex (lookʲ far)) (isVertex (lookʲ (endOf (cellAt s a))) && all within l) far-ok
-            (pair (isVertex (lookʲ (endOf (cellAt s a)))) (all within l) m (all-append within (reverse (bendsAlong (cellAt s) y)) (positionOf (cellAt s v) ∷ bendsOf (cellAt s a)) (all-reverse within (bendsAlong (cellAt s) y) along-ok) (pair (within (positionOf (cellAt s v))) (all within (bendsOf (cellAt s a))) here (bends-ok a (real-ends .0 .0)))))
+            (pair (isVertex (lookʲ (endOf (cellAt s a)))) (all within l) m
+            (all-append within (reverse (bendsAlong (cellAt s) y)) (positionOf (cellAt s v) ∷ bendsOf (cellAt s a))
+            (all-reverse within (bendsAlong (cellAt s) y) along-ok)
+            (pair (within (positionOf (cellAt s v))) (all within (bendsOf (cellAt s a))) here (bends-ok a (real-ends .0 .0)))))
 
-    pub joint-sound : T (leb (rebuild keepʲ (rewired sameVertex σʲ) (tʲ ∷ []) s .next) idsEnd) → T (ceilings (rebuild keepʲ (rewired sameVertex σʲ) (tʲ ∷ []) s .cells)) → Sound (rebuild keepʲ (rewired sameVertex σʲ) (tʲ ∷ []) s)
-    joint-sound seven eight = two-sound keepʲ σʲ tʲ Qʲ goneʲ keptʲ path-okʲ (every-of-any (λ (t : Passage). eqb (t .arrives .edge) (t .leaves .edge)) (passagesAt (s .cells) v) no-self) seven eight new-okʲ
+    pub joint-sound : T (leb (rebuild keepʲ (rewired sameVertex σʲ) (tʲ ∷ []) s .next) idsEnd)
+        → T (ceilings (rebuild keepʲ (rewired sameVertex σʲ) (tʲ ∷ []) s .cells)) → Sound (rebuild keepʲ (rewired sameVertex σʲ) (tʲ ∷ []) s)
+    joint-sound seven eight = two-sound keepʲ σʲ tʲ Qʲ goneʲ keptʲ path-okʲ
+        (every-of-any (λ (t : Passage). eqb (t .arrives .edge) (t .leaves .edge)) (passagesAt (s .cells) v) no-self) seven eight new-okʲ
 
     new-share : (gain tʲ ≡ 0) × (loss tʲ ≡ 1)
     new-share = go (x .backward)
       where
-        go : (c : Bool) → (gain (cond c (openEdge (startOf (cellAt s a)) far (bendsOf (cellAt s a) ++ (positionOf (cellAt s v) ∷ bendsAlong (cellAt s) y))) (openEdge far (endOf (cellAt s a)) (reverse (bendsAlong (cellAt s) y) ++ (positionOf (cellAt s v) ∷ bendsOf (cellAt s a))))) ≡ 0)
-            × (loss (cond c (openEdge (startOf (cellAt s a)) far (bendsOf (cellAt s a) ++ (positionOf (cellAt s v) ∷ bendsAlong (cellAt s) y))) (openEdge far (endOf (cellAt s a)) (reverse (bendsAlong (cellAt s) y) ++ (positionOf (cellAt s v) ∷ bendsOf (cellAt s a))))) ≡ 1)
+        go : (c : Bool) → (gain (cond c (openEdge (startOf (cellAt s a)) far (bendsOf (cellAt s a) ++ (positionOf (cellAt s v) ∷ bendsAlong (cellAt s) y)))
+            (openEdge far (endOf (cellAt s a)) (reverse (bendsAlong (cellAt s) y) ++ (positionOf (cellAt s v) ∷ bendsOf (cellAt s a))))) ≡ 0)
+            × (loss (cond c (openEdge (startOf (cellAt s a)) far (bendsOf (cellAt s a) ++ (positionOf (cellAt s v) ∷ bendsAlong (cellAt s) y)))
+            (openEdge far (endOf (cellAt s a)) (reverse (bendsAlong (cellAt s) y) ++ (positionOf (cellAt s v) ∷ bendsOf (cellAt s a))))) ≡ 1)
         go true = (refl, refl)
         go false = (refl, refl)
 

@@ -13,7 +13,8 @@ use Rattle.number.specs.Readers.{spread}
 use Rattle.coordinate.specs.declared.Position.{Position}
 use Rattle.coordinate.specs.Bounds.{within}
 use Rattle.complex.specs.Lists.{all, any, filter, consIf, total, rising, one}
-use Rattle.complex.specs.Cells.{Halfedge, Cycle, lone, path, Figure, vertex, openEdge, closedEdge, face, LiveCell, Sheet, Look, someIf, lookup, ids, isVertex, isOpen, isClosed, isEdge, startOf, endOf, cyclesOf, stepsOf, same, tailOf, headOf, cellAt}
+use Rattle.complex.specs.Cells.{Halfedge, Cycle, lone, path, Figure, vertex, openEdge, closedEdge, face, LiveCell, Sheet, Look, someIf, lookup, ids}
+use Rattle.complex.specs.Cells.{isVertex, isOpen, isClosed, isEdge, startOf, endOf, cyclesOf, stepsOf, same, tailOf, headOf, cellAt}
 use Rattle.complex.specs.Sound.{Walk, idsEnd, cycleOk, figureOk, ceilings, joins, over}
 use Rattle.complex.specs.Decode.{Command, unglue}
 use Rattle.complex.specs.Edits.{keepIds, reshape, numbered, rebuild, everyId, rewiredCycle, sameVertex, inPlaceOf}
@@ -24,7 +25,8 @@ use Rattle.complex.proofs.Gains.{gain, loss, Shift, shift}
 use Rattle.complex.proofs.Bools.{truth, true-of, either, both, pair, cases}
 use Rattle.complex.proofs.Lookup.{lookup-keep}
 use Rattle.complex.proofs.Walks.{Round, Ring, joins-cases, round-joins, ring-joins}
-use Rattle.complex.proofs.Keep.{Sound, Look′, rebuild-sound, same-eq, same-refl, ring-carried, spread-one, Keeps, tail-kept, head-kept, walk-kept, joins-kept, cycle-kept, shape-kept}
+use Rattle.complex.proofs.Keep.{Sound, Look′, rebuild-sound, same-eq, same-refl, ring-carried, spread-one, Keeps, tail-kept, head-kept, walk-kept}
+use Rattle.complex.proofs.Keep.{joins-kept, cycle-kept, shape-kept}
 use Rattle.complex.proofs.Passes.{Passes}
 use Rattle.complex.proofs.Adds.{Alike, alike-same, alike-rebuild, stays-at, new-at}
 use Rattle.complex.proofs.Split.{apart}
@@ -52,7 +54,8 @@ pub lookup-copies : (m n k : ℕ) (t : Figure) → k < n → lookup (numbered m 
 lookup-copies m zero k t h = absurd (omega arith)
 lookup-copies m (suc n) zero t h = rw (eq-eqb m (m + 0) (omega arith))
 lookup-copies m (suc n) (suc k) t h =
-    rw (ne-eqb m (m + suc k) (λ e. omega arith)) (subst (λ (j : ℕ). lookup (numbered (suc m) (replicate n t)) j ≡ some t) (omega arith) (lookup-copies (suc m) n k t (omega arith)))
+    rw (ne-eqb m (m + suc k) (λ e. omega arith))
+    (subst (λ (j : ℕ). lookup (numbered (suc m) (replicate n t)) j ≡ some t) (omega arith) (lookup-copies (suc m) n k t (omega arith)))
 
 module _ (uses : Cycle → ℕ) (f : ℕ → Cycle → Cycle) where
   pub length-counting : (n : ℕ) (ks : List Cycle) → length (counting uses f n ks) ≡ length ks
@@ -69,7 +72,8 @@ module _ (uses : Cycle → ℕ) (f : ℕ → Cycle → Cycle) where
   counting-ok look look′ N h n [] l t = tt
   counting-ok look look′ N h n (k ∷ ks) l t =
       let b = both (cycleOk look k) (all (cycleOk look) ks) t in
-      pair (cycleOk look′ (f n k)) (all (cycleOk look′) (counting uses f (n + uses k) ks)) (h n k (omega arith) (b .0)) (counting-ok look look′ N h (n + uses k) ks (omega arith) (b .1))
+      pair (cycleOk look′ (f n k)) (all (cycleOk look′) (counting uses f (n + uses k) ks)) (h n k (omega arith) (b .0))
+      (counting-ok look look′ N h (n + uses k) ks (omega arith) (b .1))
 
   -- a drawing whose edge or vertex t at i is copied N - 1 times, and whose cycles are renamed by f
   module _ (s : Sheet) (S : Sound s) (i : ℕ) (t : Figure) (at : cellAt s i ≡ some t) where
@@ -115,7 +119,8 @@ module _ (uses : Cycle → ℕ) (f : ℕ → Cycle → Cycle) where
         news (suc n) o = pair (figureOk lookᵘ t) (all (figureOk lookᵘ) (replicate n t)) o (news n o)
 
     -- sums that only the faces' cycles can change
-    pub uses-over : (g : Figure → ℕ) → ((n : ℕ) (ks : List Cycle) → g (face (counting uses f n ks)) ≡ g (face ks)) → over g (rebuild everyId (onUses uses f 0 (s .cells)) new s .cells) ≡ over g (s .cells) + (N - 1) * g t
+    pub uses-over : (g : Figure → ℕ) → ((n : ℕ) (ks : List Cycle) → g (face (counting uses f n ks)) ≡ g (face ks))
+        → over g (rebuild everyId (onUses uses f 0 (s .cells)) new s .cells) ≡ over g (s .cells) + (N - 1) * g t
     uses-over g h = over-all g (onUses uses f 0 (s .cells)) same new s ∙ ap (λ (k : ℕ). over g (s .cells) + k) (total-copies g (N - 1) t)
       where
         same : (j : ℕ) (u : Figure) → g (onUses uses f 0 (s .cells) j u) ≡ g u
@@ -143,7 +148,8 @@ module _ (s : Sheet) (S : Sound s) (e a b : ℕ) (bs : List Position) (at : cell
 
   -- a step of e, and of its copy
   copy-step : (h : Halfedge) (c : ℕ) → h .edge ≡ e → lookᵒ c ≡ some (openEdge a b bs)
-      → T (isOpen (lookᵒ c)) × (tailOf (cellAt s) h ≡ cond (h .backward) (endOf (lookᵒ c)) (startOf (lookᵒ c))) × (headOf (cellAt s) h ≡ cond (h .backward) (startOf (lookᵒ c)) (endOf (lookᵒ c)))
+      → T (isOpen (lookᵒ c)) × (tailOf (cellAt s) h ≡ cond (h .backward) (endOf (lookᵒ c)) (startOf (lookᵒ c)))
+      × (headOf (cellAt s) h ≡ cond (h .backward) (startOf (lookᵒ c)) (endOf (lookᵒ c)))
   copy-step h c z q =
       let d : cellAt s (h .edge) ≡ lookᵒ c = ap (cellAt s) z ∙ at ∙ sym q in
       (rw q tt, ap (λ (x : Option Figure). cond (h .backward) (endOf x) (startOf x)) d, ap (λ (x : Option Figure). cond (h .backward) (startOf x) (endOf x)) d)
@@ -153,7 +159,8 @@ module _ (s : Sheet) (S : Sound s) (e a b : ℕ) (bs : List Position) (at : cell
   walk-copied n u (h ∷ hs) w l k = go (eqb e (h .edge)) refl l (λ m. walk-copied m (headOf (cellAt s) h) hs w)
     where
       go : (x : Bool) → eqb e (h .edge) ≡ x → n + (cond x 1 0 + total (edgeUse e) hs) ≤ Nᵒ
-          → ((m : ℕ) → m + total (edgeUse e) hs ≤ Nᵒ → Walk (cellAt s) (headOf (cellAt s) h) hs w → Walk lookᵒ (headOf (cellAt s) h) (newSteps e (s .next) m hs) w)
+          → ((m : ℕ) → m + total (edgeUse e) hs ≤ Nᵒ → Walk (cellAt s) (headOf (cellAt s) h) hs w
+          → Walk lookᵒ (headOf (cellAt s) h) (newSteps e (s .next) m hs) w)
           → Walk lookᵒ u (record { edge = cond x (copyOf e (s .next) n) (h .edge); backward = h .backward } ∷ newSteps e (s .next) (n + cond x 1 0) hs) w
       go true q l r =
           let c = copy-step h (copyOf e (s .next) n) (sym (eqb-true e (h .edge) q)) (copy-at uᵒ fᵒ s S e (openEdge a b bs) at refl n (omega arith)) in
@@ -186,7 +193,8 @@ module _ (s : Sheet) (S : Sound s) (e a b : ℕ) (bs : List Position) (at : cell
       ringed g false q = rw (q, ring-stays (n + 0) h hs q (g .1)) (joins-kept (cellAt s) lookᵒ kᵒ (h ∷ hs) t)
 
   pub open-unglued : T (leb (rebuild everyId (onUses uᵒ fᵒ 0 (s .cells)) (replicate (Nᵒ - 1) (openEdge a b bs)) s .next) idsEnd)
-      → T (ceilings (rebuild everyId (onUses uᵒ fᵒ 0 (s .cells)) (replicate (Nᵒ - 1) (openEdge a b bs)) s .cells)) → Sound (rebuild everyId (onUses uᵒ fᵒ 0 (s .cells)) (replicate (Nᵒ - 1) (openEdge a b bs)) s)
+      → T (ceilings (rebuild everyId (onUses uᵒ fᵒ 0 (s .cells)) (replicate (Nᵒ - 1) (openEdge a b bs)) s .cells))
+      → Sound (rebuild everyId (onUses uᵒ fᵒ 0 (s .cells)) (replicate (Nᵒ - 1) (openEdge a b bs)) s)
   open-unglued seven eight = uses-sound uᵒ fᵒ s S e (openEdge a b bs) at cycle-copied seven eight
 
 -- ---- a closed edge: every cycle
@@ -211,7 +219,9 @@ module _ (s : Sheet) (S : Sound s) (e : ℕ) (bs : List Position) (at : cellAt s
   unused c [] q = refl
   unused c (h ∷ hs) q = go (eqb e (h .edge)) q (λ z. unused c hs z)
     where
-      go : (x : Bool) → (x || any (λ (k : Halfedge). eqb e (k .edge)) hs) ≡ false → (any (λ (k : Halfedge). eqb e (k .edge)) hs ≡ false → spread (inPlaceOf e c false) hs ≡ hs) → cond x (record { edge = c; backward = h .backward }) h ∷ spread (inPlaceOf e c false) hs ≡ h ∷ hs
+      go : (x : Bool) → (x || any (λ (k : Halfedge). eqb e (k .edge)) hs) ≡ false
+          → (any (λ (k : Halfedge). eqb e (k .edge)) hs ≡ false → spread (inPlaceOf e c false) hs ≡ hs)
+          → cond x (record { edge = c; backward = h .backward }) h ∷ spread (inPlaceOf e c false) hs ≡ h ∷ hs
       go true z r = absurd (true≢false z)
       go false z r = ap (λ (ks : List Halfedge). h ∷ ks) (r z)
 
@@ -225,23 +235,27 @@ module _ (s : Sheet) (S : Sound s) (e : ℕ) (bs : List Position) (at : cellAt s
   cycle-ringed n (lone v) l t = kᶜ .vertices v t
   cycle-ringed n (path []) l t = t
   cycle-ringed n (path (h ∷ hs)) l t = elim (joins-cases (cellAt s) (h ∷ hs) t) [
-    | inl w ↦ subst (λ (ks : List Halfedge). T (joins lookᶜ ks)) (sym (unused (copyOf e (s .next) n) (h ∷ hs) (open-unused (w .1 .0) (h ∷ hs) (w .1 .0) (w .1 .1)))) (joins-kept (cellAt s) lookᶜ kᶜ (h ∷ hs) t)
+    | inl w ↦ subst (λ (ks : List Halfedge). T (joins lookᶜ ks))
+        (sym (unused (copyOf e (s .next) n) (h ∷ hs) (open-unused (w .1 .0) (h ∷ hs) (w .1 .0) (w .1 .1)))) (joins-kept (cellAt s) lookᶜ kᶜ (h ∷ hs) t)
     | inr g ↦ ringed g (eqb e (h .edge)) refl
   ]
     where
       ringed : Ring (cellAt s) (h ∷ hs) → (x : Bool) → eqb e (h .edge) ≡ x → T (joins lookᶜ (spread (inPlaceOf e (copyOf e (s .next) n) false) (h ∷ hs)))
       ringed g true q =
-          let m : n < Nᶜ = (let z : n + cond (eqb e (h .edge) || any (λ (k : Halfedge). eqb e (k .edge)) hs) 1 0 ≤ Nᶜ = l in let y : n + 1 ≤ Nᶜ = (rw q at z) in omega arith) in
+          let m : n < Nᶜ = (let z : n + cond (eqb e (h .edge) || any (λ (k : Halfedge). eqb e (k .edge)) hs) 1 0 ≤ Nᶜ = l in let y : n + 1 ≤ Nᶜ = (rw q at z) in
+          omega arith) in
           ring-carried (cellAt s) lookᶜ (inPlaceOf e (copyOf e (s .next) n) false) h hs (record { edge = copyOf e (s .next) n; backward = h .backward }) (rw q)
           (rw (copy-at uᶜ fᶜ s S e (closedEdge bs) at refl n m) tt) (g .1)
       ringed g false q = ring-carried (cellAt s) lookᶜ (inPlaceOf e (copyOf e (s .next) n) false) h hs h (rw q) (kᶜ .closeds (h .edge) (g .0)) (g .1)
 
   pub closed-unglued : T (leb (rebuild everyId (onUses uᶜ fᶜ 0 (s .cells)) (replicate (Nᶜ - 1) (closedEdge bs)) s .next) idsEnd)
-      → T (ceilings (rebuild everyId (onUses uᶜ fᶜ 0 (s .cells)) (replicate (Nᶜ - 1) (closedEdge bs)) s .cells)) → Sound (rebuild everyId (onUses uᶜ fᶜ 0 (s .cells)) (replicate (Nᶜ - 1) (closedEdge bs)) s)
+      → T (ceilings (rebuild everyId (onUses uᶜ fᶜ 0 (s .cells)) (replicate (Nᶜ - 1) (closedEdge bs)) s .cells))
+      → Sound (rebuild everyId (onUses uᶜ fᶜ 0 (s .cells)) (replicate (Nᶜ - 1) (closedEdge bs)) s)
   closed-unglued seven eight = uses-sound uᶜ fᶜ s S e (closedEdge bs) at cycle-ringed seven eight
 
 -- ---- the command, at an edge
-pub asPart : (i : ℕ) (s : Sheet) (o : Option Figure) → cellAt s i ≡ o → result s (unglue i) ≡ rebuild everyId (ungluing s i o) (copies (parts (s .cells) i o) o) s
+pub asPart : (i : ℕ) (s : Sheet) (o : Option Figure) → cellAt s i ≡ o
+    → result s (unglue i) ≡ rebuild everyId (ungluing s i o) (copies (parts (s .cells) i o) o) s
 unfolding result unglued
 asPart i s o z = ap (λ (x : Option Figure). rebuild everyId (ungluing s i x) (copies (parts (s .cells) i x) x) s) z
 

@@ -26,7 +26,8 @@ walk-leads look u (h ∷ hs) w k =
     (pair (eqb u (tailOf look h)) (leads look (headOf look h) hs w) (equal (k .1)) (walk-leads look (headOf look h) hs w (k .2)))
 
 -- ---- joining and splitting
-pub walk-append : (look : Look) (u : ℕ) (xs : List Halfedge) (m : ℕ) (ys : List Halfedge) (w : ℕ) → Walk look u xs m → Walk look m ys w → Walk look u (xs ++ ys) w
+pub walk-append : (look : Look) (u : ℕ) (xs : List Halfedge) (m : ℕ) (ys : List Halfedge) (w : ℕ) → Walk look u xs m → Walk look m ys w
+    → Walk look u (xs ++ ys) w
 walk-append look u [] m ys w e k = subst (λ (v : ℕ). Walk look v ys w) (sym e) k
 walk-append look u (h ∷ xs) m ys w j k = (j .0, j .1, walk-append look (headOf look h) xs m ys w (j .2) k)
 

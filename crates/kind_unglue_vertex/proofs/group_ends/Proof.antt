@@ -19,9 +19,19 @@ mark-ends-requires c κs =
     let b = arrays s in
     let l = s .pre .0 .long in
     let f = ready-fits b (s .args .t) (s .pre .0) .cells in
-    let n = s .pre .1 .1 in
-    (omega (arith, l .kinds, f), (omega (arith, l .starts, f), (omega (arith, l .ends, f), (omega (arith, f, n .marks),
-    fresh-marks (rowsBy b) (s .args .v) (s .args .at .now) (n .unmarked)))))
+    let n = s .pre .1 .1 in (
+      omega (arith, l .kinds, f),
+      (
+        omega (arith, l .starts, f),
+        (
+          omega (arith, l .ends, f),
+          (
+            omega (arith, f, n .marks),
+            fresh-marks (rowsBy b) (s .args .v) (s .args .at .now) (n .unmarked),
+          ),
+        ),
+      ),
+    )
 
 slice-aggregate-link-ends : tie.Need-slice-aggregate-link-ends
 slice-aggregate-link-ends c = search needs
