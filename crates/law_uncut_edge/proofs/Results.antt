@@ -183,7 +183,8 @@ module _ {d : Drawing} {ix : Index} {e : ℕ} {k : Between} {u w : Use} {p : Pla
       ++ without (one (gq .cycle i)) 0 (gq .list i))
       ∙ ap (λ (j : Between). leftCycles j (cellAt (sheetOf d)) (useAt e u) (useAt e w)) (sym ek)
 
-  pub merged-asks : (q : Place) → CycleFound d (w .face) (w .cycle) q → k ≡ TwoFaces → {n m : ℕ} → Takes n m (uncutResult (sheetOf d) e (caseOf k (useAt e u) (useAt e w)))
+  pub merged-asks : (q : Place) → CycleFound d (w .face) (w .cycle) q → k ≡ TwoFaces → {n m : ℕ}
+      → Takes n m (uncutResult (sheetOf d) e (caseOf k (useAt e u) (useAt e w)))
       → Merging (d .cycles) (d .steps) p (u .step) q (w .step) v × RoomFor n m (mergedList (d .cycles) (d .steps) p (u .step) q (w .step) v)
   merged-asks q gq ek t =
       let there = step-in d (f .sizes) ix e (c .sound) (c .index) (used .edge) w (used .second) q gq in
@@ -216,7 +217,8 @@ module _ {d : Drawing} {ix : Index} {e : ℕ} {k : Between} {u w : Use} {p : Pla
       ++ one (pathOr (hx i) (stretch (suc (w .step)) (u .step) (sw i))))
       ∙ ap (λ (j : Between). leftCycles j (cellAt (sheetOf d)) (useAt e u) (useAt e w)) (sym ek)
 
-  pub parted-asks : (x : ℕ) → x ≡ headBy ix (d .count) e (w .back) → k ≡ OneCycle → {n m : ℕ} → Takes n m (uncutResult (sheetOf d) e (caseOf k (useAt e u) (useAt e w)))
+  pub parted-asks : (x : ℕ) → x ≡ headBy ix (d .count) e (w .back) → k ≡ OneCycle → {n m : ℕ}
+      → Takes n m (uncutResult (sheetOf d) e (caseOf k (useAt e u) (useAt e w)))
       → Parting (d .cycles) (d .steps) p (u .step) (w .step) v x × RoomFor n m (partedList (d .cycles) (d .steps) p (u .step) (w .step) v x)
   parted-asks x ex ek t =
       (record { first = gp .lies; here = here; there = there-too ek; room = few-as _ (parted-is x ex ek) t }, room-as _ (parted-is x ex ek) t)
@@ -230,7 +232,8 @@ module _ {d : Drawing} {ix : Index} {e : ℕ} {k : Between} {u w : Use} {p : Pla
       (λ i. without (one (gp .cycle i)) 0 (gp .list i) ++ without (one (gq .cycle i)) 0 (gq .list i))
       ∙ ap (λ (j : Between). leftCycles j (cellAt (sheetOf d)) (useAt e u) (useAt e w)) (sym ek)
 
-  pub ringed-asks : (q : Place) → CycleFound d (w .face) (w .cycle) q → k ≡ Rings → {n m : ℕ} → Takes n m (uncutResult (sheetOf d) e (caseOf k (useAt e u) (useAt e w)))
+  pub ringed-asks : (q : Place) → CycleFound d (w .face) (w .cycle) q → k ≡ Rings → {n m : ℕ}
+      → Takes n m (uncutResult (sheetOf d) e (caseOf k (useAt e u) (useAt e w)))
       → Ringing (d .cycles) (d .steps) p q × RoomFor n m (ringedList (d .cycles) (d .steps) p q)
   ringed-asks q gq ek t = (record { first = gp .lies; second = gq .lies; room = few-as _ (ringed-is q gq ek) t }, room-as _ (ringed-is q gq ek) t)
 

@@ -14,7 +14,8 @@ use Rattle.ask_uncut_ends.proofs.at_vertex.Tie as tie
 abbrev turned : tie.Start → Bool → Bool
 turned s whole =
     let a = s .args in
-    turnsIn (rowsOf (a .n) (a .ids .now) (a .kinds .now) (a .starts .now) (a .ends .now)) whole (a .v) (cyclesFrom (take (a .m) (a .cycles .now)) (a .steps .now))
+    turnsIn (rowsOf (a .n) (a .ids .now) (a .kinds .now) (a .starts .now) (a .ends .now)) whole (a .v)
+    (cyclesFrom (take (a .m) (a .cycles .now)) (a .steps .now))
 
 ends-at-requires : tie.Need-ends-at-requires
 ends-at-requires c κs = search needs

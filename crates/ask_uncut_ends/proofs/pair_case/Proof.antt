@@ -15,7 +15,8 @@ use Rattle.ask_uncut_ends.proofs.pair_case.Tie as tie
 abbrev turned : tie.Start → Bool → Bool
 turned s whole =
     let a = s .args in
-    turnsIn (rowsOf (a .n) (a .ids .now) (a .kinds .now) (a .starts .now) (a .ends .now)) whole (a .v) (cyclesFrom (take (a .m) (a .cycles .now)) (a .steps .now))
+    turnsIn (rowsOf (a .n) (a .ids .now) (a .kinds .now) (a .starts .now) (a .ends .now)) whole (a .v)
+    (cyclesFrom (take (a .m) (a .cycles .now)) (a .steps .now))
 
 -- what holds of any two ends, of those here
 abbrev here : (s : tie.Start) {T : Ends → Bool → Bool → Type 0} → ((x : Ends) (w g : Bool) → T x w g) → T (s .args .x) (turned s true) (turned s false)

@@ -104,7 +104,8 @@ reface-requires c κs =
     let s = start r in (
       refaces (arrays s) (s .args .t) (s .pre .0) (s .args .v) (s .pre .1) (placed r .lone-place .result) (placed r .lone-place .ensures)
           (held r .row-holding .result) (held r .row-holding .ensures)
-          _ refl (spanned r .spans-at .result) (spanned r .spans-at .ensures) _ (listed r .all-but .result) _ (listed r .all-but .ensures) (r .find .result) (r .find .ensures),
+          _ refl (spanned r .spans-at .result) (spanned r .spans-at .ensures) _ (listed r .all-but .result) _ (listed r .all-but .ensures)
+          (r .find .result) (r .find .ensures),
       (s .pre .0 .long, ready-rows (arrays s) (s .args .t) (s .pre .0)),
     )
 
