@@ -52,8 +52,8 @@ module _ {A : Type 0} {r : List ℕ → Read A} {s : List ℕ} {at n : ℕ} {b :
   walked-as e f {w = No} h = record { says = sym e ∙ h .says }
 
 -- ---- a question about each thing of a list, asked of the first thing by itself
-module _ {A : Type 0} {r : List ℕ → Read A} {s : List ℕ} {at n place left : ℕ} {p : A → Bool} {b : Bool} (a : Asking r s at n place left (all p) b) (L : Leaves r)
-    (some : 0 < left) where
+module _ {A : Type 0} {r : List ℕ → Read A} {s : List ℕ} {at n place left : ℕ} {p : A → Bool} {b : Bool}
+    (a : Asking r s at n place left (all p) b) (L : Leaves r) (some : 0 < left) where
   one-answer : {x : A} {next : ℕ} → FieldAt r s place x next → p x ≡ all p (thingsRead r s place 1)
   one-answer {x} f = and-none (p x) ∙ sym (ap (all p) (field-list f))
 

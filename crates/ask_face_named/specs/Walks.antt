@@ -48,10 +48,10 @@ abbrev pub stepNamed : List ℕ → List ℕ → ℕ → Bool
 stepNamed is ks s = edgeIn is ks (s / 2)
 
 -- 4: the cycle names vertices and edges
-abbrev pub namesIn : Rows → Cycle → Bool
-namesIn t (lone v) = isVertexIn (t .ids) (t .kinds) v
-namesIn t (path hs) = all (λ (h : Halfedge). edgeIn (t .ids) (t .kinds) (h .edge)) hs
+abbrev pub namesIn : List ℕ → List ℕ → Cycle → Bool
+namesIn is ks (lone v) = isVertexIn is ks v
+namesIn is ks (path hs) = all (λ (h : Halfedge). edgeIn is ks (h .edge)) hs
 
 -- 4, or 6: the cycle joins
 abbrev pub passesIn : Rows → Bool → Cycle → Bool
-passesIn t names k = cond names (namesIn t k) (cycleGood t (numOf k) (cycleWords k))
+passesIn t names k = cond names (namesIn (t .ids) (t .kinds) k) (cycleGood t (numOf k) (cycleWords k))

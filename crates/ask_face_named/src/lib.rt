@@ -9,7 +9,7 @@ ghost use Rattle.complex.specs.Lists.{all};
 ghost use Rattle.complex.specs.Decode.{readCycle};
 ghost use Rattle.sound.specs.Rows.{rowsOf, isVertexIn};
 ghost use Rattle.decode_parts.specs.Lists.{numbersRead, cyclesRead, Stand};
-ghost use Rattle.ask_face_named.specs.Walks.{Valued, Rowed, Walked, stepNamed, passesIn};
+ghost use Rattle.ask_face_named.specs.Walks.{Valued, Rowed, Walked, stepNamed, namesIn, passesIn};
 
 // A walk along a list of a script that asks something of it: the place after the list, or a no.
 pub enum Walk {
@@ -76,18 +76,10 @@ fn steps_named(
 }
 
 // Whether a cycle in a script names vertices and edges.
-fn cycle_named(
-    script: &[u8],
-    at: usize,
-    ids: &[u32; 256],
-    kinds: &[u32; 256],
-    starts: &[u32; 256],
-    ends: &[u32; 256],
-    n: usize,
-) -> bool
+fn cycle_named(script: &[u8], at: usize, ids: &[u32; 256], kinds: &[u32; 256], n: usize) -> bool
     requires { ⌜ Stand readCycle (now script) at 1 ⌝ }
-    requires { ⌜ Rowed n (now ids) (now kinds) (now starts) (now ends) ⌝ }
-    ensures { λ r. ⌜ r ≡ all (passesIn (rowsOf n (now (ids .entry)) (now (kinds .entry)) (now (starts .entry)) (now (ends .entry))) true) (cyclesRead (now (script .entry)) at 1) ⌝ }
+    requires { ⌜ Valued n (now ids) (now kinds) ⌝ }
+    ensures { λ r. ⌜ r ≡ all (namesIn (take n (now (ids .entry))) (take n (now (kinds .entry)))) (cyclesRead (now (script .entry)) at 1) ⌝ }
 {
     let size = script::take_number(script, at);
     let m = size.value;
@@ -119,7 +111,7 @@ pub fn cycles_named(
     let mut at = first;
     let mut left = k;
     while 0 < left {
-        if !cycle_named(script, at, ids, kinds, starts, ends, n) {
+        if !cycle_named(script, at, ids, kinds, n) {
             return false;
         }
         at = script::cycle_end(script, at);

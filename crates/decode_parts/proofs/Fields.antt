@@ -52,12 +52,9 @@ module _ {s : List ℕ} {at : ℕ} where
       let a = q .1 in
       record { read = q .0; after = omega arith; fits = q .2 })
 
--- the same of a number, without the question
+-- a number that was read
 pub number-at : (s : List ℕ) (at : ℕ) {n next : ℕ} {v : Number} → numberSays v ≡ numberAt s at → v ≡ number.Value n next → FieldAt readNumber s at n next
 number-at s at e f = number-heard e f .is
-
-pub number-none : (s : List ℕ) (at : ℕ) {v : Number} → numberSays v ≡ numberAt s at → v ≡ number.Malformed → readNumber (drop at s) ≡ bad
-number-none s at e f = let h : Found readNumber s at (no 2) = number-heard e f in h .is .1
 
 -- ---- a bend list
 pub record ListAt (s : List ℕ) (at n first next : ℕ) : Type 0 where

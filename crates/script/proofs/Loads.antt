@@ -20,7 +20,8 @@ use Rattle.store.proofs.Encode.{places-size}
 use Rattle.decode_parts.specs.Lists.{FieldAt, numbersRead, cyclesRead, Reaches, Stand}
 use Rattle.decode_parts.proofs.Rest.{leaves-number, leaves-cycle, cycle-none}
 use Rattle.script.specs.Walks.{Copied, ScriptRoom}
-use Rattle.script.proofs.Steps.{stuck, first-thing, turn, one-stands, none-after, field-reaches, reach-field, field-list, Walking, walking-start, walking-turn, walking-end}
+use Rattle.script.proofs.Steps.{stuck, first-thing, turn, one-stands, none-after, field-reaches, reach-field, field-list}
+use Rattle.script.proofs.Steps.{Walking, walking-start, walking-turn, walking-end}
 use Rattle.script.proofs.Cycles.{cycleFrom, from-number, from-places, cycle-size, numbers-stand, cycle-is, cycle-reach}
 
 -- ---- numbers

@@ -23,8 +23,8 @@ module _ {l : List ℕ} {at : ℕ} {u : List ℕ} {m : ℕ} {x : List ℕ} {r : 
   pub put-length : length x ≡ length l
   put-length = ap length (p .stands) ∙ length-sets l at u
 
-  pub put-most : r ≤ at + m
-  put-most = let e = p .ends in let s = p .short in omega arith
+  pub put-ends : (length x ≡ length l) × (r ≤ at + m)
+  put-ends = let e = p .ends in let s = p .short in (put-length, omega arith)
 
   pub put-then : {v : List ℕ} {n : ℕ} {y : List ℕ} {q : ℕ} → TextPut x r v n y q → TextPut l at (u ++ v) (m + n) y q
   put-then {v} o =

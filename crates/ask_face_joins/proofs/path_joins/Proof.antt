@@ -28,7 +28,8 @@ returns c =
     let x = t .take-number .result in
     let e = turn (st .pre .0) (omega (arith, st .pre .1 .0)) leaves-number (t .take-number .ensures) .0 in
     let r = c .before .row-of .ensures in
-    let k = step-none (a .n) (a .ids .now) (a .kinds .now) (a .starts .now) (a .ends .now) _ (x .value) (r .0) (omega (arith, p .few, p .kinds)) (c .if1 .taken) in
+    let k = step-none (a .n) (a .ids .now) (a .kinds .now) (a .starts .now) (a .ends .now) _ (x .value) (r .0) (omega (arith, p .few, p .kinds))
+    (c .if1 .taken) in
     let j = joins-none (rows st) (x .value) (numbersRead (a .script .now) (x .next) (a .m - 1)) 4 (sym k) (λ e. omega arith) (λ e. omega arith) in
     (record { says = ap (joinsIn (rows st)) e ∙ j }, r .1)
 

@@ -2,20 +2,22 @@
 use native.Mathlib.Omega.{arith}
 use mathlib.Core.Path.{refl, sym}
 use mathlib.Core.Bool.{true, false}
+use mathlib.Core.List.{[]}
 use borrow.Author.Needs.{needs}
 use Rattle.sound.specs.Rows.{Rows, rowsOf}
 use Rattle.script.proofs.Loads.{length-stands}
-use Rattle.ask_face_named.proofs.Passing.{walked-to, walked-no, stands-one, stands-some, passes-lone, passes-named, rowed-valued}
+use Rattle.ask_face_named.proofs.Passing.{walked-to, walked-no, stands-one, stands-some, passes-lone, passes-named}
 use Rattle.ask_face_named.proofs.cycle_named.Statement.{statement}
 use Rattle.ask_face_named.proofs.cycle_named.Tie as tie
 
+-- rows of which no ends are asked
 abbrev rows : tie.Start → Rows
-rows st = rowsOf (st .args .n) (st .args .ids .now) (st .args .kinds .now) (st .args .starts .now) (st .args .ends .now)
+rows st = rowsOf (st .args .n) (st .args .ids .now) (st .args .kinds .now) [] []
 
 lone-named-requires : tie.Need-lone-named-requires
 lone-named-requires c κs =
     let st = c .before .before .before in
-    (stands-one (c .before .take-number .ensures) (st .pre .0) (c .if1 .taken), rowed-valued (st .pre .1))
+    (stands-one (c .before .take-number .ensures) (st .pre .0) (c .if1 .taken), st .pre .1)
 
 returns : tie.Need-returns
 returns c =
@@ -34,7 +36,7 @@ returns-2 c =
 steps-named-requires : tie.Need-steps-named-requires
 steps-named-requires c κs =
     let st = c .before .before .before in
-    (stands-some (c .before .take-number .ensures) (st .pre .0) (c .if1 .left), rowed-valued (st .pre .1))
+    (stands-some (c .before .take-number .ensures) (st .pre .0) (c .if1 .left), st .pre .1)
 
 returns-3 : tie.Need-returns-3
 returns-3 c =

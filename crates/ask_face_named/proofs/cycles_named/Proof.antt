@@ -11,7 +11,7 @@ use Rattle.decode_parts.specs.Lists.{cyclesRead}
 use Rattle.decode_parts.proofs.Rest.{leaves-cycle}
 use Rattle.script.proofs.Steps.{one-stands, walking-start, Asking, asking-end}
 use Rattle.ask_face_named.specs.Walks.{passesIn}
-use Rattle.ask_face_named.proofs.Passing.{first-fails, first-passes}
+use Rattle.ask_face_named.proofs.Passing.{first-fails, first-passes, rowed-valued}
 use Rattle.ask_face_named.proofs.cycles_named.Statement.{statement}
 use Rattle.ask_face_named.proofs.cycles_named.Tie as tie
 
@@ -39,6 +39,6 @@ pub cycles-named-spec : {M : Type 1} → statement M
 cycles-named-spec =
     tie.close
     (tie.spec Inv-loop μ-loop (λ c. record { walk = walking-start (c .before .pre .0); is = refl })
-    (λ c κs. (one-stands (c .before .loop .inv .walk .stand) (c .loop-test .taken) leaves-cycle, c .before .before .before .pre .1)) returns
+    (λ c κs. (one-stands (c .before .loop .inv .walk .stand) (c .loop-test .taken) leaves-cycle, rowed-valued (c .before .before .before .pre .1))) returns
     (λ c κs. one-stands (c .before .before .before .loop .inv .walk .stand) (c .before .before .loop-test .taken) leaves-cycle)
     (λ c. search needs) (λ c. omega arith) loop-again (λ c. asking-end (c .before .loop .inv) leaves-cycle (c .loop-test .left)))

@@ -9,8 +9,8 @@ use Rattle.decode_parts.proofs.skip_cycle.Statement.{statement}
 use Rattle.decode_parts.proofs.skip_cycle.Tie as tie
 
 -- the length that was read
-size : (c : tie.After-known-told) → let a = c .before .before .before .before .before .args in
-    FieldAt readNumber (a .script .now) (a .at) (c .before .m .given .0 .0) (c .before .m .given .0 .1 .0)
+size : (c : tie.After-known-told) → FieldAt readNumber (c .before .before .before .before .before .args .script .now)
+    (c .before .before .before .before .before .args .at) (c .before .m .given .0 .0) (c .before .m .given .0 .1 .0)
 size c = number-at _ _ (c .before .before .before .read-number .ensures) (c .before .m .given .1)
 
 returns : tie.Need-returns

@@ -1,4 +1,4 @@
--- `decode_parts::skip_numbers` meets its contract. The loop's invariant: the numbers that are left, from the place that the loop is at, end where all of them end.
+-- `decode_parts::skip_numbers` meets its contract. The loop's invariant: the numbers that are left, from where the loop is, end where all of them end.
 -- The measure is how many are left. Assumes nothing.
 use mathlib.Core.Path.{refl}
 use borrow.Author.Needs.{needs}
@@ -15,11 +15,6 @@ Inv-loop script at count place₀ left₀ place left = Skipping readNumber scrip
 abbrev μ-loop : tie.MeasureT-loop
 μ-loop script at count place₀ left₀ place left = left
 
-returns : tie.Need-returns Inv-loop μ-loop
-returns c =
-    let i = c .before .before .before in
-    skipping-stop (i .before .loop .inv) (i .loop-test .taken) (number-heard (c .before .before .read-number .ensures) (c .enum-told .given .1))
-
 loop-again : tie.Need-loop-again Inv-loop μ-loop
 loop-again c =
     let i = c .before .before .before .before in
@@ -28,5 +23,7 @@ loop-again c =
 pub skip-numbers-spec : {M : Type 1} → statement M
 skip-numbers-spec =
     tie.close
-    (tie.spec Inv-loop μ-loop (λ c. record { fits = c .before .pre; ends = refl }) (λ c κs. search needs) (λ c. search needs) (λ c. search needs) returns
+    (tie.spec Inv-loop μ-loop (λ c. record { fits = c .before .pre; ends = refl }) (λ c κs. search needs) (λ c. search needs) (λ c. search needs)
+    (λ c. skipping-stop (c .before .before .before .before .loop .inv) (c .before .before .before .loop-test .taken)
+    (number-heard (c .before .before .read-number .ensures) (c .enum-told .given .1)))
     (λ c. search needs) (λ c. omega arith) loop-again (λ c. skipping-end (c .before .loop .inv) (c .loop-test .left)))

@@ -17,6 +17,7 @@ pub copy-numbers-spec : {M : Type 1} → statement M
 copy-numbers-spec =
     tie.close
     (tie.spec Inv-loop μ-loop (λ c. copying-start (c .before .pre .0))
-    (λ c κs. one-stands (c .before .loop .inv .walk .stand) (c .loop-test .taken) leaves-number) (λ c. search needs) (λ c. search needs) (λ c. search needs) (λ c. search needs) (λ c. omega arith)
+    (λ c κs. one-stands (c .before .loop .inv .walk .stand) (c .loop-test .taken) leaves-number)
+    (λ c. search needs) (λ c. search needs) (λ c. search needs) (λ c. search needs) (λ c. omega arith)
     (λ c. copying-turn (c .before .before .loop .inv) (c .before .loop-test .taken) (c .take-number .ensures))
     (λ c. copying-end (c .before .loop .inv) (c .loop-test .left)))

@@ -1,4 +1,5 @@
--- `script::count_cycle_steps` meets its contract. The loop's invariant: the sum so far and the steps of the cycles that are left make the whole count. Assumes nothing.
+-- `script::count_cycle_steps` meets its contract. The loop's invariant: the sum so far and the steps of the cycles that are left make the whole count.
+-- Assumes nothing.
 use mathlib.Core.Path.{_≡_, ap}
 use borrow.Author.Needs.{needs}
 use native.Mathlib.Omega.{arith}
@@ -62,7 +63,9 @@ returns-3 c =
 pub count-cycle-steps-spec : {M : Type 1} → statement M
 count-cycle-steps-spec =
     tie.close
-    (tie.spec Inv-loop μ-loop (λ c κs. search needs) (λ c. search needs) (λ c κs. length-stands (c .before .loop .inv .0) (c .loop-test .taken)) (λ c κs. search needs)
+    (tie.spec Inv-loop μ-loop (λ c κs. search needs) (λ c. search needs)
+    (λ c κs. length-stands (c .before .loop .inv .0) (c .loop-test .taken)) (λ c κs. search needs)
     (λ c. search needs) (λ c. search needs) returns (λ c. search needs) returns-2 (λ c. search needs)
-    (λ c κs. one-stands (c .before .before .before .before .before .loop .inv .0) (c .before .before .before .before .loop-test .taken) leaves-cycle)
+    (λ c κs. one-stands (c .before .before .before .before .before .loop .inv .0) (c .before .before .before .before .loop-test .taken)
+    leaves-cycle)
     (λ c. search needs) (λ c. omega arith) loop-again returns-3)

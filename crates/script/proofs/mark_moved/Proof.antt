@@ -1,4 +1,5 @@
--- `script::mark_moved` meets its contract. The loop's invariant: what is flagged, with the numbers that are left, is all that is to be flagged. Assumes nothing.
+-- `script::mark_moved` meets its contract. The loop's invariant: what is flagged, with the numbers that are left, is all that is to be flagged.
+-- Assumes nothing.
 use borrow.Author.Needs.{needs}
 use native.Mathlib.Omega.{arith}
 use Rattle.number.specs.Numbers.{readNumber}

@@ -1,4 +1,5 @@
--- `script::moved_rise` meets its contract. The loop's invariant: the test of all the numbers is the test of those that are left, from the least that may come. Assumes nothing.
+-- `script::moved_rise` meets its contract. The loop's invariant: the test of all the numbers is the test of those that are left, from the least that may come.
+-- Assumes nothing.
 use native.Mathlib.Omega.{arith}
 use mathlib.Core.Path.{refl}
 use borrow.Author.Needs.{needs}

@@ -38,7 +38,8 @@ add-used : tie.Need-add-used Inv-loop μ-loop
 add-used c =
     let t = c .before .before .before in
     let b = t .before .before .before .before in
-    let h = loading-fit (b .pre .0) (t .before .before .loop .inv) (t .before .loop-test .taken) (t .take-number .ensures) (c .before .before .places .ensures) in
+    let h = loading-fit (b .pre .0) (t .before .before .loop .inv) (t .before .loop-test .taken) (t .take-number .ensures)
+    (c .before .before .places .ensures) in
     let z = b .pre .1 .1 in
     omega arith
 

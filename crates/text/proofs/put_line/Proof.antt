@@ -1,19 +1,25 @@
 -- `text::put_line` meets its contract: four numbers, each with its mark. Assumes nothing.
+use Prim.Native.Nat.{_≤_}
 use borrow.Author.Needs.{needs}
 use native.Mathlib.Omega.{arith}
+use lib.ListN.{length}
+use Rattle.complex.specs.Program.{decimal}
 use Rattle.text.proofs.Decimal.{decimal-few}
-use Rattle.text.proofs.Puts.{put-then, put-as, put-length, put-most, line-text}
+use Rattle.text.proofs.Puts.{put-then, put-as, put-ends, line-text}
 use Rattle.text.proofs.put_line.Statement.{statement}
 use Rattle.text.proofs.put_line.Tie as tie
+
+-- the fields are short
+few : (s : tie.Start) → (length (decimal (s .args .number)) ≤ 10) × (length (decimal (s .args .first)) ≤ 10) × (length (decimal (s .args .new)) ≤ 10)
+    × (length (decimal (s .args .removed)) ≤ 10)
+few s =
+    (decimal-few _ (s .fits .number .fits), decimal-few _ (s .fits .first .fits), decimal-few _ (s .fits .new .fits), decimal-few _ (s .fits .removed .fits))
 
 put-field-requires : tie.Need-put-field-requires
 put-field-requires c κs =
     let s = c .before .before in
     let h = s .pre in
-    let i = decimal-few (s .args .number) (s .fits .number .fits) in
-    let j = decimal-few (s .args .first) (s .fits .first .fits) in
-    let m = decimal-few (s .args .new) (s .fits .new .fits) in
-    let n = decimal-few (s .args .removed) (s .fits .removed .fits) in
+    let k = few s in
     omega arith
 
 put-field-requires-2 : tie.Need-put-field-requires-2
@@ -21,12 +27,8 @@ put-field-requires-2 c κs =
     let a = c .before .before .before in
     let s = a .before .before .before in
     let h = s .pre in
-    let i = decimal-few (s .args .number) (s .fits .number .fits) in
-    let j = decimal-few (s .args .first) (s .fits .first .fits) in
-    let m = decimal-few (s .args .new) (s .fits .new .fits) in
-    let n = decimal-few (s .args .removed) (s .fits .removed .fits) in
-    let l = put-length (a .put-field .ensures) in
-    let f = put-most (a .put-field .ensures) in
+    let k = few s in
+    let l = put-ends (a .put-field .ensures) in
     omega arith
 
 put-field-requires-3 : tie.Need-put-field-requires-3
@@ -35,14 +37,9 @@ put-field-requires-3 c κs =
     let a = b .before .before .before .before in
     let s = a .before .before .before in
     let h = s .pre in
-    let i = decimal-few (s .args .number) (s .fits .number .fits) in
-    let j = decimal-few (s .args .first) (s .fits .first .fits) in
-    let m = decimal-few (s .args .new) (s .fits .new .fits) in
-    let n = decimal-few (s .args .removed) (s .fits .removed .fits) in
-    let l = put-length (a .put-field .ensures) in
-    let k = put-length (b .put-field2 .ensures) in
-    let f = put-most (a .put-field .ensures) in
-    let g = put-most (b .put-field2 .ensures) in
+    let k = few s in
+    let l = put-ends (a .put-field .ensures) in
+    let m = put-ends (b .put-field2 .ensures) in
     omega arith
 
 put-field-requires-4 : tie.Need-put-field-requires-4
@@ -52,16 +49,10 @@ put-field-requires-4 c κs =
     let a = b .before .before .before .before in
     let s = a .before .before .before in
     let h = s .pre in
-    let i = decimal-few (s .args .number) (s .fits .number .fits) in
-    let j = decimal-few (s .args .first) (s .fits .first .fits) in
-    let m = decimal-few (s .args .new) (s .fits .new .fits) in
-    let n = decimal-few (s .args .removed) (s .fits .removed .fits) in
-    let l = put-length (a .put-field .ensures) in
-    let k = put-length (b .put-field2 .ensures) in
-    let o = put-length (d .put-field3 .ensures) in
-    let f = put-most (a .put-field .ensures) in
-    let g = put-most (b .put-field2 .ensures) in
-    let q = put-most (d .put-field3 .ensures) in
+    let k = few s in
+    let l = put-ends (a .put-field .ensures) in
+    let m = put-ends (b .put-field2 .ensures) in
+    let n = put-ends (d .put-field3 .ensures) in
     omega arith
 
 same-length : tie.Need-same-length
