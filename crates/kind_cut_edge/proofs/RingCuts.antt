@@ -110,7 +110,8 @@ module _ (a : Arrays) (l : Lengths a) (w : T (soundArrays a)) (e q : ℕ) (r : P
       round-are : runAt (r .bends - r .m) (r .m - q % 2) (positionsIn (b .bx) (b .by)) ≡ round
       round-are =
           let n : r .m - q % 2 ≡ r .m - (q / 2 + 1) + (q / 2 + (1 - q % 2)) = omega (arith, place-in) in
-          ap₂ (λ (k : ℕ) (y : List Position). runAt (r .bends - r .m) k y) n (part.bends-are a l w e q r (g .cuts) (g .row) _ cy st sw 0 (q / 2 + 1) (omega arith) in-place b gone)
+          ap₂ (λ (k : ℕ) (y : List Position). runAt (r .bends - r .m) k y) n
+          (part.bends-are a l w e q r (g .cuts) (g .row) _ cy st sw 0 (q / 2 + 1) (omega arith) in-place b gone)
           ∙ run-add (r .bends - r .m) (r .m - (q / 2 + 1)) (q / 2 + (1 - q % 2)) moved
           ∙ ap₂ _++_ onward back
 

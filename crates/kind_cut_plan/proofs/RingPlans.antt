@@ -62,7 +62,8 @@ module _ (a : Arrays) (t : Totals) (y : Ready a t) (e q : ℕ) (cl : isClosed (c
         module _ (r0 : r ≡ 0) (base : ℕ) (eb : base ≡ total (placesOf 0) (take row (a .bends))) where
           pub cuts : EdgeCuts (heldBy a) e row base m q
           cuts =
-              closed-cuts d (ready-sizes a t y) (ready-drawing a t y) e q cl (rowsBy a) (ready-indexes a t y) row er m em h t (ready-totals a t y) r ro r0 base eb
+              closed-cuts d (ready-sizes a t y) (ready-drawing a t y) e q cl (rowsBy a) (ready-indexes a t y) row er m em h t
+              (ready-totals a t y) r ro r0 base eb
 
           none-own : getD (a .counts) row 0 ≡ 0
           none-own =

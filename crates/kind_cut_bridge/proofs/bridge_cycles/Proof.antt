@@ -13,15 +13,6 @@ arrays c =
     lent (now (a .next)) (now (a .count)) (a .ids) (a .kinds) (a .starts) (a .ends) (a .bends) (a .counts) (a .px) (a .py) (a .cycles) (a .steps) (a .bx)
     (a .by)
 
-few-requires : tie.Need-few-requires
-few-requires c κs = search needs
-
-slice-aggregate-bridge-in : tie.Need-slice-aggregate-bridge-in
-slice-aggregate-bridge-in c = search needs
-
-slice-aggregate-bridge-in-2 : tie.Need-slice-aggregate-bridge-in-2
-slice-aggregate-bridge-in-2 c = search needs
-
 bridge-in-requires : tie.Need-bridge-in-requires
 bridge-in-requires c κs =
     let i = c .before .before .before .before .before .before .before .before .before .before .before .before .before .before in
@@ -31,34 +22,22 @@ bridge-in-requires c κs =
     let told = few-told (a .spans .cycles .count) (a .spans .steps .count) (w .few .result) (w .few .ensures) (i .if1 .taken) in
     (s .pre, small-room (arrays s) (a .t) (now (a .script)) (a .f) (a .spans) (a .c1) (a .s1) (a .c2) (a .s2) (a .k) (a .first) (s .pre) told)
 
-returns : tie.Need-returns
-returns c = search needs
-
-slice-aggregate-bridge-in-3 : tie.Need-slice-aggregate-bridge-in-3
-slice-aggregate-bridge-in-3 c = search needs
-
-slice-aggregate-bridge-in-4 : tie.Need-slice-aggregate-bridge-in-4
-slice-aggregate-bridge-in-4 c = search needs
-
 bridge-in-requires-2 : tie.Need-bridge-in-requires-2
 bridge-in-requires-2 c κs =
     let s = c .before .before .before .before .before .before .before .before .before .before .before .before .before .before .before .before .before in
     let a = s .args in
     (s .pre, large-room (arrays s) (a .t) (now (a .script)) (a .f) (a .spans) (a .c1) (a .s1) (a .c2) (a .s2) (a .k) (a .first) (s .pre))
 
-returns-2 : tie.Need-returns-2
-returns-2 c = search needs
-
 pub bridge-cycles-spec : {M : Type 1} → statement M
 bridge-cycles-spec =
     tie.close
     (tie.spec
-    few-requires
-    slice-aggregate-bridge-in
-    slice-aggregate-bridge-in-2
+    (λ c κs. search needs)
+    (λ c. search needs)
+    (λ c. search needs)
     bridge-in-requires
-    returns
-    slice-aggregate-bridge-in-3
-    slice-aggregate-bridge-in-4
+    (λ c. search needs)
+    (λ c. search needs)
+    (λ c. search needs)
     bridge-in-requires-2
-    returns-2)
+    (λ c. search needs))

@@ -20,9 +20,6 @@ arrays c =
     lent (now (a .next)) (now (a .count)) (a .ids) (a .kinds) (a .starts) (a .ends) (a .bends) (a .counts) (a .px) (a .py) (a .cycles) (a .steps) (a .bx)
     (a .by)
 
-wide-requires : tie.Need-wide-requires
-wide-requires c κs = search needs
-
 bridge-less-requires : tie.Need-bridge-less-requires
 bridge-less-requires c κs =
     let s = c .before .before .before .before in
@@ -51,9 +48,6 @@ late-no-requires c κs =
         ),
       ),
     )
-
-line-of-requires : tie.Need-line-of-requires
-line-of-requires c κs = search needs
 
 -- what is known where questions 7 and 8 are answered
 abbrev known : (l : tie.After-late-no) → let s = l .before .before .before .before .before .before in
@@ -85,10 +79,10 @@ pub cut-two-cycles-spec : {M : Type 1} → statement M
 cut-two-cycles-spec =
     tie.close
     (tie.spec
-    wide-requires
+    (λ c κs. search needs)
     bridge-less-requires
     late-no-requires
-    line-of-requires
+    (λ c κs. search needs)
     returns
     bridge-cycles-requires
     returns-2)

@@ -81,8 +81,9 @@ returns-3 c =
     let a = arrays s in
     let u = v .value-at .ensures in
     obeyed-no a (s .pre .sound) (cutEdge (s .args .e) (s .args .q)) 4 _ (c .line-of .ensures)
-    (no-edge (sheetOf (heldBy a)) (s .args .e) (s .args .q) (sym (open-at (ready-looks (arrays s) (s .args .t) (s .pre)) (s .args .e)) ∙ ne-eqb _ 1 (λ g. l1 .if1 .left (u ∙ g)))
-    (sym (closed-at (ready-looks (arrays s) (s .args .t) (s .pre)) (s .args .e)) ∙ ne-eqb _ 2 (λ g. l2 .if2 .left (u ∙ g))))
+    (no-edge (sheetOf (heldBy a)) (s .args .e) (s .args .q)
+    (sym (open-at (ready-looks a (s .args .t) (s .pre)) (s .args .e)) ∙ ne-eqb _ 1 (λ g. l1 .if1 .left (u ∙ g)))
+    (sym (closed-at (ready-looks a (s .args .t) (s .pre)) (s .args .e)) ∙ ne-eqb _ 2 (λ g. l2 .if2 .left (u ∙ g))))
 
 pub cut-edge-spec : {M : Type 1} → statement M
 cut-edge-spec =
