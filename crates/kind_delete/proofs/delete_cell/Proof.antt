@@ -51,9 +51,10 @@ mark-star-requires c κs =
     let s = f .before .before .before in
     let a = arrays s in
     let t = s .args .t in
-    let r = s .pre in
-    (readable (heldBy a) (ready-sizes a t r) (ready-fits a t r) (rowsBy a) (ready-indexes a t r) (ready-looks a t r .rising),
-    (f .find .ensures, (e .if1 .left, refl)))
+    let r = s .pre in (
+      readable (heldBy a) (ready-sizes a t r) (ready-fits a t r) (rowsBy a) (ready-indexes a t r) (ready-looks a t r .rising),
+      (f .find .ensures, (e .if1 .left, refl)),
+    )
 
 array-write-dead : tie.Need-array-write-dead
 array-write-dead c =
