@@ -58,8 +58,11 @@ below g =
     let y = f .before .count-uses in
     let s = start (f .before) in
     let a = s .args in
-    omega (arith, row-in (a .u) (arrays s) (a .t) (s .pre .0) (a .e) (s .pre .1) (y .result) (y .ensures) (f .if1 .left) (g .find .result) (g .find .ensures),
-    ready-fits (arrays s) (a .t) (s .pre .0) .cells)
+    omega (
+      arith,
+      row-in (a .u) (arrays s) (a .t) (s .pre .0) (a .e) (s .pre .1) (y .result) (y .ensures) (f .if1 .left) (g .find .result) (g .find .ensures),
+      ready-fits (arrays s) (a .t) (s .pre .0) .cells,
+    )
 
 mul-wide : tie.Need-mul-wide
 mul-wide c = omega (arith, below c)
@@ -84,12 +87,17 @@ late-copies-requires c κs =
     let s = start (f .before) in
     let a = s .args in
     let r = s .pre .0 in
-    let d = arrays s in
-    (next-in (heldBy d) (ready-drawing d (a .t) r),
-    (sizes-small (heldBy d) (ready-sizes d (a .t) r) (ready-drawing d (a .t) r) (rowsBy d) (ready-indexes d (a .t) r) (a .t) (r .sums),
-    (bends-small (a .u) d (a .t) r (a .e) (s .pre .1) (y .result) (y .ensures) (f .if1 .left) (g .find .result) (g .find .ensures) (c .wide .result)
-    (c .wide .ensures),
-    omega (arith, parts (f .before)))))
+    let d = arrays s in (
+      next-in (heldBy d) (ready-drawing d (a .t) r),
+      (
+        sizes-small (heldBy d) (ready-sizes d (a .t) r) (ready-drawing d (a .t) r) (rowsBy d) (ready-indexes d (a .t) r) (a .t) (r .sums),
+        (
+          bends-small (a .u) d (a .t) r (a .e) (s .pre .1) (y .result) (y .ensures) (f .if1 .left) (g .find .result) (g .find .ensures) (c .wide .result)
+              (c .wide .ensures),
+          omega (arith, parts (f .before)),
+        ),
+      ),
+    )
 
 -- what the questions gave
 asked : (l : tie.After-late-copies) → let g = l .before .before .before in let y = g .before .before .before in let s = start y in

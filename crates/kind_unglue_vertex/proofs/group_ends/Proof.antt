@@ -19,9 +19,19 @@ mark-ends-requires c κs =
     let b = arrays s in
     let l = s .pre .0 .long in
     let f = ready-fits b (s .args .t) (s .pre .0) .cells in
-    let n = s .pre .1 .1 in
-    (omega (arith, l .kinds, f), (omega (arith, l .starts, f), (omega (arith, l .ends, f), (omega (arith, f, n .marks),
-    fresh-marks (rowsBy b) (s .args .v) (s .args .at .now) (n .unmarked)))))
+    let n = s .pre .1 .1 in (
+      omega (arith, l .kinds, f),
+      (
+        omega (arith, l .starts, f),
+        (
+          omega (arith, l .ends, f),
+          (
+            omega (arith, f, n .marks),
+            fresh-marks (rowsBy b) (s .args .v) (s .args .at .now) (n .unmarked),
+          ),
+        ),
+      ),
+    )
 
 slice-aggregate-link-ends : tie.Need-slice-aggregate-link-ends
 slice-aggregate-link-ends c = search needs
@@ -37,9 +47,9 @@ link-ends-requires c κs =
     let i = c .before .before .before .before in
     let m = i .before .before .before .before in
     let s = start m in
+    let k = m .mark-ends in
     let h = i .if1 .taken in
-    let e = m .mark-ends .kept .1 .1 .1 .1 .1 .0 in
-    (s .pre .0, (s .pre .1 .0, linkable (rowsBy (arrays s)) _ _ (s .pre .1 .1) e (m .mark-ends .ensures) _ _ _ (omega (arith, h)) (omega (arith, h))))
+    (s .pre .0, (s .pre .1 .0, linkable (rowsBy (arrays s)) _ _ (s .pre .1 .1) (k .kept .1 .1 .1 .1 .1 .0) (k .ensures) _ _ _ (omega arith) (omega arith)))
 
 same-length : tie.Need-same-length
 same-length c = search needs
@@ -60,9 +70,9 @@ link-ends-requires-2 : tie.Need-link-ends-requires-2
 link-ends-requires-2 c κs =
     let m = c .before .before .before .before .before .before .before .before in
     let s = start m in
+    let k = m .mark-ends in
     let h = few-steps (arrays s) (s .args .t) (s .pre .0) in
-    let e = m .mark-ends .kept .1 .1 .1 .1 .1 .0 in
-    (s .pre .0, (s .pre .1 .0, linkable (rowsBy (arrays s)) _ _ (s .pre .1 .1) e (m .mark-ends .ensures) _ _ _ (omega (arith, h)) (omega (arith, h))))
+    (s .pre .0, (s .pre .1 .0, linkable (rowsBy (arrays s)) _ _ (s .pre .1 .1) (k .kept .1 .1 .1 .1 .1 .0) (k .ensures) _ _ _ (omega arith) (omega arith)))
 
 same-length-3 : tie.Need-same-length-3
 same-length-3 c = search needs

@@ -35,10 +35,11 @@ find-groups-requires c κs =
     let b = arrays s in
     let r = s .pre .0 in
     let t = s .args .t in
-    let p = s .pre .1 .1 in
-    (omega (arith, p .size, few-places b t r),
-    links-ready (heldBy b) (ready-sizes b t r) (ready-drawing b t r) (rowsBy b) (ready-indexes b t r) (s .args .v) _ (p .marks) (s .pre .1 .0) (p .size) _
-    (ready-cycles b t r) _ _ (f .find-links .result) _ _ (f .find-links .ensures) (s .args .groups .now) (p .numbers) (p .unnumbered))
+    let p = s .pre .1 .1 in (
+      omega (arith, p .size, few-places b t r),
+      links-ready (heldBy b) (ready-sizes b t r) (ready-drawing b t r) (rowsBy b) (ready-indexes b t r) (s .args .v) _ (p .marks) (s .pre .1 .0) (p .size) _
+          (ready-cycles b t r) _ _ (f .find-links .result) _ _ (f .find-links .ensures) (s .args .groups .now) (p .numbers) (p .unnumbered),
+    )
 
 same-length : tie.Need-same-length
 same-length c = search needs
