@@ -1,6 +1,6 @@
 -- The cycles in number arrays, counted one after another. Assumes nothing.
 use Prim.Native.Nat.{ℕ, _+_, _-_, _<_, _≤_}
-use mathlib.Core.Path.{_≡_, ap, ap₂, sym, _∙_}
+use mathlib.Core.Path.{_≡_, refl, ap, ap₂, sym, _∙_}
 use mathlib.Core.List.{List, [], _∷_, _++_}
 use native.Mathlib.Omega.{arith}
 use native.Mathlib.Numerals.{add-one}
@@ -37,6 +37,27 @@ part-room from w st h = rw (part-is from st) (omega (arith, length-drop from st)
 pub from-next : (ns : List ℕ) (j from c w : ℕ) → j < length ns → from ≡ widthSum (take j ns) → c ≡ getD ns j 0 → w ≡ width c
     → from + w ≡ widthSum (take (j + 1) ns)
 from-next ns j from c w h f e g = ap (λ (x : ℕ). from + x) g ∙ from-more ns j from c h f e
+
+-- ---- a walk over the first n cycles that stands before cycle j, whose steps begin at a place
+pub record Walked (ns st : List ℕ) (n j from : ℕ) : Type 0 where
+  pub few : j ≤ n
+  pub place : from ≡ widthSum (take j ns)
+  pub inside : from ≤ length st
+
+module _ (ns st : List ℕ) (n : ℕ) (hn : n ≤ length ns) (hs : widthSum (take n ns) ≤ length st) where
+  pub walked-none : Walked ns st n 0 0
+  walked-none = record { few = omega arith; place = refl; inside = omega arith }
+
+  module _ {j from : ℕ} (w : Walked ns st n j from) (h : j < n) (c : ℕ) (e : c ≡ getD ns j 0) where
+    -- the steps of the cycle are there
+    pub walked-room : from + width c ≤ length st
+    walked-room = omega (arith, from-within ns j n from c hn h (w .place) e)
+
+    pub walked-part : width c ≤ length (take (length st - from) (drop from st))
+    walked-part = part-room from (width c) st walked-room
+
+    pub walked-on : (k : ℕ) → k ≡ width c → Walked ns st n (j + 1) (from + k)
+    walked-on k g = record { few = omega arith; place = from-next ns j from c k (omega arith) (w .place) e g; inside = omega (arith, walked-room) }
 
 -- ---- counting
 module _ (uses : Cycle → ℕ) where

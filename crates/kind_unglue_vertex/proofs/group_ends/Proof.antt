@@ -47,9 +47,9 @@ link-ends-requires c κs =
     let i = c .before .before .before .before in
     let m = i .before .before .before .before in
     let s = start m in
+    let k = m .mark-ends in
     let h = i .if1 .taken in
-    let e = m .mark-ends .kept .1 .1 .1 .1 .1 .0 in
-    (s .pre .0, (s .pre .1 .0, linkable (rowsBy (arrays s)) _ _ (s .pre .1 .1) e (m .mark-ends .ensures) _ _ _ (omega (arith, h)) (omega (arith, h))))
+    (s .pre .0, (s .pre .1 .0, linkable (rowsBy (arrays s)) _ _ (s .pre .1 .1) (k .kept .1 .1 .1 .1 .1 .0) (k .ensures) _ _ _ (omega arith) (omega arith)))
 
 same-length : tie.Need-same-length
 same-length c = search needs
@@ -70,9 +70,9 @@ link-ends-requires-2 : tie.Need-link-ends-requires-2
 link-ends-requires-2 c κs =
     let m = c .before .before .before .before .before .before .before .before in
     let s = start m in
+    let k = m .mark-ends in
     let h = few-steps (arrays s) (s .args .t) (s .pre .0) in
-    let e = m .mark-ends .kept .1 .1 .1 .1 .1 .0 in
-    (s .pre .0, (s .pre .1 .0, linkable (rowsBy (arrays s)) _ _ (s .pre .1 .1) e (m .mark-ends .ensures) _ _ _ (omega (arith, h)) (omega (arith, h))))
+    (s .pre .0, (s .pre .1 .0, linkable (rowsBy (arrays s)) _ _ (s .pre .1 .1) (k .kept .1 .1 .1 .1 .1 .0) (k .ensures) _ _ _ (omega arith) (omega arith)))
 
 same-length-3 : tie.Need-same-length-3
 same-length-3 c = search needs

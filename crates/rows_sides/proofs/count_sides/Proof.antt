@@ -9,13 +9,13 @@ use Rattle.store.specs.View.{width, widthSum, cyclesFrom}
 use Rattle.store.proofs.Lists.{places-one}
 use Rattle.rows_sides.specs.Sides.{forwardUse, backwardUse, forwardIn, backwardIn}
 use Rattle.rows_sides.proofs.Counting.{cycle-few, forward-one, backward-one}
-use Rattle.rows_sides.proofs.Passing.{part-room, sum-next, from-next, from-within}
+use Rattle.rows_sides.proofs.Passing.{Walked, walked-none, walked-room, walked-on, part-room, sum-next}
 use Rattle.rows_sides.proofs.count_sides.Statement.{statement}
 use Rattle.rows_sides.proofs.count_sides.Tie as tie
 
 abbrev Inv-loop : tie.InvT-loop
 Inv-loop cycles n steps e forward₀ backward₀ from₀ j₀ forward backward from j =
-    (j ≤ n) × (from ≡ widthSum (take j cycles)) × (forward ≡ total (forwardIn e) (cyclesFrom (take j cycles) steps))
+    Walked cycles steps n j from × (forward ≡ total (forwardIn e) (cyclesFrom (take j cycles) steps))
     × (backward ≡ total (backwardIn e) (cyclesFrom (take j cycles) steps)) × (forward ≤ from)
     × (backward ≤ from)
 
@@ -23,7 +23,25 @@ abbrev μ-loop : tie.MeasureT-loop
 μ-loop cycles n steps e forward₀ backward₀ from₀ j₀ forward backward from j = n - j
 
 loop-holds : tie.Need-loop-holds Inv-loop μ-loop
-loop-holds c = (omega arith, refl, refl, refl, omega arith, omega arith)
+loop-holds c = let p = c .before .before .pre in (walked-none _ _ _ (p .0) (p .1), refl, refl, omega arith, omega arith)
+
+mul-c : tie.Need-mul-c Inv-loop μ-loop
+mul-c c = search needs
+
+shared-slice-read-c : tie.Need-shared-slice-read-c Inv-loop μ-loop
+shared-slice-read-c c = search needs
+
+mul-path-sides : tie.Need-mul-path-sides Inv-loop μ-loop
+mul-path-sides c = search needs
+
+sub-path-sides : tie.Need-sub-path-sides Inv-loop μ-loop
+sub-path-sides c = search needs
+
+part-path-sides-start : tie.Need-part-path-sides-start Inv-loop μ-loop
+part-path-sides-start c = search needs
+
+part-path-sides-end : tie.Need-part-path-sides-end Inv-loop μ-loop
+part-path-sides-end c = search needs
 
 abbrev start : tie.In-loop Inv-loop μ-loop → tie.Start Inv-loop μ-loop
 start q = q .before .before .before .before
@@ -34,27 +52,7 @@ next q = getD (start q .args .cycles .now) (q .before .loop .j) 0
 
 -- its steps are there
 room : (q : tie.In-loop Inv-loop μ-loop) → q .before .loop .from + width (next q) ≤ length (start q .args .steps .now)
-room q =
-    let l = q .before .loop in
-    omega (arith, from-within (start q .args .cycles .now) (l .j) (start q .args .n) (l .from) (next q) (start q .pre .0) (omega arith) (l .inv .1) refl, start q .pre .1)
-
-mul-c : tie.Need-mul-c Inv-loop μ-loop
-mul-c c = search needs
-
-shared-slice-read-c : tie.Need-shared-slice-read-c Inv-loop μ-loop
-shared-slice-read-c c = search needs
-
-mul-path-sides : tie.Need-mul-path-sides Inv-loop μ-loop
-mul-path-sides c = record { fits = omega (arith, room (c .before), c .shared-slice-known3 .given 0) }
-
-sub-path-sides : tie.Need-sub-path-sides Inv-loop μ-loop
-sub-path-sides c = omega (arith, room (c .before))
-
-part-path-sides-start : tie.Need-part-path-sides-start Inv-loop μ-loop
-part-path-sides-start c = omega (arith, room (c .before))
-
-part-path-sides-end : tie.Need-part-path-sides-end Inv-loop μ-loop
-part-path-sides-end c = search needs
+room q = walked-room _ _ _ (start q .pre .0) (start q .pre .1) (q .before .loop .inv .0) (q .loop-test .taken) _ refl
 
 path-sides-requires : tie.Need-path-sides-requires Inv-loop μ-loop
 path-sides-requires c κs = let q = c .before .before in part-room _ _ (start q .args .steps .now) (room q)
@@ -94,24 +92,24 @@ loop-less c = search needs
 loop-again : tie.Need-loop-again Inv-loop μ-loop
 loop-again c =
     let q = passed c .before .before .before in
+    let p = start q .pre in
     let i = q .before .loop .inv in
     let h : q .before .loop .j < length (start q .args .cycles .now) = omega arith in
-    let p = c .places .ensures ∙ places-one (next q) in
+    let e = c .places .ensures ∙ places-one (next q) in
     let x = passed c .path-sides .ensures in
     let f = few (passed c) in (
-      omega arith,
-      from-next _ _ _ (next q) _ h (i .1) refl p,
-      sum-next (forwardIn (start q .args .e)) _ _ _ (next q) _ _ _ h (i .1) refl (i .2) (x .0),
-      sum-next (backwardIn (start q .args .e)) _ _ _ (next q) _ _ _ h (i .1) refl (i .3) (x .1),
-      omega (arith, f .0, p, i .4),
-      omega (arith, f .1, p, i .5),
+      walked-on _ _ _ (p .0) (p .1) (i .0) (q .loop-test .taken) (next q) refl _ e,
+      sum-next (forwardIn (start q .args .e)) _ _ _ (next q) _ _ _ h (i .0 .place) refl (i .1) (x .0),
+      sum-next (backwardIn (start q .args .e)) _ _ _ (next q) _ _ _ h (i .0 .place) refl (i .2) (x .1),
+      omega (arith, f .0, e, i .3),
+      omega (arith, f .1, e, i .4),
     )
 
 returns : tie.Need-returns Inv-loop μ-loop
 returns c =
     let at = c .before in
     let e : at .loop .j ≡ at .before .before .before .args .n = omega arith in
-    (rw e at (at .loop .inv .2), rw e at (at .loop .inv .3))
+    (rw e at (at .loop .inv .1), rw e at (at .loop .inv .2))
 
 pub count-sides-spec : {M : Type 1} → statement M
 count-sides-spec =

@@ -2,7 +2,7 @@
 use borrow.Author.Needs.{needs}
 use lib.ListN.{length, take, drop, getD}
 use Rattle.store.specs.View.{width, widthSum, cyclesFrom}
-use Rattle.rows_sides.proofs.Passing.{part-room, sum-next, from-next, from-within}
+use Rattle.rows_sides.proofs.Passing.{Walked, walked-none, walked-room, walked-part, walked-on, sum-next}
 use Prim.Native.Nat.{ℕ, _≤_, _<_, _-_, _+_}
 use mathlib.Core.Path.{_≡_, refl, _∙_}
 use native.Mathlib.Omega.{arith}
@@ -15,13 +15,10 @@ use Rattle.rows_uses.proofs.count_uses.Tie as tie
 
 abbrev Inv-loop : tie.InvT-loop
 Inv-loop u cycles n steps i sum₀ from₀ j₀ sum from j =
-    (j ≤ n) × (from ≡ widthSum (take j cycles)) × (sum ≡ total (usesIn u i) (cyclesFrom (take j cycles) steps)) × (sum ≤ from)
+    Walked cycles steps n j from × (sum ≡ total (usesIn u i) (cyclesFrom (take j cycles) steps)) × (sum ≤ from)
 
 abbrev μ-loop : tie.MeasureT-loop
 μ-loop u cycles n steps i sum₀ from₀ j₀ sum from j = n - j
-
-loop-holds : tie.Need-loop-holds Inv-loop μ-loop
-loop-holds c = (omega arith, refl, refl, omega arith)
 
 abbrev start : tie.In-loop Inv-loop μ-loop → tie.Start Inv-loop μ-loop
 start q = q .before .before .before .before
@@ -30,11 +27,8 @@ start q = q .before .before .before .before
 abbrev next : tie.In-loop Inv-loop μ-loop → ℕ
 next q = getD (start q .args .cycles .now) (q .before .loop .j) 0
 
--- its steps are there
-room : (q : tie.In-loop Inv-loop μ-loop) → q .before .loop .from + width (next q) ≤ length (start q .args .steps .now)
-room q =
-    let l = q .before .loop in
-    omega (arith, from-within (start q .args .cycles .now) (l .j) (start q .args .n) (l .from) (next q) (start q .pre .0) (omega arith) (l .inv .1) refl, start q .pre .1)
+loop-holds : tie.Need-loop-holds Inv-loop μ-loop
+loop-holds c = let p = c .before .before .pre in (walked-none _ _ _ (p .0) (p .1), refl, omega arith)
 
 mul-c : tie.Need-mul-c Inv-loop μ-loop
 mul-c c = search needs
@@ -43,19 +37,21 @@ shared-slice-read-c : tie.Need-shared-slice-read-c Inv-loop μ-loop
 shared-slice-read-c c = search needs
 
 mul-cycle-uses : tie.Need-mul-cycle-uses Inv-loop μ-loop
-mul-cycle-uses c = record { fits = omega (arith, room (c .before), c .shared-slice-known3 .given 0) }
+mul-cycle-uses c = search needs
 
 sub-cycle-uses : tie.Need-sub-cycle-uses Inv-loop μ-loop
-sub-cycle-uses c = omega (arith, room (c .before))
+sub-cycle-uses c = search needs
 
 part-cycle-uses-start : tie.Need-part-cycle-uses-start Inv-loop μ-loop
-part-cycle-uses-start c = omega (arith, room (c .before))
+part-cycle-uses-start c = search needs
 
 part-cycle-uses-end : tie.Need-part-cycle-uses-end Inv-loop μ-loop
 part-cycle-uses-end c = search needs
 
 cycle-uses-requires : tie.Need-cycle-uses-requires Inv-loop μ-loop
-cycle-uses-requires c κs = let q = c .before .before in part-room _ _ (start q .args .steps .now) (room q)
+cycle-uses-requires c κs =
+    let q = c .before .before in
+    walked-part _ _ _ (start q .pre .0) (start q .pre .1) (q .before .loop .inv .0) (q .loop-test .taken) _ refl
 
 -- it uses the cell at most once with each place
 few : (c : tie.After-cycle-uses Inv-loop μ-loop) → c .cycle-uses .result ≤ width (next (c .before .before .before))
@@ -66,7 +62,10 @@ few c =
     omega (arith, c .cycle-uses .ensures, uses-few (a .u) (a .i) (next q) l)
 
 add-sum : tie.Need-add-sum Inv-loop μ-loop
-add-sum c = record { fits = omega (arith, room (c .before .before .before), few c) }
+add-sum c =
+    let q = c .before .before .before in
+    let p = start q .pre in
+    record { fits = omega (arith, walked-room _ _ _ (p .0) (p .1) (q .before .loop .inv .0) (q .loop-test .taken) (next q) refl, few c) }
 
 places-requires : tie.Need-places-requires Inv-loop μ-loop
 places-requires c κs = search needs
@@ -75,7 +74,10 @@ abbrev passed : tie.After-places Inv-loop μ-loop → tie.In-loop Inv-loop μ-lo
 passed c = c .before .before .before .before
 
 add-from : tie.Need-add-from Inv-loop μ-loop
-add-from c = record { fits = omega (arith, room (passed c), c .places .ensures ∙ places-one (next (passed c))) }
+add-from c =
+    let q = passed c in
+    let p = start q .pre in
+    record { fits = omega (arith, walked-room _ _ _ (p .0) (p .1) (q .before .loop .inv .0) (q .loop-test .taken) (next q) refl, c .places .ensures ∙ places-one (next q)) }
 
 add-j : tie.Need-add-j Inv-loop μ-loop
 add-j c = search needs
@@ -86,20 +88,20 @@ loop-less c = search needs
 loop-again : tie.Need-loop-again Inv-loop μ-loop
 loop-again c =
     let q = passed c in
+    let p = start q .pre in
     let i = q .before .loop .inv in
     let h : q .before .loop .j < length (start q .args .cycles .now) = omega arith in
-    let p = c .places .ensures ∙ places-one (next q) in (
-      omega arith,
-      from-next _ _ _ (next q) _ h (i .1) refl p,
-      sum-next (usesIn (start q .args .u) (start q .args .i)) _ _ _ (next q) _ _ _ h (i .1) refl (i .2) (c .before .cycle-uses .ensures),
-      omega (arith, few (c .before), p, i .3),
+    let e = c .places .ensures ∙ places-one (next q) in (
+      walked-on _ _ _ (p .0) (p .1) (i .0) (q .loop-test .taken) (next q) refl _ e,
+      sum-next (usesIn (start q .args .u) (start q .args .i)) _ _ _ (next q) _ _ _ h (i .0 .place) refl (i .1) (c .before .cycle-uses .ensures),
+      omega (arith, few (c .before), e, i .2),
     )
 
 returns : tie.Need-returns Inv-loop μ-loop
 returns c =
     let at = c .before in
     let e : at .loop .j ≡ at .before .before .before .args .n = omega arith in
-    rw e at (at .loop .inv .2)
+    rw e at (at .loop .inv .1)
 
 pub count-uses-spec : {M : Type 1} → statement M
 count-uses-spec =
