@@ -55,7 +55,8 @@ returns-2 c =
 passed : (c : tie.Else1) → room (c .before) ≡ true
 passed c = let h = c .before in none-of (room h) (h .lines-no .result) (h .lines-no .ensures) (c .if1 .left)
 
-parts : (c : tie.Else1) → let a = given (c .before) .args in (length (now (a .script)) < lengthsEnd) × (lineWidth * length (now (a .script)) ≤ length (now (a .lines)))
+parts : (c : tie.Else1)
+    → let a = given (c .before) .args in (length (now (a .script)) < lengthsEnd) × (lineWidth * length (now (a .script)) ≤ length (now (a .lines)))
 parts c = let a = given (c .before) .args in lines-parts (length (now (a .script))) (length (now (a .lines))) (passed c)
 
 abbrev before-run : tie.After-run-lines → tie.Else1
