@@ -73,7 +73,8 @@ counted each i k (s ∷ ws) = counted each i (usesAfter each i k s) ws
 -- ---- lists that are alike from a place on: what they have there, and behind it when one of them is written there
 read-same : (j : ℕ) (l l₀ : List ℕ) → drop j l ≡ drop j l₀ → getD l j 0 ≡ getD l₀ j 0
 read-same j l l₀ e =
-    ap (λ (n : ℕ). getD l n 0) (omega arith) ∙ sym (getD-drop j l 0 0) ∙ ap (λ (q : List ℕ). getD q 0 0) e ∙ getD-drop j l₀ 0 0 ∙ ap (λ (n : ℕ). getD l₀ n 0) (omega arith)
+    ap (λ (n : ℕ). getD l n 0) (omega arith) ∙ sym (getD-drop j l 0 0) ∙ ap (λ (q : List ℕ). getD q 0 0) e ∙ getD-drop j l₀ 0 0
+    ∙ ap (λ (n : ℕ). getD l₀ n 0) (omega arith)
 
 rest-next : (j : ℕ) (l l₀ : List ℕ) (v : ℕ) → drop j l ≡ drop j l₀ → drop (j + 1) (set l j v) ≡ drop (j + 1) l₀
 rest-next j l l₀ v e = drop-set-lt (j + 1) l j v (omega arith) ∙ sym (drop-drop 1 j l) ∙ ap (drop 1) e ∙ drop-drop 1 j l₀

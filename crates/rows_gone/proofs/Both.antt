@@ -57,10 +57,12 @@ module _ (d : Drawing) (z : Sizes d) (w : T (soundDrawing d)) (f : ℕ → Figur
       let l = length-map {B = LiveCell} cs (λ (c : LiveCell). record { id = c .id; figure = f (c .id) (c .figure) }) in
       (m, omega arith, subst Rising (sym (ids-reshape f cs)) (rising-is (ids cs) (sheetOf d .next) (sheet-rising d (sound-sheet d w))))
 
-  pub changed-left : (keep : ℕ → Bool) (dead : List Bool) → kept (take (mid .count) dead) (reshape f (sheetOf d .cells)) ≡ keepIds keep (reshape f (sheetOf d .cells))
+  pub changed-left : (keep : ℕ → Bool) (dead : List Bool)
+      → kept (take (mid .count) dead) (reshape f (sheetOf d .cells)) ≡ keepIds keep (reshape f (sheetOf d .cells))
       → withEntries (sheetOf mid) (kept (take (mid .count) dead) (sheetOf mid .cells)) ≡ remade keep f (sheetOf d)
   changed-left keep dead e =
-      ap (λ (s : Sheet). withEntries s (kept (take (mid .count) dead) (s .cells))) em ∙ ap (withEntries (sheetOf d)) (e ∙ keep-reshape keep f (sheetOf d .cells))
+      ap (λ (s : Sheet). withEntries s (kept (take (mid .count) dead) (s .cells))) em
+      ∙ ap (withEntries (sheetOf d)) (e ∙ keep-reshape keep f (sheetOf d .cells))
 
 -- a drawing whose cells have changed by f, and then two cells go
 pub dropped-both : (d : Drawing) → Sizes d → (i a j b : ℕ) → Pair d i a j b → (f : ℕ → Figure → Figure) (mid : Drawing) → Sizes mid → Fits mid

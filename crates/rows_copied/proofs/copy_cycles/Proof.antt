@@ -36,7 +36,12 @@ next q = getD (start q .args .cycles .now) (q .before .loop .j) 0
 room : (q : tie.In-loop Inv-loop μ-loop) → q .before .loop .from + width (next q) ≤ length (q .before .loop .steps)
 room q =
     let l = q .before .loop in
-    omega (arith, from-within (start q .args .cycles .now) (l .j) (start q .args .n) (l .from) (next q) (start q .pre .0) (omega arith) (l .inv .1 .from-is) refl, start q .pre .1 .0, l .inv .1 .size)
+    omega (
+      arith,
+      from-within (start q .args .cycles .now) (l .j) (start q .args .n) (l .from) (next q) (start q .pre .0) (omega arith) (l .inv .1 .from-is) refl,
+      start q .pre .1 .0,
+      l .inv .1 .size,
+    )
 
 mul-c : tie.Need-mul-c Inv-loop μ-loop
 mul-c c = search needs

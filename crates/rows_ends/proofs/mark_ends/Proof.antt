@@ -70,7 +70,8 @@ loop-again c =
     let st = q .before .before .before .before .before .before in (
       omega arith,
       simp length-set (l .inv .1),
-      marks-turn _ _ _ _ (l .j) (l .at) (l .inv .2) (omega (arith, st .pre .1 .1 .1 .0, l .inv .1)) _ _ (c .before .before .is-end .ensures) (c .is-end2 .ensures),
+      marks-turn _ _ _ _ (l .j) (l .at) (l .inv .2) (omega (arith, st .pre .1 .1 .1 .0, l .inv .1)) _ _
+          (c .before .before .is-end .ensures) (c .is-end2 .ensures),
     )
 
 same-length : tie.Need-same-length Inv-loop μ-loop

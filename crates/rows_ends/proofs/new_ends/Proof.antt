@@ -57,7 +57,8 @@ loop-again : tie.Need-loop-again Inv-loop μ-loop
 loop-again c =
     let q = c .before .before .before .before in
     let st = q .before .before .before .before .before in
-    (omega arith, ends-turn _ _ _ _ _ (q .before .loop .j) _ _ (q .before .loop .inv .1) (omega (arith, st .pre .rows, q .before .loop .inv .1 .size)) _ (c .new-end .ensures))
+    let l = q .before .loop in
+    (omega arith, ends-turn _ _ _ _ _ (l .j) _ _ (l .inv .1) (omega (arith, st .pre .rows, l .inv .1 .size)) _ (c .new-end .ensures))
 
 same-length : tie.Need-same-length Inv-loop μ-loop
 same-length c = c .before .loop .inv .1 .size

@@ -60,7 +60,8 @@ inside c =
 
 -- the test of the link
 asked : (c : tie.After-differs Inv-loop μ-loop) → let w = c .before .before .before in let q = looked w in
-    let a = q .before .before .before .before .before .args in c .differs .result ≡ splits (a .groups .now) (a .xs .now) (a .ys .now) (a .g) (q .before .loop .i)
+    let a = q .before .before .before .before .before .args in
+    c .differs .result ≡ splits (a .groups .now) (a .xs .now) (a .ys .now) (a .g) (q .before .loop .i)
 asked c =
     let w = c .before .before .before in
     c .differs .ensures ∙ ap₂ (λ (a b : ℕ). differs (getD (looked w .before .before .before .before .before .args .groups .now) a 0)

@@ -77,7 +77,13 @@ add-from : tie.Need-add-from Inv-loop μ-loop
 add-from c =
     let q = passed c in
     let p = start q .pre in
-    record { fits = omega (arith, walked-room _ _ _ (p .0) (p .1) (q .before .loop .inv .0) (q .loop-test .taken) (next q) refl, c .places .ensures ∙ places-one (next q)) }
+    record {
+      fits = omega (
+        arith,
+        walked-room _ _ _ (p .0) (p .1) (q .before .loop .inv .0) (q .loop-test .taken) (next q) refl,
+        c .places .ensures ∙ places-one (next q),
+      );
+    }
 
 add-j : tie.Need-add-j Inv-loop μ-loop
 add-j c = search needs
