@@ -47,7 +47,8 @@ module _ (d : Drawing) (w : T (soundDrawing d)) where
   next-in = leb→le (d .next) idsEnd (sound-in .inIds)
 
 -- the kind in the row of an id
-pub kind-vertex : (d : Drawing) → Sizes d → T (soundDrawing d) → (ix : Index) → Indexes d ix → (v k : ℕ) → k ≡ indexValue 4 d ix (ix .kinds) v → eqb k 0 ≡ isVertex (cellAt (sheetOf d) v)
+pub kind-vertex : (d : Drawing) → Sizes d → T (soundDrawing d) → (ix : Index) → Indexes d ix → (v k : ℕ) → k ≡ indexValue 4 d ix (ix .kinds) v
+    → eqb k 0 ≡ isVertex (cellAt (sheetOf d) v)
 kind-vertex d z w ix x v k e = ap (λ (n : ℕ). eqb n 0) e ∙ vertex-at (looks d z ix x w) v
 
 -- no more are chosen than there are
@@ -92,12 +93,19 @@ unfolding sizesAfter sheetOf
 asked-of d z w c r k =
     record {
       passed = k .passed;
-      says = k .says ∙ ap₂ (lateNo (d .next)) (sym (k .newIs)) (ap₂ changedBy (ap sizesBy (k .totalsAre) ∙ totals-are d z (sound-fits d w) (k .index) (k .indexes)) (sym (k .changeIs)));
+      says = k .says ∙ ap₂ (lateNo (d .next)) (sym (k .newIs))
+          (ap₂ changedBy (ap sizesBy (k .totalsAre) ∙ totals-are d z (sound-fits d w) (k .index) (k .indexes)) (sym (k .changeIs)));
     }
 
 -- no id is issued, and the sizes keep the ceilings
-pub asked-still : (d : Drawing) → T (soundDrawing d) → (c : Command) → Passed (sheetOf d) c → newCells (sheetOf d) c ≡ 0 → sizesFit (sizesAfter (sheetOf d) c) ≡ true → Asked d c 0
-asked-still d w c p n f = record { passed = p; says = sym (ap₂ (λ (a b : Bool). cond a (cond b 0 8) 7) (ap (λ (i : ℕ). leb i idsEnd) (the-sum (sheetOf d .next) n) ∙ true-of (leb (sheetOf d .next) idsEnd) (sound-in d w .inIds)) f) }
+pub asked-still : (d : Drawing) → T (soundDrawing d) → (c : Command) → Passed (sheetOf d) c → newCells (sheetOf d) c ≡ 0
+    → sizesFit (sizesAfter (sheetOf d) c) ≡ true → Asked d c 0
+asked-still d w c p n f =
+    record {
+      passed = p;
+      says = sym (ap₂ (λ (a b : Bool). cond a (cond b 0 8) 7)
+          (ap (λ (i : ℕ). leb i idsEnd) (the-sum (sheetOf d .next) n) ∙ true-of (leb (sheetOf d .next) idsEnd) (sound-in d w .inIds)) f);
+    }
   where
     the-sum : (a : ℕ) {b : ℕ} → b ≡ 0 → a + b ≡ a
     the-sum a e = omega arith
@@ -105,7 +113,8 @@ asked-still d w c p n f = record { passed = p; says = sym (ap₂ (λ (a b : Bool
 module _ (d : Drawing) (z : Sizes d) (w : T (soundDrawing d)) (c : Command) (r : ℕ) (a : Asked d c r) where
   seven-eight : firstNo (ofResult (result (sheetOf d) c)) ≡ r
   seven-eight =
-      ap₂ (λ (x y : Bool). cond x (cond y 0 8) 7) (ap (λ (n : ℕ). leb n idsEnd) (next-after (sheetOf d) c)) (sizes-after (sheetOf d) (sound-in d w) c (asked-six (sheetOf d) c (a .passed)))
+      ap₂ (λ (x y : Bool). cond x (cond y 0 8) 7) (ap (λ (n : ℕ). leb n idsEnd) (next-after (sheetOf d) c))
+      (sizes-after (sheetOf d) (sound-in d w) c (asked-six (sheetOf d) c (a .passed)))
       ∙ sym (a .says)
 
   pub answer : asked3 (sheetOf d) c ≡ answered (sheetOf d) (result (sheetOf d) c) r
@@ -126,14 +135,16 @@ module _ (d : Drawing) (z : Sizes d) (w : T (soundDrawing d)) (c : Command) (r :
     sizes-hold = yes .1
 
     -- room for the result
-    pub room : (p : ℕ → Bool) (f : ℕ → Figure → Figure) (new : List Figure) → result (sheetOf d) c ≡ rebuild p f new (sheetOf d) → RoomIn (remade p f (sheetOf d)) new
+    pub room : (p : ℕ → Bool) (f : ℕ → Figure → Figure) (new : List Figure) → result (sheetOf d) c ≡ rebuild p f new (sheetOf d)
+        → RoomIn (remade p f (sheetOf d)) new
     room p f new e =
         room-rebuilt p f new (sheetOf d)
         (subst (λ (s : Sheet). T (leb (s .next) idsEnd)) e ids-hold)
         (subst (λ (s : Sheet). T (ceilings (s .cells))) e sizes-hold)
 
     -- and for the cycles and the steps that come before others go
-    pub spare : (more less : Totals) → changeOf (sheetOf d) c ≡ moreLess (sizesBy more) (sizesBy less) → (cycleTotal d + more .cycles ≤ 512 + less .cycles) × (stepTotal d + more .steps ≤ 2048 + less .steps)
+    pub spare : (more less : Totals) → changeOf (sheetOf d) c ≡ moreLess (sizesBy more) (sizesBy less)
+        → (cycleTotal d + more .cycles ≤ 512 + less .cycles) × (stepTotal d + more .steps ≤ 2048 + less .steps)
     unfolding sizesAfter
     spare more less e =
         let z1 = changedBy (sizesOf (sheetOf d .cells)) (moreLess (sizesBy more) (sizesBy less)) in
@@ -186,7 +197,15 @@ module _ (d : Drawing) (z : Sizes d) (w : T (soundDrawing d)) (c : Command) (r :
           record {
             said =
                 ap saidBy e
-                ∙ ap₂ (λ (n k : ℕ). record { number = 0; first = cond (eqb (out .next - d .next) 0) 0 (d .next); new = out .next - d .next; removed = n + (out .next - d .next) - k; sheet = sheetOf out }) cells-before cells-after
+                ∙ ap₂ (λ (n k : ℕ). record {
+                  number = 0;
+                  first = cond (eqb
+                      (out .next - d .next) 0) 0 (d .next);
+                  new = out .next - d .next;
+                  removed = n + (out .next - d .next) - k;
+                  sheet = sheetOf out;
+                })
+                cells-before cells-after
                 ∙ sym (done-counts (sheetOf d) (sound-in d w) c (sheetOf out) m)
                 ∙ sym (answer ∙ ap (answered (sheetOf d) (result (sheetOf d) c)) y);
             back = λ w. absurd (w (ap (λ (a : Answer). a .number) e));

@@ -10,7 +10,8 @@ use lib.Dec.{T, eqb, leb, leb→le, le→leb}
 use Rattle.number.specs.Readers.{spread}
 use Rattle.coordinate.specs.declared.Position.{Position}
 use Rattle.complex.specs.Lists.{total, one}
-use Rattle.complex.specs.Cells.{Halfedge, Cycle, lone, path, Figure, vertex, openEdge, closedEdge, face, LiveCell, Sheet, isVertex, isEdge, cyclesOf, stepsOf, cellAt}
+use Rattle.complex.specs.Cells.{Halfedge, Cycle, lone, path, Figure, vertex, openEdge, closedEdge, face, LiveCell, Sheet, isVertex, isEdge, cyclesOf, stepsOf}
+use Rattle.complex.specs.Cells.{cellAt}
 use Rattle.complex.specs.Sound.{cellsMost, cyclesMost, stepsMost, bendsMost, stepCount, cyclesIn, stepsIn, bendsIn, over, ceilings}
 use Rattle.complex.specs.Decode.{Command, create, move, delete, glueVertices, glueEdges}
 use Rattle.complex.specs.Edits.{keepIds, rebuild, asItIs, rewiredCycle, rewired, sameVertex, others, inPlaceOf}
@@ -56,7 +57,8 @@ pub record Comes (lo hi : (Figure → ℕ) → ℕ) (d : Change) : Type 0 where
   pub steps : lo stepsIn + d .more .steps ≡ hi stepsIn + d .less .steps
   pub bends : lo bendsIn + d .more .bends ≡ hi bendsIn + d .less .bends
 
-pub sums-sizes : (s t : Sheet) (d : Change) (lo hi : (Figure → ℕ) → ℕ) → ((g : Figure → ℕ) → over g (t .cells) + lo g ≡ over g (s .cells) + hi g) → Comes lo hi d → sizesOf (t .cells) ≡ changedBy (sizesOf (s .cells)) d
+pub sums-sizes : (s t : Sheet) (d : Change) (lo hi : (Figure → ℕ) → ℕ) → ((g : Figure → ℕ) → over g (t .cells) + lo g ≡ over g (s .cells) + hi g)
+    → Comes lo hi d → sizesOf (t .cells) ≡ changedBy (sizesOf (s .cells)) d
 sums-sizes s t d lo hi h c =
     let a = h each in
     let b = h cyclesIn in
@@ -68,14 +70,16 @@ sums-sizes s t d lo hi h c =
 pub create-sizes : (s : Sheet) (x : Figure) → sizesOf (result s (create x) .cells) ≡ sizesAfter s (create x)
 unfolding result sizesAfter
 create-sizes s x =
-    sums-sizes s (result s (create x)) (changeOf s (create x)) (λ g. 0) (λ g. total g (one x)) (λ g. let a = over-added g (one x) s in omega arith) (omega arith)
+    sums-sizes s (result s (create x)) (changeOf s (create x)) (λ g. 0) (λ g. total g (one x)) (λ g. let a = over-added g (one x) s in omega arith)
+    (omega arith)
 
 -- ---- 05
 pub move-sizes : (s : Sheet) → Sound s → (v : ℕ) (p : Position) → Asked6 s (move v p) → sizesOf (result s (move v p) .cells) ≡ sizesAfter s (move v p)
 unfolding question4 result moved sizesAfter
 move-sizes s S v p q =
     let u = vertex-at s v (q .1) in
-    sums-sizes s (result s (move v p)) (changeOf s (move v p)) (λ g. g (vertex (u .0))) (λ g. g (vertex p)) (λ g. let a = over-changed g v (vertex p) (vertex (u .0)) [] s S (u .1) in omega arith) (omega arith)
+    sums-sizes s (result s (move v p)) (changeOf s (move v p)) (λ g. g (vertex (u .0))) (λ g. g (vertex p))
+    (λ g. let a = over-changed g v (vertex p) (vertex (u .0)) [] s S (u .1) in omega arith) (omega arith)
 
 -- ---- 06: no larger
 pub record NoLarger (y z : SheetSizes) : Type 0 where
@@ -91,7 +95,8 @@ fits-under y z l t =
     let c = both (leb (z .steps) stepsMost) (leb (z .bends) bendsMost) (b .1) in
     pair (leb (y .cells) cellsMost) _ (down (y .cells) (z .cells) cellsMost (a .0) (l .cells))
     (pair (leb (y .cycles) cyclesMost) _ (down (y .cycles) (z .cycles) cyclesMost (b .0) (l .cycles))
-    (pair (leb (y .steps) stepsMost) (leb (y .bends) bendsMost) (down (y .steps) (z .steps) stepsMost (c .0) (l .steps)) (down (y .bends) (z .bends) bendsMost (c .1) (l .bends))))
+    (pair (leb (y .steps) stepsMost) (leb (y .bends) bendsMost) (down (y .steps) (z .steps) stepsMost (c .0) (l .steps))
+    (down (y .bends) (z .bends) bendsMost (c .1) (l .bends))))
   where
     down : (m n k : ℕ) → T (leb n k) → m ≤ n → T (leb m k)
     down m n k t l = let a = leb→le n k t in le→leb m k (omega arith)
@@ -155,9 +160,11 @@ module _ (r : ℕ → ℕ) (σ : Halfedge → List Halfedge) where
     steps-rewired i (vertex p) = refl
     steps-rewired i (openEdge a b bs) = refl
     steps-rewired i (closedEdge bs) = refl
-    steps-rewired i (face ks) = total-by (rewiredCycle r σ) stepCount stepCount (λ (k : Cycle). total d (stepsOf k)) (λ (k : Cycle). total h (stepsOf k)) steps-cycle ks
+    steps-rewired i (face ks) = total-by (rewiredCycle r σ) stepCount stepCount (λ (k : Cycle). total d (stepsOf k))
+        (λ (k : Cycle). total h (stepsOf k)) steps-cycle ks
 
-    pub rewired-sizes : (s : Sheet) (p : ℕ → Bool) (us new : List Figure) → Without s p us → (c : Change) → Rewires s us new d h c → sizesOf (rebuild p (rewired r σ) new s .cells) ≡ changedBy (sizesOf (s .cells)) c
+    pub rewired-sizes : (s : Sheet) (p : ℕ → Bool) (us new : List Figure) → Without s p us → (c : Change) → Rewires s us new d h c
+        → sizesOf (rebuild p (rewired r σ) new s .cells) ≡ changedBy (sizesOf (s .cells)) c
     rewired-sizes s p us new w c k =
         let a = over-kept each (rewired r σ) (λ i t. refl) p new s in
         let b = over-kept cyclesIn (rewired r σ) cycles-rewired p new s in
@@ -185,19 +192,24 @@ none-used (c ∷ cs) = let a = none-used cs in let b = go (cyclesOf (some (c .fi
     go (k ∷ ks) = let a = total-zero (stepsOf k) in let b = go ks in omega arith
 
 -- ---- 07
-pub glue-sizes : (s : Sheet) → Sound s → (a b : ℕ) → Asked6 s (glueVertices a b) → sizesOf (result s (glueVertices a b) .cells) ≡ sizesAfter s (glueVertices a b)
+pub glue-sizes : (s : Sheet) → Sound s → (a b : ℕ) → Asked6 s (glueVertices a b)
+    → sizesOf (result s (glueVertices a b) .cells) ≡ sizesAfter s (glueVertices a b)
 unfolding question4 result gluedVertices sizesAfter
 glue-sizes s S a b q =
     let v = vertex-at s b (both (isVertex (cellAt s a)) (isVertex (cellAt s b)) (q .1) .1) in
-    rewired-sizes (renamed a b) one noStepMore noStepMore (λ h. refl) s (others b) (one (vertex (v .0))) [] (without-one b (vertex (v .0)) s S (v .1)) (changeOf s (glueVertices a b)) (omega arith)
+    rewired-sizes (renamed a b) one noStepMore noStepMore (λ h. refl) s (others b) (one (vertex (v .0))) [] (without-one b (vertex (v .0)) s S (v .1))
+    (changeOf s (glueVertices a b)) (omega arith)
 
 -- ---- 08
-pub glue-edges-sizes : (s : Sheet) → Sound s → (a b flag : ℕ) → Asked6 s (glueEdges a b flag) → sizesOf (result s (glueEdges a b flag) .cells) ≡ sizesAfter s (glueEdges a b flag)
+pub glue-edges-sizes : (s : Sheet) → Sound s → (a b flag : ℕ) → Asked6 s (glueEdges a b flag)
+    → sizesOf (result s (glueEdges a b flag) .cells) ≡ sizesAfter s (glueEdges a b flag)
 unfolding question4 result gluedEdges sizesAfter
 glue-edges-sizes s S a b flag q = go (cellAt s b) refl (both (isEdge (cellAt s a)) (isEdge (cellAt s b)) (q .1) .1)
   where
-    gone : (t : Figure) → cellAt s b ≡ some t → Rewires s (one t) [] noStepMore noStepMore (changeOf s (glueEdges a b flag)) → sizesOf (result s (glueEdges a b flag) .cells) ≡ sizesAfter s (glueEdges a b flag)
-    gone t e k = rewired-sizes sameVertex (inPlaceOf b a (eqb flag 1)) noStepMore noStepMore (λ h. refl) s (others b) (one t) [] (without-one b t s S e) (changeOf s (glueEdges a b flag)) k
+    gone : (t : Figure) → cellAt s b ≡ some t → Rewires s (one t) [] noStepMore noStepMore (changeOf s (glueEdges a b flag))
+        → sizesOf (result s (glueEdges a b flag) .cells) ≡ sizesAfter s (glueEdges a b flag)
+    gone t e k = rewired-sizes sameVertex (inPlaceOf b a (eqb flag 1)) noStepMore noStepMore (λ h. refl) s (others b) (one t) [] (without-one b t s S e)
+        (changeOf s (glueEdges a b flag)) k
 
     go : (o : Option Figure) → cellAt s b ≡ o → T (isEdge o) → sizesOf (result s (glueEdges a b flag) .cells) ≡ sizesAfter s (glueEdges a b flag)
     go none e k = absurd k
@@ -213,4 +225,5 @@ glue-fits s S a b q = rw (ap sizesFit (glue-sizes s S a b q)) (fits-under (sizes
 
 pub glue-edges-fits : (s : Sheet) → Sound s → (a b flag : ℕ) → Asked6 s (glueEdges a b flag) → T (ceilings (result s (glueEdges a b flag) .cells))
 unfolding sizesAfter
-glue-edges-fits s S a b flag q = rw (ap sizesFit (glue-edges-sizes s S a b flag q)) (fits-under (sizesAfter s (glueEdges a b flag)) (sizesOf (s .cells)) (omega arith) (S .fits))
+glue-edges-fits s S a b flag q = rw (ap sizesFit (glue-edges-sizes s S a b flag q))
+    (fits-under (sizesAfter s (glueEdges a b flag)) (sizesOf (s .cells)) (omega arith) (S .fits))

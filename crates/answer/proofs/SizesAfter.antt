@@ -37,7 +37,8 @@ cut-next s e q (some (openEdge a b bs)) = refl
 cut-next s e q (some (closedEdge bs)) = refl
 cut-next s e q (some (face ks)) = omega arith
 
-along-next : (s : Sheet) (f c1 s1 c2 s2 : ℕ) (bs : List Position) (ms : List ℕ) (b : Bool) → cond b (splitInTwo s f c1 s1 s2 bs ms (cyclesOf (cellAt s f))) (bridged s f c1 s1 c2 s2 bs (cyclesOf (cellAt s f))) .next ≡ s .next + cond b 2 1
+along-next : (s : Sheet) (f c1 s1 c2 s2 : ℕ) (bs : List Position) (ms : List ℕ) (b : Bool)
+    → cond b (splitInTwo s f c1 s1 s2 bs ms (cyclesOf (cellAt s f))) (bridged s f c1 s1 c2 s2 bs (cyclesOf (cellAt s f))) .next ≡ s .next + cond b 2 1
 along-next s f c1 s1 c2 s2 bs ms true = refl
 along-next s f c1 s1 c2 s2 bs ms false = refl
 
@@ -76,7 +77,8 @@ unchanged z =
 -- a delete's result fits, and so does the drawing it was handed
 delete-after : (s : Sheet) → Sound s → (i : ℕ) → ceilings (result s (delete i) .cells) ≡ sizesFit (sizesAfter s (delete i))
 unfolding sizesAfter
-delete-after s S i = true-of (ceilings (result s (delete i) .cells)) (delete-fits s S i) ∙ sym (true-of (ceilings (s .cells)) (S .fits)) ∙ ap sizesFit (unchanged (sizesOf (s .cells)))
+delete-after s S i = true-of (ceilings (result s (delete i) .cells)) (delete-fits s S i) ∙ sym (true-of (ceilings (s .cells)) (S .fits))
+    ∙ ap sizesFit (unchanged (sizesOf (s .cells)))
 
 pub sizes-after : (s : Sheet) → Sound s → (c : Command) → Asked6 s c → ceilings (result s c .cells) ≡ sizesFit (sizesAfter s c)
 sizes-after s S (create x) q = ap sizesFit (create-sizes s x)

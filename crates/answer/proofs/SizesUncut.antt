@@ -11,13 +11,15 @@ use lib.Dec.{T, eqb, leb}
 use borrow.Author.Tests.{ne-eqb, eqb-true, eqb-false, leb-true, leb-false}
 use Rattle.coordinate.specs.declared.Position.{Position}
 use Rattle.complex.specs.Lists.{total, one, without}
-use Rattle.complex.specs.Cells.{Halfedge, Cycle, lone, path, Figure, vertex, openEdge, closedEdge, face, Sheet, Look, isOpen, isClosed, isEdge, startOf, endOf, bendsOf, cyclesOf, positionOf, stepsOf, same, headOf, cellAt}
+use Rattle.complex.specs.Cells.{Halfedge, Cycle, lone, path, Figure, vertex, openEdge, closedEdge, face, Sheet, Look, isOpen, isClosed, isEdge, startOf, endOf}
+use Rattle.complex.specs.Cells.{bendsOf, cyclesOf, positionOf, stepsOf, same, headOf, cellAt}
 use Rattle.complex.specs.Sound.{Walk, cycleOk, stepCount, cyclesIn, stepsIn, bendsIn}
 use Rattle.complex.specs.Decode.{uncut}
 use Rattle.complex.specs.Edits.{sameVertex, inPlaceOf, others, neither}
 use Rattle.complex.specs.Uses.{endsAt, edgeUse, loneUse, usesBy, Use, usesOf}
 use Rattle.complex.specs.Cut.{noCycle, noStep}
-use Rattle.complex.specs.Uncut.{Uncut, lonely, loop, joint, twoFaces, oneCycle, rings, opposite, withoutLone, inOne, bendsAlong, joined, pathOr, cycleOfUse, following, followingTo, uncutCase, uncutResult, uncutAt}
+use Rattle.complex.specs.Uncut.{Uncut, lonely, loop, joint, twoFaces, oneCycle, rings, opposite, withoutLone, inOne, bendsAlong, joined, pathOr, cycleOfUse}
+use Rattle.complex.specs.Uncut.{following, followingTo, uncutCase, uncutResult, uncutAt}
 use Rattle.complex.specs.Commands.{result}
 use Rattle.answer.specs.Sizes.{sizesOf, newByUncut, newCells, changedBy, aloneLeft, cellBends, uncutChange, changeOf, sizesAfter}
 use Rattle.complex.proofs.Walks.{Ring, joins-cases}
@@ -57,11 +59,13 @@ ring-same look (h ∷ hs) m n r k l = sym (first m k) ∙ first n l
     first (suc j) l = same-eq h (getD hs j noStep) (all-getD (same h) hs j noStep (r .1) (omega arith))
 
 ring-one : (s : Sheet) → Sound s → (e : ℕ) → T (isClosed (cellAt s e)) → (x : Use) → Placed (cellAt s) e x
-    → ((j : ℕ) → j < length (cycleOfUse (cellAt s) x) → (j ≡ x .step → ⊥) → getD (cycleOfUse (cellAt s) x) j noStep .edge ≡ e → ⊥) → length (cycleOfUse (cellAt s) x) ≡ 1
+    → ((j : ℕ) → j < length (cycleOfUse (cellAt s) x) → (j ≡ x .step → ⊥) → getD (cycleOfUse (cellAt s) x) j noStep .edge ≡ e → ⊥)
+    → length (cycleOfUse (cellAt s) x) ≡ 1
 ring-one s S e c x r only = go (leb (length (cycleOfUse (cellAt s) x)) 1) refl
   where
     -- all its steps are of e
-    edges : (k : Cycle) → T (cycleOk (cellAt s) k) → x .step < length (stepsOf k) → getD (stepsOf k) (x .step) noStep .edge ≡ e → (j : ℕ) → j < length (stepsOf k) → getD (stepsOf k) j noStep .edge ≡ e
+    edges : (k : Cycle) → T (cycleOk (cellAt s) k) → x .step < length (stepsOf k) → getD (stepsOf k) (x .step) noStep .edge ≡ e → (j : ℕ)
+        → j < length (stepsOf k) → getD (stepsOf k) j noStep .edge ≡ e
     edges (lone v) t l z j m = absurd (omega arith)
     edges (path hs) t l z j m = elim (joins-cases (cellAt s) hs t) [
       | inl w ↦ absurd (apart (cellAt s e) c (subst (λ (i : ℕ). T (isOpen (cellAt s i))) z (walk-open (cellAt s) (w .1 .0) hs (w .1 .0) (x .step) (w .1 .1) l)))
@@ -70,7 +74,9 @@ ring-one s S e c x r only = go (leb (length (cycleOfUse (cellAt s) x)) 1) refl
 
     of-e : (j : ℕ) → j < length (cycleOfUse (cellAt s) x) → getD (cycleOfUse (cellAt s) x) j noStep .edge ≡ e
     of-e =
-        edges (getD (cyclesOf (cellAt s (x .face))) (x .cycle) noCycle) (all-getD (cycleOk (cellAt s)) (cyclesOf (cellAt s (x .face))) (x .cycle) noCycle (S .figures (x .face) (face (cyclesOf (cellAt s (x .face)))) (r .0)) (r .1))
+        edges (getD (cyclesOf (cellAt s (x .face))) (x .cycle) noCycle)
+        (all-getD (cycleOk (cellAt s)) (cyclesOf (cellAt s (x .face))) (x .cycle) noCycle
+        (S .figures (x .face) (face (cyclesOf (cellAt s (x .face)))) (r .0)) (r .1))
         (r .2) (ap (λ (h : Halfedge). h .edge) (r .3) ∙ r .4)
 
     other : 1 < length (cycleOfUse (cellAt s) x) → (b : Bool) → eqb (x .step) 0 ≡ b → ⊥
@@ -89,16 +95,20 @@ along-length look h = go (h .backward)
     go true = length-reverse (bendsOf (look (h .edge)))
     go false = refl
 
-joined-counts : (look : Look) (p : Position) (x y : Halfedge) → (cyclesIn (joined look p x y) ≡ 0) × (stepsIn (joined look p x y) ≡ 0) × (bendsIn (joined look p x y) ≡ cellBends (look (x .edge)) + cellBends (look (y .edge)) + 1)
+joined-counts : (look : Look) (p : Position) (x y : Halfedge)
+    → (cyclesIn (joined look p x y) ≡ 0) × (stepsIn (joined look p x y) ≡ 0)
+    × (bendsIn (joined look p x y) ≡ cellBends (look (x .edge)) + cellBends (look (y .edge)) + 1)
 joined-counts look p x y = go (x .backward)
   where
     bs : List Position
     bs = bendsAlong look y
 
-    go : (b : Bool) → let t = cond b (openEdge (startOf (look (x .edge))) (headOf look y) (bendsOf (look (x .edge)) ++ (p ∷ bs))) (openEdge (headOf look y) (endOf (look (x .edge))) (reverse bs ++ (p ∷ bendsOf (look (x .edge))))) in
+    go : (b : Bool) → let t = cond b (openEdge (startOf (look (x .edge))) (headOf look y) (bendsOf (look (x .edge)) ++ (p ∷ bs)))
+        (openEdge (headOf look y) (endOf (look (x .edge))) (reverse bs ++ (p ∷ bendsOf (look (x .edge))))) in
         (cyclesIn t ≡ 0) × (stepsIn t ≡ 0) × (bendsIn t ≡ cellBends (look (x .edge)) + cellBends (look (y .edge)) + 1)
     go true = let a = length-append (bendsOf (look (x .edge))) (p ∷ bs) in let b = along-length look y in (refl, refl, omega arith)
-    go false = let a = length-append (reverse bs) (p ∷ bendsOf (look (x .edge))) in let b = along-length look y in let c = length-reverse bs in (refl, refl, omega arith)
+    go false = let a = length-append (reverse bs) (p ∷ bendsOf (look (x .edge))) in let b = along-length look y in let c = length-reverse bs in
+        (refl, refl, omega arith)
 
 -- a step of b goes
 one-fair : (a b n : ℕ) (h : Halfedge) → length (inOne a b n h) + edgeUse b h ≡ 1 + 0
@@ -139,7 +149,8 @@ module _ (s : Sheet) (S : Sound s) (i : ℕ) where
       bends j (closedEdge bs) = refl
       bends j (face ks) = refl
 
-  two-sizes : (a b : ℕ) (bs : List Position) → cellAt s i ≡ some (openEdge a b bs) → (u w : Use) → usesOf (s .cells) i ≡ u ∷ w ∷ [] → T (opposite u w) → (u .face ≡ w .face → ⊥) → Right (twoFaces u w)
+  two-sizes : (a b : ℕ) (bs : List Position) → cellAt s i ≡ some (openEdge a b bs) → (u w : Use) → usesOf (s .cells) i ≡ u ∷ w ∷ []
+      → T (opposite u w) → (u .face ≡ w .face → ⊥) → Right (twoFaces u w)
   two-sizes a b bs at u w q k n =
       let E : T (isEdge (cellAt s i)) = rw at tt in
       let ru = placed-use (cellAt s) i u (real-u s S i E u w q) in
@@ -161,9 +172,11 @@ module _ (s : Sheet) (S : Sound s) (i : ℕ) where
       let s9 : length left ≡ length (cycleOfUse (cellAt s) u) + length (cycleOfUse (cellAt s) w) - 2 = omega arith in
       let s10 = left-count (headOf (cellAt s) (u .halfedge)) left ∙ ap (λ (x : ℕ). length left + aloneLeft x) s9 in
       let z = ap cellBends at in
-      sums-sizes s (uncutResult s i (twoFaces u w)) (uncutChange s i (twoFaces u w)) (λ g. g (face ks1) + g (face ks2) + g (openEdge a b bs)) (λ g. g (face ks′)) (λ g. let h = two-less s S i u w q E k n g (openEdge a b bs) at ks′ in omega arith) (omega arith)
+      sums-sizes s (uncutResult s i (twoFaces u w)) (uncutChange s i (twoFaces u w)) (λ g. g (face ks1) + g (face ks2) + g (openEdge a b bs))
+      (λ g. g (face ks′)) (λ g. let h = two-less s S i u w q E k n g (openEdge a b bs) at ks′ in omega arith) (omega arith)
 
-  ring-sizes : (bs : List Position) → cellAt s i ≡ some (closedEdge bs) → (u w : Use) → usesOf (s .cells) i ≡ u ∷ w ∷ [] → T (opposite u w) → (u .face ≡ w .face → ⊥) → Right (rings u w)
+  ring-sizes : (bs : List Position) → cellAt s i ≡ some (closedEdge bs) → (u w : Use) → usesOf (s .cells) i ≡ u ∷ w ∷ []
+      → T (opposite u w) → (u .face ≡ w .face → ⊥) → Right (rings u w)
   ring-sizes bs at u w q k n =
       let E : T (isEdge (cellAt s i)) = rw at tt in
       let C : T (isClosed (cellAt s i)) = rw at tt in
@@ -181,9 +194,11 @@ module _ (s : Sheet) (S : Sound s) (i : ℕ) where
       let s6 = ring-one s S i C u ru (u-only s S i u w q E k n) in
       let s7 = ring-one s S i C w rw′ (w-only s S i u w q E k n) in
       let z = ap cellBends at in
-      sums-sizes s (uncutResult s i (rings u w)) (uncutChange s i (rings u w)) (λ g. g (face ks1) + g (face ks2) + g (closedEdge bs)) (λ g. g (face ks′)) (λ g. let h = two-less s S i u w q E k n g (closedEdge bs) at ks′ in omega arith) (omega arith)
+      sums-sizes s (uncutResult s i (rings u w)) (uncutChange s i (rings u w)) (λ g. g (face ks1) + g (face ks2) + g (closedEdge bs)) (λ g. g (face ks′))
+      (λ g. let h = two-less s S i u w q E k n g (closedEdge bs) at ks′ in omega arith) (omega arith)
 
-  one-sizes : (a b : ℕ) (bs : List Position) → cellAt s i ≡ some (openEdge a b bs) → (u w : Use) → Placed (cellAt s) i u → Placed (cellAt s) i w → Only s i u w → T (opposite u w) → u .face ≡ w .face → u .cycle ≡ w .cycle → Right (oneCycle u w)
+  one-sizes : (a b : ℕ) (bs : List Position) → cellAt s i ≡ some (openEdge a b bs) → (u w : Use) → Placed (cellAt s) i u → Placed (cellAt s) i w
+      → Only s i u w → T (opposite u w) → u .face ≡ w .face → u .cycle ≡ w .cycle → Right (oneCycle u w)
   one-sizes a b bs at u w ru rw′ L k ef ec =
       let E : T (isEdge (cellAt s i)) = rw at tt in
       let o : T (isOpen (cellAt s i)) = rw at tt in
@@ -203,9 +218,11 @@ module _ (s : Sheet) (S : Sound s) (i : ℕ) where
       let s4 = stretches-length hs (u .step) (w .step) (ru .2) lw d in
       let s5 = ap length (Y-is s S i E o u w ru rw′ L k ef ec) in
       let s6 = left-count (headOf (cellAt s) (u .halfedge)) X ∙ ap (λ (n : ℕ). length X + aloneLeft n) (stretch-length hs (u .step) (w .step) (ru .2) lw d) in
-      let s7 = left-count (headOf (cellAt s) (w .halfedge)) Y ∙ ap (λ (n : ℕ). length Y + aloneLeft n) (s5 ∙ stretch-length hs (w .step) (u .step) lw (ru .2) (λ z. d (sym z))) in
+      let s7 = left-count (headOf (cellAt s) (w .halfedge)) Y
+      ∙ ap (λ (n : ℕ). length Y + aloneLeft n) (s5 ∙ stretch-length hs (w .step) (u .step) lw (ru .2) (λ z. d (sym z))) in
       let z = ap cellBends at in
-      sums-sizes s (uncutResult s i (oneCycle u w)) (uncutChange s i (oneCycle u w)) (λ g. g (face ks) + g (openEdge a b bs)) (λ g. g (face ks′)) (λ g. let h = one-less s S i E o u w ru rw′ L k ef ec g (openEdge a b bs) at in omega arith) (omega arith)
+      sums-sizes s (uncutResult s i (oneCycle u w)) (uncutChange s i (oneCycle u w)) (λ g. g (face ks) + g (openEdge a b bs)) (λ g. g (face ks′))
+      (λ g. let h = one-less s S i E o u w ru rw′ L k ef ec g (openEdge a b bs) at in omega arith) (omega arith)
 
   case-sizes : (c : Uncut) → Holds s i c → Right c
   case-sizes c (is-lonely p at e n) = lonely-sizes p at e n
@@ -214,7 +231,8 @@ module _ (s : Sheet) (S : Sound s) (i : ℕ) where
       let t = openEdge (o .0) (o .1) (o .2) in
       let b = ap cellBends (o .3) in
       rewired-sizes sameVertex (inPlaceOf (x .edge) (s .next) false) noStepMore noStepMore (λ h. refl) s (neither i (x .edge)) (vertex p ∷ t ∷ [])
-      (closedEdge (positionOf (cellAt s i) ∷ bendsOf (cellAt s (x .edge))) ∷ []) (loop-gone s S i p at x y e n k z t (o .3)) (uncutChange s i (loop (x .edge))) (omega arith)
+      (closedEdge (positionOf (cellAt s i) ∷ bendsOf (cellAt s (x .edge))) ∷ []) (loop-gone s S i p at x y e n k z t (o .3)) (uncutChange s i (loop (x .edge)))
+      (omega arith)
   case-sizes c (is-joint p at x y e n k z) =
       let o = open-at (cellAt s) (x .edge) (real-ends s S i p at x y e n .0 .0) in
       let o′ = open-at (cellAt s) (y .edge) (real-ends s S i p at x y e n .1 .0 .0) in
@@ -224,7 +242,8 @@ module _ (s : Sheet) (S : Sound s) (i : ℕ) where
       let b = ap cellBends (o .3) in
       let b′ = ap cellBends (o′ .3) in
       let d = none-used (s .cells) in
-      rewired-sizes sameVertex (inOne (x .edge) (y .edge) (s .next)) (edgeUse (y .edge)) noStepMore (one-fair (x .edge) (y .edge) (s .next)) s (λ (m : ℕ). others i m && neither (x .edge) (y .edge) m) (vertex p ∷ t ∷ t′ ∷ [])
+      rewired-sizes sameVertex (inOne (x .edge) (y .edge) (s .next)) (edgeUse (y .edge)) noStepMore (one-fair (x .edge) (y .edge) (s .next)) s
+      (λ (m : ℕ). others i m && neither (x .edge) (y .edge) m) (vertex p ∷ t ∷ t′ ∷ [])
       (joined (cellAt s) (positionOf (cellAt s i)) x y ∷ []) (joint-gone s S i p at x y e n k z t t′ (o .3) (o′ .3)) (uncutChange s i (joint x y)) (omega arith)
   case-sizes c (is-two a b bs at u w q k n) = two-sizes a b bs at u w q k n
   case-sizes c (is-one a b bs at u w ru rw′ L k ef ec) = one-sizes a b bs at u w ru rw′ L k ef ec

@@ -44,7 +44,8 @@ pub record Copied (s r : Sheet) (n : ℕ) (t : Figure) : Type 0 where
   pub steps : over stepsIn (r .cells) ≡ over stepsIn (s .cells) + n * stepsIn t
   pub bends : over bendsIn (r .cells) ≡ over bendsIn (s .cells) + n * bendsIn t
 
-copied-sizes : (s r : Sheet) (n : ℕ) (t : Figure) → T (isVertexOrEdge (some t)) → Copied s r n t → sizesOf (r .cells) ≡ changedBy (sizesOf (s .cells)) (unglueChange n (some t))
+copied-sizes : (s r : Sheet) (n : ℕ) (t : Figure) → T (isVertexOrEdge (some t)) → Copied s r n t
+    → sizesOf (r .cells) ≡ changedBy (sizesOf (s .cells)) (unglueChange n (some t))
 copied-sizes s r n (vertex p) k c = shifts-sizes s r (unglueChange n (some (vertex p))) (omega arith)
 copied-sizes s r n (openEdge a b bs) k c = shifts-sizes s r (unglueChange n (some (openEdge a b bs))) (omega arith)
 copied-sizes s r n (closedEdge bs) k c = shifts-sizes s r (unglueChange n (some (closedEdge bs))) (omega arith)
@@ -55,9 +56,17 @@ module _ (s : Sheet) (S : Sound s) (i : ℕ) where
       → Copied s (rebuild everyId (onUses uses f 0 (s .cells)) (replicate (usesBy uses (s .cells) - 1) t) s) (usesBy uses (s .cells) - 1) t
   edge-copied t at uses f same =
       let over′ = uses-over uses f s S i t at in
-      record { cells = over′ each (λ n ks. refl); cycles = over′ cyclesIn (length-counting uses f); steps = over′ stepsIn (total-counting uses f stepCount same); bends = over′ bendsIn (λ n ks. refl) }
+      record {
+        cells = over′ each (λ n ks. refl);
+        cycles = over′ cyclesIn (length-counting uses f);
+        steps = over′ stepsIn (total-counting uses f stepCount
+            same);
+        bends = over′ bendsIn (λ n ks. refl);
+      }
 
-  vertex-copied : (p : Position) → cellAt s i ≡ some (vertex p) → Copied s (rebuild everyId (ungluing s i (some (vertex p))) (copies (parts (s .cells) i (some (vertex p))) (some (vertex p))) s) (parts (s .cells) i (some (vertex p)) - 1) (vertex p)
+  vertex-copied : (p : Position) → cellAt s i ≡ some (vertex p)
+      → Copied s (rebuild everyId (ungluing s i (some (vertex p))) (copies (parts (s .cells) i (some (vertex p))) (some (vertex p))) s)
+      (parts (s .cells) i (some (vertex p)) - 1) (vertex p)
   vertex-copied p at =
       let over′ = ends-over s S i p at in
       record { cells = over′ each (λ j t. refl); cycles = over′ cyclesIn cycles; steps = over′ stepsIn steps; bends = over′ bendsIn bends }
@@ -86,11 +95,15 @@ module _ (s : Sheet) (S : Sound s) (i : ℕ) where
       bends j (closedEdge bs) = refl
       bends j (face ks) = refl
 
-  part-sizes : (o : Option Figure) → cellAt s i ≡ o → T (isVertexOrEdge o) → sizesOf (rebuild everyId (ungluing s i o) (copies (parts (s .cells) i o) o) s .cells) ≡ changedBy (sizesOf (s .cells)) (unglueChange (parts (s .cells) i o - 1) o)
+  part-sizes : (o : Option Figure) → cellAt s i ≡ o → T (isVertexOrEdge o)
+      → sizesOf (rebuild everyId (ungluing s i o) (copies (parts (s .cells) i o) o) s .cells)
+      ≡ changedBy (sizesOf (s .cells)) (unglueChange (parts (s .cells) i o - 1) o)
   part-sizes none at k = absurd k
   part-sizes (some (vertex p)) at k = copied-sizes s _ _ (vertex p) tt (vertex-copied p at)
-  part-sizes (some (openEdge a b bs)) at k = copied-sizes s _ _ (openEdge a b bs) tt (edge-copied (openEdge a b bs) at (stepUse i) (newPath i (s .next)) (steps-path i (s .next)))
-  part-sizes (some (closedEdge bs)) at k = copied-sizes s _ _ (closedEdge bs) tt (edge-copied (closedEdge bs) at (ringUse i) (newRing i (s .next)) (steps-ring i (s .next)))
+  part-sizes (some (openEdge a b bs)) at k = copied-sizes s _ _ (openEdge a b bs) tt
+      (edge-copied (openEdge a b bs) at (stepUse i) (newPath i (s .next)) (steps-path i (s .next)))
+  part-sizes (some (closedEdge bs)) at k = copied-sizes s _ _ (closedEdge bs) tt
+      (edge-copied (closedEdge bs) at (ringUse i) (newRing i (s .next)) (steps-ring i (s .next)))
   part-sizes (some (face ks)) at k = absurd k
 
   pub unglue-sizes : Asked6 s (unglue i) → sizesOf (result s (unglue i) .cells) ≡ sizesAfter s (unglue i)

@@ -47,7 +47,8 @@ module _ (d : Drawing) (x : Figure) where
   result-is = sym (appended-rebuild (sheetOf d) x)
 
 -- ---- what is known where `cell_no` has answered r
-module _ (d : Drawing) (z : Sizes d) (w : T (soundDrawing d)) (x : Figure) (p : Passed (sheetOf d) (create x)) (ix : Index) (ex : Indexes d ix) (t : Totals) (et : t ≡ totalsIn d z (sound-fits d w) ix ex) (r : ℕ)
+module _ (d : Drawing) (z : Sizes d) (w : T (soundDrawing d)) (x : Figure) (p : Passed (sheetOf d) (create x)) (ix : Index) (ex : Indexes d ix) (t : Totals)
+    (et : t ≡ totalsIn d z (sound-fits d w) ix ex) (r : ℕ)
     (er : r ≡ lateNo (d .next) 1 (changedBy (sizesBy t) (moreLess (sized 1 (cyclesIn x) (stepsIn x) (bendsIn x)) nothing))) where
   asked : Asked d (create x) r
   asked =
@@ -92,7 +93,8 @@ unfolding question4 question5 question6
 vertex-passed d p e = record { bytes = early-one (create (vertex p)) p refl e; four = refl; five = refl; six = refl }
 
 -- ---- 02 and 03: the bends are read from a script
-pub no-by-bends : (next : ℕ) (t : Totals) (r n : ℕ) (bs : List Position) → length bs ≡ n → r ≡ lateNo next 1 (changedBy (sizesBy t) (moreLess (sized 1 0 0 n) nothing))
+pub no-by-bends : (next : ℕ) (t : Totals) (r n : ℕ) (bs : List Position) → length bs ≡ n
+    → r ≡ lateNo next 1 (changedBy (sizesBy t) (moreLess (sized 1 0 0 n) nothing))
     → r ≡ lateNo next 1 (changedBy (sizesBy t) (moreLess (sized 1 0 0 (length bs)) nothing))
 no-by-bends next t r n bs e q = q ∙ ap (λ (k : ℕ). lateNo next 1 (changedBy (sizesBy t) (moreLess (sized 1 0 0 k) nothing))) (sym e)
 
@@ -101,11 +103,13 @@ module _ (d : Drawing) (a b : ℕ) (bs : List Position) where
   unfolding question4
   open-four-start e = rw e
 
-  pub open-four-end : isVertex (cellAt (sheetOf d) a) ≡ true → isVertex (cellAt (sheetOf d) b) ≡ false → question4 (sheetOf d) (create (openEdge a b bs)) ≡ false
+  pub open-four-end : isVertex (cellAt (sheetOf d) a) ≡ true → isVertex (cellAt (sheetOf d) b) ≡ false
+      → question4 (sheetOf d) (create (openEdge a b bs)) ≡ false
   unfolding question4
   open-four-end e f = rw (e, f)
 
-  pub open-passed : all within bs ≡ true → isVertex (cellAt (sheetOf d) a) ≡ true → isVertex (cellAt (sheetOf d) b) ≡ true → Passed (sheetOf d) (create (openEdge a b bs))
+  pub open-passed : all within bs ≡ true → isVertex (cellAt (sheetOf d) a) ≡ true → isVertex (cellAt (sheetOf d) b) ≡ true
+      → Passed (sheetOf d) (create (openEdge a b bs))
   unfolding question4 question5 question6
   open-passed g e f = record { bytes = early-bends (create (openEdge a b bs)) g; four = rw (e, f); five = refl; six = refl }
 

@@ -31,7 +31,8 @@ use Rattle.rows_split.proofs.Places.{place-room, place-cycle}
 use Rattle.ask_cut_along.specs.Corners.{cornerOn, cornerAt, loneCount, movedFit}
 
 -- ---- a cycle in the arrays, and its corners
-module _ (look : Look) (ix : Index) (n : ℕ) (o : (i : ℕ) → eqb (valueAt 4 (take n (ix .ids)) (take n (ix .kinds)) i) 1 ≡ isOpen (look i)) (steps : List ℕ) (z : length steps ≡ 2048) (at s : ℕ) where
+module _ (look : Look) (ix : Index) (n : ℕ) (o : (i : ℕ) → eqb (valueAt 4 (take n (ix .ids)) (take n (ix .kinds)) i) 1 ≡ isOpen (look i)) (steps : List ℕ)
+    (z : length steps ≡ 2048) (at s : ℕ) where
   module _ (m : ℕ) (h : at + suc m ≤ 2048) where
     abbrev hs : List Halfedge
     hs = map halfedgeOf (take (suc m) (drop at steps))
@@ -67,7 +68,8 @@ lone-small cycles t c = go (eqb (getD cycles (t .cycles .first + c) 0) 0)
     go true = omega arith
     go false = omega arith
 
-pub is-lone : (cycles : List ℕ) (t : Spans) (c i : ℕ) → i ≡ c → (b : Bool) → eqb (getD cycles (t .cycles .first + i) 0) 0 ≡ b → cond b 1 0 ≡ loneCount cycles t c
+pub is-lone : (cycles : List ℕ) (t : Spans) (c i : ℕ) → i ≡ c → (b : Bool) → eqb (getD cycles (t .cycles .first + i) 0) 0 ≡ b
+    → cond b 1 0 ≡ loneCount cycles t c
 is-lone cycles t c i e b eb = ap (λ (q : Bool). cond q 1 0) (sym eb) ∙ ap (loneCount cycles t) e
 
 module _ (cycles steps : List ℕ) (t : Spans) (c i : ℕ) (e : i ≡ c) (ix : Index) (n : ℕ) where
@@ -88,7 +90,8 @@ module _ (cycles steps : List ℕ) (t : Spans) (c i : ℕ) (e : i ≡ c) (ix : I
       pub corner-at : (k : ℕ) (b : Bool) → b ≡ cornerIn ix n (getD cycles (t .cycles .first + i) 0) steps at k → b ≡ cornerAt ix n cycles steps t c k
       corner-at k b eb =
           eb ∙ ap (λ (a : ℕ). cornerIn ix n (getD cycles (t .cycles .first + i) 0) steps a k) ea
-          ∙ ap (λ (q : Bool). q && cornerIn ix n (getD cycles (t .cycles .first + i) 0) steps (t .steps .first + widthSum (take i (drop (t .cycles .first) cycles))) k) (sym (lt-ltb i (t .cycles .count) h))
+          ∙ ap (λ (q : Bool). q && cornerIn ix n (getD cycles (t .cycles .first + i) 0) steps
+          (t .steps .first + widthSum (take i (drop (t .cycles .first) cycles))) k) (sym (lt-ltb i (t .cycles .count) h))
           ∙ ap (λ (a : ℕ). cornerAt ix n cycles steps t a k) e
 
 -- ---- of a face
@@ -114,7 +117,8 @@ module _ (d : Drawing) (z : Sizes d) (ix : Index) (f : ℕ) (m : Named d ix f) w
     many-cycles : length ks ≡ t .cycles .count
     many-cycles = sym (ap length (s .list)) ∙ at-length (d .cycles) (d .steps) t (s .within)
 
-    cycle-is : (c : ℕ) → c < t .cycles .count → getD ks c noCycle ≡ cycleOf (getD (d .cycles) (t .cycles .first + c) 0) (drop (t .steps .first + widthSum (take c (drop (t .cycles .first) (d .cycles)))) (d .steps))
+    cycle-is : (c : ℕ) → c < t .cycles .count → getD ks c noCycle
+        ≡ cycleOf (getD (d .cycles) (t .cycles .first + c) 0) (drop (t .steps .first + widthSum (take c (drop (t .cycles .first) (d .cycles)))) (d .steps))
     cycle-is c h = ap (λ (l : List Cycle). getD l c noCycle) (sym (s .list)) ∙ place-cycle (d .cycles) (d .steps) t (s .within) c h
 
     pub corner-told : (c k : ℕ) (b : Bool) → b ≡ cornerAt ix (d .count) (d .cycles) (d .steps) t c k → b ≡ cornerOn look ks c k
@@ -146,7 +150,8 @@ module _ (script : List ℕ) (place moved : ℕ) (s : Stand readNumber script pl
   ms = numbersRead script place moved
 
   pub none-moved : eqb c1 c2 ≡ false → eqb moved 0 ≡ movedFit k c1 c2 ms
-  none-moved e = ap (λ (n : ℕ). eqb n 0) (sym (times-length readNumber moved (drop place script) (drop (s .end) script) ms (s .reach .read))) ∙ sym (empty-is ms) ∙ rw e
+  none-moved e = ap (λ (n : ℕ). eqb n 0) (sym (times-length readNumber moved (drop place script) (drop (s .end) script) ms (s .reach .read)))
+      ∙ sym (empty-is ms) ∙ rw e
 
   pub not-rising : eqb c1 c2 ≡ true → places 0 ms k ≡ false → false ≡ movedFit k c1 c2 ms
   not-rising e g = rw (e, g)
@@ -157,7 +162,8 @@ module _ (script : List ℕ) (place moved : ℕ) (s : Stand readNumber script pl
 -- ---- question 5 in parts
 module _ (look : Look) (ks : List Cycle) (c1 s1 c2 s2 : ℕ) (ms : List ℕ) where
   corners-parts : cutCorners look ks c1 s1 c2 s2 ms ≡ (cornerOn look ks c1 s1 && (cornerOn look ks c2 s2 && movedFit (length ks) c1 c2 ms))
-  corners-parts = go (ltb c1 (length ks)) (ltb c2 (length ks)) (cornerExists look (getD ks c1 noCycle) s1) (cornerExists look (getD ks c2 noCycle) s2) (movedFit (length ks) c1 c2 ms)
+  corners-parts = go (ltb c1 (length ks)) (ltb c2 (length ks)) (cornerExists look (getD ks c1 noCycle) s1) (cornerExists look (getD ks c2 noCycle) s2)
+      (movedFit (length ks) c1 c2 ms)
     where
       go : (a b x y p : Bool) → (a && (b && (x && (y && p)))) ≡ ((a && x) && ((b && y) && p))
       go false b x y p = refl

@@ -85,7 +85,8 @@ module _ (s : Sheet) (f c1 s1 c2 s2 : ℕ) (bs : List Position) (ms : List ℕ) 
     unfolding newCells
     two-new = rw e
 
-    two-change : (b n m : ℕ) → length bs ≡ b → n ≡ aloneIn (getD ks c1 noCycle) → m ≡ aloneIn (getD ks c2 noCycle) → changeOf s cut ≡ moreLess (sized 1 0 2 b) (sized 0 1 (n + m) 0)
+    two-change : (b n m : ℕ) → length bs ≡ b → n ≡ aloneIn (getD ks c1 noCycle) → m ≡ aloneIn (getD ks c2 noCycle)
+        → changeOf s cut ≡ moreLess (sized 1 0 2 b) (sized 0 1 (n + m) 0)
     unfolding changeOf
     two-change b n m eb en em =
         ap (λ (q : Bool). alongChange q (getD ks c1 noCycle) (getD ks c2 noCycle) (length bs)) e
@@ -102,8 +103,10 @@ unfolding result faceCutAlong
 one-result s f c s1 s2 bs ms = rw (eq-eqb c c refl)
 
 -- ---- questions 3 to 6 got a yes; what is asked next, and the room that a yes leaves
-module _ (d : Drawing) (z : Sizes d) (ix : Index) (script : List ℕ) (f c1 s1 c2 s2 bends first moved place : ℕ) (a : Along d ix script f c1 s1 c2 s2 bends first moved place)
-    (q : all within (positionsAt script first bends) ≡ true) (t : Totals) (et : t ≡ totalsIn d z (sound-fits d (a .sound)) ix (a .named .index)) (b : ℕ) (eb : b ≡ bends) (r : ℕ) where
+module _ (d : Drawing) (z : Sizes d) (ix : Index) (script : List ℕ) (f c1 s1 c2 s2 bends first moved place : ℕ)
+    (a : Along d ix script f c1 s1 c2 s2 bends first moved place)
+    (q : all within (positionsAt script first bends) ≡ true) (t : Totals) (et : t ≡ totalsIn d z (sound-fits d (a .sound)) ix (a .named .index)) (b : ℕ)
+    (eb : b ≡ bends) (r : ℕ) where
   abbrev bs : List Position
   bs = positionsAt script first bends
 
@@ -119,7 +122,8 @@ module _ (d : Drawing) (z : Sizes d) (ix : Index) (script : List ℕ) (f c1 s1 c
   many : length bs ≡ b
   many = positions-length script first bends ∙ sym eb
 
-  pub one-asked : eqb c1 c2 ≡ true → (n : ℕ) → n ≡ aloneIn (getD (cyclesOf (cellAt (sheetOf d) f)) c1 noCycle) → r ≡ lateNo (d .next) 2 (changedBy (sizesBy t) (moreLess (sized 2 1 2 b) (sized 0 0 n 0))) → asks
+  pub one-asked : eqb c1 c2 ≡ true → (n : ℕ) → n ≡ aloneIn (getD (cyclesOf (cellAt (sheetOf d) f)) c1 noCycle)
+      → r ≡ lateNo (d .next) 2 (changedBy (sizesBy t) (moreLess (sized 2 1 2 b) (sized 0 0 n 0))) → asks
   one-asked e n en er =
       asked-of d z (a .sound) (cutFaceOpen f c1 s1 c2 s2 bs ms) r
       (record {
@@ -136,7 +140,8 @@ module _ (d : Drawing) (z : Sizes d) (ix : Index) (script : List ℕ) (f c1 s1 c
         says = er;
       })
 
-  pub two-asked : eqb c1 c2 ≡ false → (n m : ℕ) → n ≡ aloneIn (getD (cyclesOf (cellAt (sheetOf d) f)) c1 noCycle) → m ≡ aloneIn (getD (cyclesOf (cellAt (sheetOf d) f)) c2 noCycle)
+  pub two-asked : eqb c1 c2 ≡ false → (n m : ℕ) → n ≡ aloneIn (getD (cyclesOf (cellAt (sheetOf d) f)) c1 noCycle)
+      → m ≡ aloneIn (getD (cyclesOf (cellAt (sheetOf d) f)) c2 noCycle)
       → r ≡ lateNo (d .next) 1 (changedBy (sizesBy t) (moreLess (sized 1 0 2 b) (sized 0 1 (n + m) 0))) → asks
   two-asked e n m en em er =
       asked-of d z (a .sound) (cutFaceOpen f c1 s1 c2 s2 bs ms) r
@@ -161,10 +166,18 @@ module _ (d : Drawing) (z : Sizes d) (ix : Index) (script : List ℕ) (f bends f
   abbrev ms′ : List ℕ
   ms′ = numbersRead script place moved
 
-  pub halves : (c s1 s2 : ℕ) (a : Along d ix script f c s1 c s2 bends first moved place) (r : ℕ) → Asked d (cutFaceOpen f c s1 c s2 bs′ ms′) r → r ≡ 0 → Halves d ix script f c s1 s2 bends first moved place
-  halves c s1 s2 a r k y = record { asked = a; room = room d z (a .sound) (cutFaceOpen f c s1 c s2 bs′ ms′) r k y everyId _ _ (one-result (sheetOf d) f c s1 s2 bs′ ms′) }
+  pub halves : (c s1 s2 : ℕ) (a : Along d ix script f c s1 c s2 bends first moved place) (r : ℕ) → Asked d (cutFaceOpen f c s1 c s2 bs′ ms′) r → r ≡ 0
+      → Halves d ix script f c s1 s2 bends first moved place
+  halves c s1 s2 a r k y =
+      record { asked = a; room = room d z (a .sound) (cutFaceOpen f c s1 c s2 bs′ ms′) r k y everyId _ _ (one-result (sheetOf d) f c s1 s2 bs′ ms′) }
 
-  pub bridged : (c1 s1 c2 s2 : ℕ) (a : Along d ix script f c1 s1 c2 s2 bends first moved place) (e : eqb c1 c2 ≡ false) (r : ℕ) → Asked d (cutFaceOpen f c1 s1 c2 s2 bs′ ms′) r → r ≡ 0
+  pub bridged : (c1 s1 c2 s2 : ℕ) (a : Along d ix script f c1 s1 c2 s2 bends first moved place) (e : eqb c1 c2 ≡ false) (r : ℕ)
+      → Asked d (cutFaceOpen f c1 s1 c2 s2 bs′ ms′) r → r ≡ 0
       → Bridged d ix script f c1 s1 c2 s2 bends first moved place
   bridged c1 s1 c2 s2 a e r k y =
-      record { asked = a; apart = e; room = room d z (a .sound) (cutFaceOpen f c1 s1 c2 s2 bs′ ms′) r k y everyId _ _ (two-result (sheetOf d) f c1 s1 c2 s2 bs′ ms′ e) }
+      record {
+        asked = a;
+        apart = e;
+        room = room d z (a .sound) (cutFaceOpen f c1 s1 c2 s2 bs′ ms′) r k y everyId _ _ (two-result
+            (sheetOf d) f c1 s1 c2 s2 bs′ ms′ e);
+      }

@@ -70,7 +70,8 @@ module _ (l bs : List Position) (base m : ℕ) (h : base + m ≤ length l) (eb :
             let k = eqb-true (q / 2 + 1) m e in
             let a : base ≡ base + 0 = omega arith in
             let b : length bs + 0 ≡ q / 2 + 1 = (let u = n in omega arith) in
-            ap (λ (k : ℕ). getD l k origin) a ∙ bend-at 0 (omega arith) ∙ round bs ∙ sym (getD-append-add bs (take 1 bs) 0 origin) ∙ ap (λ (k : ℕ). getD (bs ++ take 1 bs) k origin) b
+            ap (λ (k : ℕ). getD l k origin) a ∙ bend-at 0 (omega arith) ∙ round bs ∙ sym (getD-append-add bs (take 1 bs) 0 origin)
+            ∙ ap (λ (k : ℕ). getD (bs ++ take 1 bs) k origin) b
         go false e =
             let k = eqb-false (q / 2 + 1) m e in
             let a : base + q / 2 + 1 ≡ base + (q / 2 + 1) = omega arith in
@@ -90,7 +91,8 @@ module _ (l bs : List Position) (base m : ℕ) (h : base + m ≤ length l) (eb :
 
     pub closed-runs-are : (p : Position) → runsOf l (closedRuns p base m q) ≡ bendsRound bs q
     closed-runs-are p =
-        ap₂ _++_ (run-drop base m (q / 2 + 1) l ∙ ap (drop (q / 2 + 1)) eb) (run-take base m (q / 2 + (1 - q % 2)) l (omega arith) ∙ ap (take (q / 2 + (1 - q % 2))) eb)
+        ap₂ _++_ (run-drop base m (q / 2 + 1) l ∙ ap (drop (q / 2 + 1)) eb)
+        (run-take base m (q / 2 + (1 - q % 2)) l (omega arith) ∙ ap (take (q / 2 + (1 - q % 2))) eb)
 
 -- ---- the bends that are read
 pub next-most : (base m i : ℕ) → base + m ≤ 2048 → i < m → nextBend base m i < 2048
@@ -103,7 +105,8 @@ next-most base m i h g = go (eqb (i + 1) m) refl
         cut : (i + 1 ≡ m → ⊥) → base + i + 1 < 2048
         cut k = omega arith
 
-pub closed-read : (l : List Position) (base m q : ℕ) (y : Position) → length l ≡ 2048 → base + m ≤ 2048 → q / 2 < m → (j : ℕ) → j ≡ nextBend base m (q / 2) → closedBetween (getD l (base + q / 2) y) (getD l j y) q ≡ closedPlace l base m q
+pub closed-read : (l : List Position) (base m q : ℕ) (y : Position) → length l ≡ 2048 → base + m ≤ 2048 → q / 2 < m → (j : ℕ) → j ≡ nextBend base m (q / 2)
+    → closedBetween (getD l (base + q / 2) y) (getD l j y) q ≡ closedPlace l base m q
 closed-read l base m q y z h g j ej =
     let u = next-most base m (q / 2) h g in
     let a = getD-any l (base + q / 2) y origin (omega arith) in
@@ -134,17 +137,20 @@ module _ (d : Drawing) (z : Sizes d) (e row base m q : ℕ) (c : EdgeCuts d e ro
   loopCells p r = vertex p ∷ openEdge (d .next) (d .next) (runsOf (d .bends) r) ∷ []
 
   module _ (p : Position) (ep : p ≡ closedPlace (d .bends) base m q) (r : Runs) (er : r ≡ closedRuns p base m q) where
-    cells-are : loopCells p r ≡ vertex (cutPlace (cellAt (sheetOf d)) (some (closedEdge (bendsOf (cellAt (sheetOf d) e)))) q) ∷ openEdge (d .next) (d .next) (bendsRound (bendsOf (cellAt (sheetOf d) e)) q) ∷ []
+    cells-are : loopCells p r ≡ vertex (cutPlace (cellAt (sheetOf d)) (some (closedEdge (bendsOf (cellAt (sheetOf d) e)))) q)
+        ∷ openEdge (d .next) (d .next) (bendsRound (bendsOf (cellAt (sheetOf d) e)) q) ∷ []
     cells-are =
         ap₂ (λ (a : Position) (b : List Position). vertex a ∷ openEdge (d .next) (d .next) b ∷ [])
         (ep ∙ closed-place-is (d .bends) (bendsOf (cellAt (sheetOf d) e)) base m room-bends (c .bends) (cellAt (sheetOf d)) q half-below)
-        (ap (runsOf (d .bends)) er ∙ closed-runs-are (d .bends) (bendsOf (cellAt (sheetOf d) e)) base m room-bends (c .bends) (cellAt (sheetOf d)) q half-below p)
+        (ap (runsOf (d .bends)) er ∙ closed-runs-are (d .bends) (bendsOf (cellAt (sheetOf d) e)) base m room-bends (c .bends)
+        (cellAt (sheetOf d)) q half-below p)
 
     loop-is : result (sheetOf d) (cutEdge e q) ≡ rebuild (others e) loopStep (loopCells p r) (sheetOf d)
     unfolding result edgeCut sheetOf
     loop-is =
         ap (cutFigure (sheetOf d) e q) (closed-figure (cellAt (sheetOf d) e) k)
-        ∙ ap₂ (λ (n : ℕ) (new : List Figure). rebuild (others e) (rewired sameVertex (inPlaceOf e n false)) new (sheetOf d)) (sym (add-one (d .next))) (sym cells-are)
+        ∙ ap₂ (λ (n : ℕ) (new : List Figure). rebuild (others e) (rewired sameVertex (inPlaceOf e n false)) new (sheetOf d)) (sym (add-one (d .next)))
+        (sym cells-are)
 
     pub loop-room : (u : Sheet) → u ≡ remade (others e) loopStep (sheetOf d) → RoomIn u (loopCells p r)
     loop-room u eu = made-room (sheetOf d) (others e) loopStep (loopCells p r) (result (sheetOf d) (cutEdge e q)) loop-is u eu (c .idsSuffice) (c .sizesHold)

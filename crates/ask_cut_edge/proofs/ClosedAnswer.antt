@@ -64,7 +64,8 @@ module _ (d : Drawing) (z : Sizes d) (w : T (soundDrawing d)) (e q : ℕ) (k : i
       exists : ltb (q / 2) (length (bendsOf (cellAt (sheetOf d) e))) ≡ true
       exists = ap (ltb (q / 2)) (sym counted) ∙ lt-ltb (q / 2) m h
 
-      module _ (t : Totals) (et : t ≡ totalsIn d z (sound-fits d w) ix x) (r : ℕ) (ro : r ≡ lateNo (d .next) 2 (changedBy (sizesBy t) (moreLess (sized 1 0 0 0) (sized 0 0 0 (q % 2))))) where
+      module _ (t : Totals) (et : t ≡ totalsIn d z (sound-fits d w) ix x) (r : ℕ)
+          (ro : r ≡ lateNo (d .next) 2 (changedBy (sizesBy t) (moreLess (sized 1 0 0 0) (sized 0 0 0 (q % 2))))) where
         pub asked : Asked d (cutEdge e q) r
         asked = cut-asked d z w ix x t et e q 2 1 0 r four (five ∙ exists) new-are change-is ro
 

@@ -43,7 +43,8 @@ take-map f (suc n) [] = refl
 take-map {A} {B} f (suc n) (x ∷ l) = ap (λ (r : List B). f x ∷ r) (take-map f n l)
 
 -- what a look-up in the index asks
-pub find-asks : (d : Drawing) → Sizes d → T (soundDrawing d) → (ix : Index) → Indexes d ix → (d .count ≤ 256) × ((length (ix .ids) ≡ 256) × Rising (take (d .count) (ix .ids)))
+pub find-asks : (d : Drawing) → Sizes d → T (soundDrawing d) → (ix : Index) → Indexes d ix
+    → (d .count ≤ 256) × ((length (ix .ids) ≡ 256) × Rising (take (d .count) (ix .ids)))
 find-asks d z w ix x = (sound-fits d w .cells, (x .sizes .0, looks d z ix x w .rising))
 
 -- ---- the questions that are alike for every edge and place
@@ -75,7 +76,8 @@ cut-asked d z w ix x t et e q k n u r four five new change says =
       says = says;
     })
 
-module _ (d : Drawing) (z : Sizes d) (w : T (soundDrawing d)) (ix : Index) (x : Indexes d ix) (e row : ℕ) (er : row ≡ rowOf e (take (d .count) (ix .ids))) (l : isLive (cellAt (sheetOf d) e) ≡ true) where
+module _ (d : Drawing) (z : Sizes d) (w : T (soundDrawing d)) (ix : Index) (x : Indexes d ix) (e row : ℕ) (er : row ≡ rowOf e (take (d .count) (ix .ids)))
+    (l : isLive (cellAt (sheetOf d) e) ≡ true) where
   pub row-below : row < 256
   row-below = let a = live-below d z w ix x e row er l in let b = sound-fits d w .cells in omega arith
 
@@ -98,7 +100,8 @@ module _ (d : Drawing) (z : Sizes d) (w : T (soundDrawing d)) (ix : Index) (x : 
       let h = live-below d z w ix x e row er l in
       let n : Cell → ℕ = λ c. bendCount (c .shape) in
       ap (total (placesOf 0))
-      (sym (take-take row (d .count) (ix .bends) (omega arith)) ∙ ap (take row) (x .bends) ∙ take-map n row (take (d .count) (d .cells)) ∙ ap (map n) (take-take row (d .count) (d .cells) (omega arith)))
+      (sym (take-take row (d .count) (ix .bends) (omega arith)) ∙ ap (take row) (x .bends) ∙ take-map n row (take (d .count) (d .cells))
+      ∙ ap (map n) (take-take row (d .count) (d .cells) (omega arith)))
       ∙ places-sum n (take row (d .cells))
 
   own-range : bendSum (take row (d .cells)) + length (figureBends (figureAt (sheetOf d) row)) ≤ 2048
@@ -113,7 +116,8 @@ module _ (d : Drawing) (z : Sizes d) (w : T (soundDrawing d)) (ix : Index) (x : 
       (omega arith, omega arith)
 
   module _ (q r : ℕ) (a : Asked d (cutEdge e q) r) (y : r ≡ 0)
-      (base m : ℕ) (eb : base ≡ total (placesOf 0) (take row (ix .bends))) (em : m ≡ getD (ix .bends) row 0) (ex : cutExists (cellAt (sheetOf d) e) q ≡ true) where
+      (base m : ℕ) (eb : base ≡ total (placesOf 0) (take row (ix .bends))) (em : m ≡ getD (ix .bends) row 0)
+      (ex : cutExists (cellAt (sheetOf d) e) q ≡ true) where
     pub found-cuts : EdgeCuts d e row base m q
     found-cuts =
         let n : m ≡ length (figureBends (figureAt (sheetOf d) row)) = em ∙ own-count ∙ ap length own-bends in

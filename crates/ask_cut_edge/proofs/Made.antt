@@ -12,7 +12,8 @@ use Rattle.rows_new.proofs.Appended.{appendedEach, appended-each}
 use Rattle.rows_new.proofs.Rooms.{room-rebuilt}
 
 -- t is s rebuilt, u has what stays of s, and the new cells come after it
-module _ (s : Sheet) (p : ℕ → Bool) (f : ℕ → Figure → Figure) (new : List Figure) (t : Sheet) (et : t ≡ rebuild p f new s) (u : Sheet) (eu : u ≡ remade p f s) where
+module _ (s : Sheet) (p : ℕ → Bool) (f : ℕ → Figure → Figure) (new : List Figure) (t : Sheet) (et : t ≡ rebuild p f new s) (u : Sheet)
+    (eu : u ≡ remade p f s) where
   pub made-room : T (leb (t .next) idsEnd) → T (ceilings (t .cells)) → RoomIn u new
   made-room hi hs =
       subst (λ (x : Sheet). RoomIn x new) (sym eu)

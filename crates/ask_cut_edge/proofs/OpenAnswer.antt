@@ -59,7 +59,8 @@ module _ (d : Drawing) (z : Sizes d) (w : T (soundDrawing d)) (ix : Index) (x : 
   sizes-are = ap sizesBy et ∙ totals-are d z (sound-fits d w) ix x
 
   cycles-are : t .cycles ≡ cycleTotal d
-  cycles-are = ap (λ (s : whole.SheetSizes). s .cycles) sizes-are ∙ over-cycles (sheetOf d .cells) ∙ sym (cycle-total d (sheetOf d .cells) (stands d z (sound-fits d w)))
+  cycles-are = ap (λ (s : whole.SheetSizes). s .cycles) sizes-are ∙ over-cycles (sheetOf d .cells)
+      ∙ sym (cycle-total d (sheetOf d .cells) (stands d z (sound-fits d w)))
 
   pub counted-in : CutCounted (d .cycles) (d .steps) (d .next) t
   counted-in =
@@ -92,9 +93,11 @@ module _ (d : Drawing) (z : Sizes d) (w : T (soundDrawing d)) (ix : Index) (x : 
     unfolding newCells
     new-are = ap newByCut (open-figure (cellAt (sheetOf d) e) k)
 
-    change-is : changeOf (sheetOf d) (cutEdge e q) ≡ moreLess (sized 2 0 (total (stepUse e) (cyclesFrom (take (t .cycles) (d .cycles)) (d .steps))) 0) (sized 0 0 0 (q % 2))
+    change-is : changeOf (sheetOf d) (cutEdge e q) ≡ moreLess (sized 2 0 (total (stepUse e) (cyclesFrom (take (t .cycles) (d .cycles)) (d .steps))) 0)
+        (sized 0 0 0 (q % 2))
     unfolding changeOf
-    change-is = ap (cutChange (usesBy (stepUse e) (sheetOf d .cells)) q) (open-figure (cellAt (sheetOf d) e) k) ∙ ap (λ (u : ℕ). moreLess (sized 2 0 u 0) (sized 0 0 0 (q % 2))) uses-are
+    change-is = ap (cutChange (usesBy (stepUse e) (sheetOf d .cells)) q) (open-figure (cellAt (sheetOf d) e) k)
+        ∙ ap (λ (u : ℕ). moreLess (sized 2 0 u 0) (sized 0 0 0 (q % 2))) uses-are
 
     module _ (row : ℕ) (er : row ≡ rowOf e (take (d .count) (ix .ids))) (m : ℕ) (em : m ≡ getD (ix .bends) row 0) where
       counted : m ≡ length (bendsOf (cellAt (sheetOf d) e))
@@ -115,7 +118,9 @@ module _ (d : Drawing) (z : Sizes d) (w : T (soundDrawing d)) (ix : Index) (x : 
         exists : leb (q / 2 + q % 2) (length (bendsOf (cellAt (sheetOf d) e))) ≡ true
         exists = ap (leb (q / 2 + q % 2)) (sym counted) ∙ le-leb (q / 2 + q % 2) m h
 
-        module _ (r : ℕ) (ro : r ≡ lateNo (d .next) 3 (changedBy (sizesBy t) (moreLess (sized 2 0 (total (stepUse e) (cyclesFrom (take (t .cycles) (d .cycles)) (d .steps))) 0) (sized 0 0 0 (q % 2))))) where
+        module _ (r : ℕ) (ro : r ≡ lateNo (d .next) 3
+            (changedBy (sizesBy t) (moreLess (sized 2 0 (total (stepUse e) (cyclesFrom (take (t .cycles) (d .cycles)) (d .steps))) 0)
+            (sized 0 0 0 (q % 2))))) where
           pub asked : Asked d (cutEdge e q) r
           asked = cut-asked d z w ix x t et e q 3 2 _ r four (five ∙ exists) new-are change-is ro
 

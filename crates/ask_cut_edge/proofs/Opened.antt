@@ -12,7 +12,8 @@ use borrow.Author.Tests.{ltb-true, ltb-false, leb-true, eqb-true, eqb-false, ne-
 use Rattle.coordinate.specs.declared.Position.{Position}
 use Rattle.coordinate.specs.Bounds.{within, middle}
 use Rattle.complex.specs.Lists.{one, all}
-use Rattle.complex.specs.Cells.{Figure, vertex, openEdge, closedEdge, face, LiveCell, Look, Sheet, cellAt, lookup, someIf, ids, isVertex, isOpen, isClosed, isLive, startOf, endOf, bendsOf, positionOf, origin}
+use Rattle.complex.specs.Cells.{Figure, vertex, openEdge, closedEdge, face, LiveCell, Look, Sheet, cellAt, lookup, someIf, ids, isVertex, isOpen, isClosed}
+use Rattle.complex.specs.Cells.{isLive, startOf, endOf, bendsOf, positionOf, origin}
 use Rattle.complex.specs.Edits.{keepIds, reshape, rebuild, others, rewired, sameVertex}
 use Rattle.complex.specs.Sound.{idsEnd, stepsMost, stepsIn, over}
 use Rattle.complex.specs.Cut.{cutPlace, cutExists, bendsBefore, bendsAfter, inTwo, cutFigure, edgeCut}
@@ -57,7 +58,8 @@ open-exists o q e =
     ap (λ (c : Bool). cond (eqb (q % 2) 1 || c) (ltb (q / 2) (length (bendsOf o))) (leb (q / 2) (length (bendsOf o)))) (ap isClosed (open-figure o e))
     ∙ go (eqb (q % 2) 1) refl
   where
-    go : (b : Bool) → eqb (q % 2) 1 ≡ b → cond (b || false) (ltb (q / 2) (length (bendsOf o))) (leb (q / 2) (length (bendsOf o))) ≡ leb (q / 2 + q % 2) (length (bendsOf o))
+    go : (b : Bool) → eqb (q % 2) 1 ≡ b → cond (b || false) (ltb (q / 2) (length (bendsOf o))) (leb (q / 2) (length (bendsOf o)))
+        ≡ leb (q / 2 + q % 2) (length (bendsOf o))
     go true h =
         let k = eqb-true (q % 2) 1 h in
         let g : suc (q / 2) ≡ q / 2 + q % 2 = omega arith in
@@ -72,7 +74,8 @@ module _ (l bs : List Position) (base m : ℕ) (h : base + m ≤ length l) (eb :
   module _ (pa pb : Position) where
     point-at : (k : ℕ) → k ≤ m + 1 → openPoint pa pb l base m k ≡ getD (pa ∷ bs ++ one pb) k origin
     point-at zero g = refl
-    point-at (suc j) g = ap (λ (b : Bool). cond b pa (cond (ltb m (suc j)) pb (getD l (base + (suc j - 1)) origin))) (ne-eqb (suc j) 0 (λ u. omega arith)) ∙ go (ltb m (suc j)) refl
+    point-at (suc j) g = ap (λ (b : Bool). cond b pa (cond (ltb m (suc j)) pb (getD l (base + (suc j - 1)) origin))) (ne-eqb (suc j) 0 (λ u. omega arith))
+        ∙ go (ltb m (suc j)) refl
       where
         n : length bs ≡ m
         n = bends-count l bs base m h eb
@@ -85,9 +88,11 @@ module _ (l bs : List Position) (base m : ℕ) (h : base + m ≤ length l) (eb :
         go false e =
             let u = ltb-false m (suc j) e in
             let a : base + (suc j - 1) ≡ base + j = omega arith in
-            ap (λ (k : ℕ). getD l k origin) a ∙ bend-at l bs base m h eb j (omega arith) ∙ sym (List·getD-append bs (one pb) origin j (let v = n in omega arith))
+            ap (λ (k : ℕ). getD l k origin) a ∙ bend-at l bs base m h eb j (omega arith)
+            ∙ sym (List·getD-append bs (one pb) origin j (let v = n in omega arith))
 
-  pub open-place-is : (look : Look) (a b q : ℕ) (pa pb : Position) → pa ≡ positionOf (look a) → pb ≡ positionOf (look b) → q / 2 + q % 2 ≤ m → openPlace pa pb l base m q ≡ cutPlace look (some (openEdge a b bs)) q
+  pub open-place-is : (look : Look) (a b q : ℕ) (pa pb : Position) → pa ≡ positionOf (look a) → pb ≡ positionOf (look b) → q / 2 + q % 2 ≤ m
+      → openPlace pa pb l base m q ≡ cutPlace look (some (openEdge a b bs)) q
   open-place-is look a b q pa pb ea eb′ g =
       (λ i. openPlace (ea i) (eb′ i) l base m q) ∙ go (eqb (q % 2) 1) refl
     where
@@ -95,16 +100,22 @@ module _ (l bs : List Position) (base m : ℕ) (h : base + m ≤ length l) (eb :
       ps = positionOf (look a) ∷ bs ++ one (positionOf (look b))
 
       go : (t : Bool) → eqb (q % 2) 1 ≡ t
-          → cond t (getD l (base + q / 2) origin) (middle (openPoint (positionOf (look a)) (positionOf (look b)) l base m (q / 2)) (openPoint (positionOf (look a)) (positionOf (look b)) l base m (q / 2 + 1)))
-          ≡ cond t (getD bs (q / 2) origin) (middle (getD (positionOf (look a) ∷ bs ++ one (positionOf (look b))) (q / 2) origin) (getD (positionOf (look a) ∷ bs ++ one (positionOf (look b))) (q / 2 + 1) origin))
+          → cond t (getD l (base + q / 2) origin)
+          (middle (openPoint (positionOf (look a)) (positionOf (look b)) l base m (q / 2))
+          (openPoint (positionOf (look a)) (positionOf (look b)) l base m (q / 2 + 1)))
+          ≡ cond t (getD bs (q / 2) origin)
+          (middle (getD (positionOf (look a) ∷ bs ++ one (positionOf (look b))) (q / 2) origin)
+          (getD (positionOf (look a) ∷ bs ++ one (positionOf (look b))) (q / 2 + 1) origin))
       go true e = let k = eqb-true (q % 2) 1 e in bend-at l bs base m h eb (q / 2) (omega arith)
-      go false e = ap₂ middle (point-at (positionOf (look a)) (positionOf (look b)) (q / 2) (omega arith)) (point-at (positionOf (look a)) (positionOf (look b)) (q / 2 + 1) (omega arith))
+      go false e = ap₂ middle (point-at (positionOf (look a)) (positionOf (look b)) (q / 2) (omega arith))
+          (point-at (positionOf (look a)) (positionOf (look b)) (q / 2 + 1) (omega arith))
 
   before-are : (p : Position) (q : ℕ) → q / 2 + q % 2 ≤ m → runsOf l (partRun p base (q / 2)) ≡ bendsBefore bs q
   before-are p q g = runs-single l (partRun p base (q / 2)) refl refl ∙ run-take base m (q / 2) l (omega arith) ∙ ap (take (q / 2)) eb
 
   after-are : (p : Position) (q : ℕ) → runsOf l (partRun p (base + (q / 2 + q % 2)) (m - (q / 2 + q % 2))) ≡ bendsAfter bs q
-  after-are p q = runs-single l (partRun p (base + (q / 2 + q % 2)) (m - (q / 2 + q % 2))) refl refl ∙ run-drop base m (q / 2 + q % 2) l ∙ ap (drop (q / 2 + q % 2)) eb
+  after-are p q = runs-single l (partRun p (base + (q / 2 + q % 2)) (m - (q / 2 + q % 2))) refl refl ∙ run-drop base m (q / 2 + q % 2) l
+      ∙ ap (drop (q / 2 + q % 2)) eb
 
 -- ---- the bends that are read
 bend-below : (base m k : ℕ) → base + m ≤ 2048 → (k ≡ 0 → ⊥) → k ≤ m → base + (k - 1) < 2048
@@ -122,7 +133,8 @@ module _ (pa pb : Position) (l : List Position) (base m : ℕ) (y : Position) (z
   point-read : (k : ℕ) → pointOf pa pb (getD l (pointPlace base m k) y) m k ≡ openPoint pa pb l base m k
   point-read k = go (eqb k 0) (ltb m k) refl refl
     where
-      go : (x w : Bool) → eqb k 0 ≡ x → ltb m k ≡ w → cond x pa (cond w pb (getD l (cond x 0 (cond w 0 (base + (k - 1)))) y)) ≡ cond x pa (cond w pb (getD l (base + (k - 1)) origin))
+      go : (x w : Bool) → eqb k 0 ≡ x → ltb m k ≡ w → cond x pa (cond w pb (getD l (cond x 0 (cond w 0 (base + (k - 1)))) y))
+          ≡ cond x pa (cond w pb (getD l (base + (k - 1)) origin))
       go true w ex ew = refl
       go false true ex ew = refl
       go false false ex ew = let u = bend-below base m k h (eqb-false k 0 ex) (ltb-false m k ew) in getD-any l (base + (k - 1)) y origin (omega arith)
@@ -135,11 +147,13 @@ module _ (pa pb : Position) (l : List Position) (base m : ℕ) (y : Position) (z
       (λ i. getD l (cond (a i) 0 (cond (b i) 0 (base + (q / 2 + 1 - 1)))) y)
       ∙ ap (λ (k : ℕ). getD l k y) e ∙ getD-any l (base + q / 2) y origin (omega arith)
 
-  place-read : (q : ℕ) → q / 2 + q % 2 ≤ m → openBetween pa pb (getD l (pointPlace base m (q / 2)) y) (getD l (pointPlace base m (q / 2 + 1)) y) m q ≡ openPlace pa pb l base m q
+  place-read : (q : ℕ) → q / 2 + q % 2 ≤ m → openBetween pa pb (getD l (pointPlace base m (q / 2)) y) (getD l (pointPlace base m (q / 2 + 1)) y) m q
+      ≡ openPlace pa pb l base m q
   place-read q g = go (eqb (q % 2) 1) refl
     where
       go : (t : Bool) → eqb (q % 2) 1 ≡ t
-          → cond t (getD l (pointPlace base m (q / 2 + 1)) y) (middle (pointOf pa pb (getD l (pointPlace base m (q / 2)) y) m (q / 2)) (pointOf pa pb (getD l (pointPlace base m (q / 2 + 1)) y) m (q / 2 + 1)))
+          → cond t (getD l (pointPlace base m (q / 2 + 1)) y)
+          (middle (pointOf pa pb (getD l (pointPlace base m (q / 2)) y) m (q / 2)) (pointOf pa pb (getD l (pointPlace base m (q / 2 + 1)) y) m (q / 2 + 1)))
           ≡ cond t (getD l (base + q / 2) origin) (middle (openPoint pa pb l base m (q / 2)) (openPoint pa pb l base m (q / 2 + 1)))
       go true e = let k = eqb-true (q % 2) 1 e in at-bend q (omega arith)
       go false e = ap₂ middle (point-read (q / 2)) (point-read (q / 2 + 1))
@@ -174,8 +188,10 @@ module _ (d : Drawing) (z : Sizes d) (e row base m q : ℕ) (c : EdgeCuts d e ro
     abbrev pub second : Runs
     second = partRun p (base + (q / 2 + q % 2)) (m - (q / 2 + q % 2))
 
-    cells-are : vertex (cutPlace (cellAt (sheetOf d)) (some (openEdge (startOf (cellAt (sheetOf d) e)) (endOf (cellAt (sheetOf d) e)) (bendsOf (cellAt (sheetOf d) e)))) q)
-        ∷ openEdge (startOf (cellAt (sheetOf d) e)) (d .next) (bendsBefore (bendsOf (cellAt (sheetOf d) e)) q) ∷ openEdge (d .next) (endOf (cellAt (sheetOf d) e)) (bendsAfter (bendsOf (cellAt (sheetOf d) e)) q) ∷ []
+    cells-are : vertex (cutPlace (cellAt (sheetOf d))
+        (some (openEdge (startOf (cellAt (sheetOf d) e)) (endOf (cellAt (sheetOf d) e)) (bendsOf (cellAt (sheetOf d) e)))) q)
+        ∷ openEdge (startOf (cellAt (sheetOf d) e)) (d .next) (bendsBefore (bendsOf (cellAt (sheetOf d) e)) q)
+        ∷ openEdge (d .next) (endOf (cellAt (sheetOf d) e)) (bendsAfter (bendsOf (cellAt (sheetOf d) e)) q) ∷ []
         ≡ partCells p first second
     cells-are =
         let o = cellAt (sheetOf d) e in
@@ -196,7 +212,8 @@ module _ (d : Drawing) (z : Sizes d) (e row base m q : ℕ) (c : EdgeCuts d e ro
         ∙ λ i. rebuild (others e) (rewired sameVertex (inTwo e (j i) (k i))) (g i) (sheetOf d)
 
     pub parts-room : (u : Sheet) → u ≡ remade (others e) partStep (sheetOf d) → RoomIn u (partCells p first second)
-    parts-room u eu = made-room (sheetOf d) (others e) partStep (partCells p first second) (result (sheetOf d) (cutEdge e q)) parts-are u eu (c .idsSuffice) (c .sizesHold)
+    parts-room u eu = made-room (sheetOf d) (others e) partStep (partCells p first second) (result (sheetOf d) (cutEdge e q)) parts-are u eu (c .idsSuffice)
+        (c .sizesHold)
 
     pub parts-made : (u : Sheet) → u ≡ remade (others e) partStep (sheetOf d) → appendedEach (partCells p first second) u ≡ result (sheetOf d) (cutEdge e q)
     parts-made u eu = made-is (sheetOf d) (others e) partStep (partCells p first second) (result (sheetOf d) (cutEdge e q)) parts-are u eu
@@ -220,8 +237,10 @@ module _ (d : Drawing) (z : Sizes d) (e row base m q : ℕ) (c : EdgeCuts d e ro
         let cs = sheetOf d .cells in
         let k = keepIds (others e) cs in
         let b = below (result (sheetOf d) (cutEdge e q) .cells) (c .sizesHold) .steps in
-        let r : over stepsIn (result (sheetOf d) (cutEdge e q) .cells) ≡ over stepsIn (reshape partStep k) + 0 = ap (λ (t : Sheet). over stepsIn (t .cells)) parts-are ∙ over-rebuild stepsIn (others e) partStep (partCells p first second) (sheetOf d) in
-        let w = without-one e (openEdge (startOf (cellAt (sheetOf d) e)) (endOf (cellAt (sheetOf d) e)) (bendsOf (cellAt (sheetOf d) e))) (sheetOf d) (sound-in d (c .sound)) (open-figure (cellAt (sheetOf d) e) (n .isOne)) stepsAfter in
+        let r : over stepsIn (result (sheetOf d) (cutEdge e q) .cells) ≡ over stepsIn (reshape partStep k) + 0 =
+        ap (λ (t : Sheet). over stepsIn (t .cells)) parts-are ∙ over-rebuild stepsIn (others e) partStep (partCells p first second) (sheetOf d) in
+        let w = without-one e (openEdge (startOf (cellAt (sheetOf d) e)) (endOf (cellAt (sheetOf d) e)) (bendsOf (cellAt (sheetOf d) e))) (sheetOf d)
+        (sound-in d (c .sound)) (open-figure (cellAt (sheetOf d) e) (n .isOne)) stepsAfter in
         let x = steps-by cs in
         let y = steps-by k in
         omega arith
@@ -231,7 +250,8 @@ row-lives : (cs : List LiveCell) (i : ℕ) → isLive (lookup cs i) ≡ true →
 row-lives [] i e = absurd (false≢true e)
 row-lives (x ∷ cs) i e = go (eqb (x .id) i) e (row-lives cs i)
   where
-    go : (b : Bool) → isLive (someIf b (x .figure) (lookup cs i)) ≡ true → (isLive (lookup cs i) ≡ true → rowOf i (ids cs) < length cs) → cond b 0 (suc (rowOf i (ids cs))) < suc (length cs)
+    go : (b : Bool) → isLive (someIf b (x .figure) (lookup cs i)) ≡ true → (isLive (lookup cs i) ≡ true → rowOf i (ids cs) < length cs)
+        → cond b 0 (suc (rowOf i (ids cs))) < suc (length cs)
     go true h ih = omega arith
     go false h ih = let k = ih h in omega arith
 
@@ -258,9 +278,11 @@ module _ (d : Drawing) (z : Sizes d) (w : T (soundDrawing d)) where
         let y : LiveCell = record { id = 0; figure = vertex origin } in
         ap vertexPlace (row-shape d z (sound-fits d w) row vertex-below noCell)
         ∙ place-figure (figureAt (sheetOf d) row)
-        ∙ ap positionOf (ap (λ (k : ℕ). some (getD (sheetOf d .cells) k y .figure)) er ∙ sym (row-lookup (sheetOf d .cells) v y (row-lives (sheetOf d .cells) v l)))
+        ∙ ap positionOf (ap (λ (k : ℕ). some (getD (sheetOf d .cells) k y .figure)) er
+        ∙ sym (row-lookup (sheetOf d .cells) v y (row-lives (sheetOf d .cells) v l)))
 
-  pub ends-live : (e : ℕ) → isOpen (cellAt (sheetOf d) e) ≡ true → (isLive (cellAt (sheetOf d) (startOf (cellAt (sheetOf d) e))) ≡ true) × (isLive (cellAt (sheetOf d) (endOf (cellAt (sheetOf d) e))) ≡ true)
+  pub ends-live : (e : ℕ) → isOpen (cellAt (sheetOf d) e) ≡ true
+      → (isLive (cellAt (sheetOf d) (startOf (cellAt (sheetOf d) e))) ≡ true) × (isLive (cellAt (sheetOf d) (endOf (cellAt (sheetOf d) e))) ≡ true)
   ends-live e k =
       let o = cellAt (sheetOf d) e in
       let t = sound-in d w .figures e (openEdge (startOf o) (endOf o) (bendsOf o)) (open-figure o k) in
@@ -269,7 +291,8 @@ module _ (d : Drawing) (z : Sizes d) (w : T (soundDrawing d)) where
       (vertex-live (cellAt (sheetOf d) (startOf o)) (a .0), vertex-live (cellAt (sheetOf d) (endOf o)) (b .0))
 
 -- ---- by the rows of the two ends
-module _ (d : Drawing) (z : Sizes d) (e row base m q : ℕ) (c : EdgeCuts d e row base m q) (s f : ℕ) (n : OpenEnds d e s f) (is : List ℕ) (ei : take (d .count) is ≡ idsOf (sheetOf d)) where
+module _ (d : Drawing) (z : Sizes d) (e row base m q : ℕ) (c : EdgeCuts d e row base m q) (s f : ℕ) (n : OpenEnds d e s f) (is : List ℕ)
+    (ei : take (d .count) is ≡ idsOf (sheetOf d)) where
   pub ids-rise : Rising (take (d .count) is)
   ids-rise = subst Rising (sym ei) (rising-is (idsOf (sheetOf d)) (sheetOf d .next) (sheet-rising d (sound-sheet d (c .sound))))
 
@@ -284,12 +307,15 @@ module _ (d : Drawing) (z : Sizes d) (e row base m q : ℕ) (c : EdgeCuts d e ro
     lives = ends-live d z (c .sound) e (n .isOne)
 
     pub start-below : rs < 256
-    start-below = let h = vertex-below d z (c .sound) (startOf (cellAt (sheetOf d) e)) rs start-row (lives .0) in let g = sound-fits d (c .sound) .cells in omega arith
+    start-below = let h = vertex-below d z (c .sound) (startOf (cellAt (sheetOf d) e)) rs start-row (lives .0) in let g = sound-fits d (c .sound) .cells in
+        omega arith
 
     pub end-below : re < 256
-    end-below = let h = vertex-below d z (c .sound) (endOf (cellAt (sheetOf d) e)) re end-row (lives .1) in let g = sound-fits d (c .sound) .cells in omega arith
+    end-below = let h = vertex-below d z (c .sound) (endOf (cellAt (sheetOf d) e)) re end-row (lives .1) in let g = sound-fits d (c .sound) .cells in
+        omega arith
 
-    placed-at : (p : Position) → p ≡ openPlace (vertexPlace (getD (d .cells) rs noCell .shape)) (vertexPlace (getD (d .cells) re noCell .shape)) (d .bends) base m q → CutPlaced d e q p
+    placed-at : (p : Position) → p ≡ openPlace (vertexPlace (getD (d .cells) rs noCell .shape)) (vertexPlace (getD (d .cells) re noCell .shape))
+        (d .bends) base m q → CutPlaced d e q p
     placed-at p ep =
         let o = cellAt (sheetOf d) e in
         record {
@@ -297,7 +323,8 @@ module _ (d : Drawing) (z : Sizes d) (e row base m q : ℕ) (c : EdgeCuts d e ro
               ep
               ∙ open-place-is (d .bends) (bendsOf o) base m (room-bends d z e row base m q c s f n) (c .bends) (cellAt (sheetOf d)) (startOf o) (endOf o) q
               (vertexPlace (getD (d .cells) rs noCell .shape)) (vertexPlace (getD (d .cells) re noCell .shape))
-              (vertex-place d z (c .sound) (startOf o) rs start-row (lives .0)) (vertex-place d z (c .sound) (endOf o) re end-row (lives .1)) (place-below d z e row base m q c s f n)
+              (vertex-place d z (c .sound) (startOf o) rs start-row (lives .0)) (vertex-place d z (c .sound) (endOf o) re end-row (lives .1))
+              (place-below d z e row base m q c s f n)
               ∙ ap (λ (x : Option Figure). cutPlace (cellAt (sheetOf d)) x q) (sym (open-figure o (n .isOne)));
         }
 
@@ -305,11 +332,13 @@ module _ (d : Drawing) (z : Sizes d) (e row base m q : ℕ) (c : EdgeCuts d e ro
     cell-read k y h = let u = z .cells in ap (λ (x : Cell). vertexPlace (x .shape)) (getD-any (d .cells) k y noCell (omega arith))
 
     -- p by the positions that are read: a and b of the two ends, and the bends in the places k1 and k2
-    pub placed-read : (y : Cell) (o a b p : Position) (k1 k2 : ℕ) → a ≡ vertexPlace (getD (d .cells) rs y .shape) → b ≡ vertexPlace (getD (d .cells) re y .shape) → k1 ≡ pointPlace base m (q / 2) → k2 ≡ pointPlace base m (q / 2 + 1)
+    pub placed-read : (y : Cell) (o a b p : Position) (k1 k2 : ℕ) → a ≡ vertexPlace (getD (d .cells) rs y .shape)
+        → b ≡ vertexPlace (getD (d .cells) re y .shape) → k1 ≡ pointPlace base m (q / 2) → k2 ≡ pointPlace base m (q / 2 + 1)
         → p ≡ openBetween a b (getD (d .bends) k1 o) (getD (d .bends) k2 o) m q → CutPlaced d e q p
     placed-read y o a b p k1 k2 ea eb e1 e2 ep =
         let u = ea ∙ cell-read rs y start-below in
         let v = eb ∙ cell-read re y end-below in
         placed-at p
         (ep ∙ (λ i. openBetween (u i) (v i) (getD (d .bends) (e1 i) o) (getD (d .bends) (e2 i) o) m q)
-        ∙ place-read (vertexPlace (getD (d .cells) rs noCell .shape)) (vertexPlace (getD (d .cells) re noCell .shape)) (d .bends) base m o (z .bends) (c .range) q (place-below d z e row base m q c s f n))
+        ∙ place-read (vertexPlace (getD (d .cells) rs noCell .shape)) (vertexPlace (getD (d .cells) re noCell .shape)) (d .bends) base m o (z .bends)
+        (c .range) q (place-below d z e row base m q c s f n))

@@ -44,14 +44,17 @@ firstNo q4 q5 q6 = cond q4 (cond q5 (cond q6 0 6) 5) 4
 
 -- by the kinds that the index has
 by-kinds : (oa ob : Option Figure) (same : Bool) (flag : ℕ) (m : Bool)
-    → edgesNo (kindNumber oa) (kindNumber ob) same flag m ≡ firstNo (isEdge oa && isEdge ob) (leb flag 1) (not same && ((isClosed oa && isClosed ob) || (isOpen oa && (isOpen ob && m))))
+    → edgesNo (kindNumber oa) (kindNumber ob) same flag m
+    ≡ firstNo (isEdge oa && isEdge ob) (leb flag 1) (not same && ((isClosed oa && isClosed ob) || (isOpen oa && (isOpen ob && m))))
 by-kinds oa ob same flag m =
     let by : Bool → Bool → Bool → Bool → ℕ = λ p1 p2 q1 q2. firstNo ((p1 || p2) && (q1 || q2)) (leb flag 1) (not same && ((p2 && q2) || (p1 && (q1 && m)))) in
     λ i. by (is-open oa i) (is-closed oa i) (is-open ob i) (is-closed ob i)
 
 module _ (d : Drawing) (z : Sizes d) (w : T (soundDrawing d)) (a b flag : ℕ) where
-  module _ (ix : Index) (x : Indexes d ix) (ka kb : ℕ) (meet : Bool) (r : ℕ) (ea : ka ≡ indexValue 4 d ix (ix .kinds) a) (eb : kb ≡ indexValue 4 d ix (ix .kinds) b)
-      (em : meet ≡ endsMeet flag (indexValue 0 d ix (ix .starts) a) (indexValue 0 d ix (ix .ends) a) (indexValue 0 d ix (ix .starts) b) (indexValue 0 d ix (ix .ends) b))
+  module _ (ix : Index) (x : Indexes d ix) (ka kb : ℕ) (meet : Bool) (r : ℕ) (ea : ka ≡ indexValue 4 d ix (ix .kinds) a)
+      (eb : kb ≡ indexValue 4 d ix (ix .kinds) b)
+      (em : meet ≡ endsMeet flag (indexValue 0 d ix (ix .starts) a) (indexValue 0 d ix (ix .ends) a) (indexValue 0 d ix (ix .starts) b)
+      (indexValue 0 d ix (ix .ends) b))
       (er : r ≡ edgesNo ka kb (eqb a b) flag meet) where
     no-is : r ≡ firstNo (question4 (sheetOf d) (glueEdges a b flag)) (question5 (sheetOf d) (glueEdges a b flag)) (question6 (sheetOf d) (glueEdges a b flag))
     unfolding question4 question5 question6
@@ -71,25 +74,30 @@ module _ (d : Drawing) (z : Sizes d) (w : T (soundDrawing d)) (a b flag : ℕ) w
     bytes : early (glueEdges a b flag) ≡ 0
     bytes = early-none (glueEdges a b flag) refl
 
-    by : (p q t : Bool) → question4 (sheetOf d) (glueEdges a b flag) ≡ p → question5 (sheetOf d) (glueEdges a b flag) ≡ q → question6 (sheetOf d) (glueEdges a b flag) ≡ t → r ≡ firstNo p q t
+    by : (p q t : Bool) → question4 (sheetOf d) (glueEdges a b flag) ≡ p → question5 (sheetOf d) (glueEdges a b flag) ≡ q
+        → question6 (sheetOf d) (glueEdges a b flag) ≡ t → r ≡ firstNo p q t
     by p q t ep eq et = no-is ∙ λ i. firstNo (ep i) (eq i) (et i)
 
     pub glue-no : (r ≡ 0 → ⊥) → asked3 (sheetOf d) (glueEdges a b flag) ≡ no r (sheetOf d)
-    glue-no nz = go (question4 (sheetOf d) (glueEdges a b flag)) (question5 (sheetOf d) (glueEdges a b flag)) (question6 (sheetOf d) (glueEdges a b flag)) refl refl refl
+    glue-no nz = go (question4 (sheetOf d) (glueEdges a b flag)) (question5 (sheetOf d) (glueEdges a b flag))
+        (question6 (sheetOf d) (glueEdges a b flag)) refl refl refl
       where
         said : (n : ℕ) → r ≡ n → asked3 (sheetOf d) (glueEdges a b flag) ≡ no n (sheetOf d) → asked3 (sheetOf d) (glueEdges a b flag) ≡ no r (sheetOf d)
         said n e h = h ∙ ap (λ (m : ℕ). no m (sheetOf d)) (sym e)
 
-        go : (p q t : Bool) → question4 (sheetOf d) (glueEdges a b flag) ≡ p → question5 (sheetOf d) (glueEdges a b flag) ≡ q → question6 (sheetOf d) (glueEdges a b flag) ≡ t → asked3 (sheetOf d) (glueEdges a b flag) ≡ no r (sheetOf d)
+        go : (p q t : Bool) → question4 (sheetOf d) (glueEdges a b flag) ≡ p → question5 (sheetOf d) (glueEdges a b flag) ≡ q
+            → question6 (sheetOf d) (glueEdges a b flag) ≡ t → asked3 (sheetOf d) (glueEdges a b flag) ≡ no r (sheetOf d)
         go false q t ep eq et = said 4 (by false q t ep eq et) (no-4 (sheetOf d) (glueEdges a b flag) bytes ep)
         go true false t ep eq et = said 5 (by true false t ep eq et) (no-5 (sheetOf d) (glueEdges a b flag) bytes ep eq)
         go true true false ep eq et = said 6 (by true true false ep eq et) (no-6 (sheetOf d) (glueEdges a b flag) bytes ep eq et)
         go true true true ep eq et = absurd (nz (by true true true ep eq et))
 
     glue-passed : r ≡ 0 → Passed (sheetOf d) (glueEdges a b flag)
-    glue-passed e = go (question4 (sheetOf d) (glueEdges a b flag)) (question5 (sheetOf d) (glueEdges a b flag)) (question6 (sheetOf d) (glueEdges a b flag)) refl refl refl
+    glue-passed e = go (question4 (sheetOf d) (glueEdges a b flag)) (question5 (sheetOf d) (glueEdges a b flag))
+        (question6 (sheetOf d) (glueEdges a b flag)) refl refl refl
       where
-        go : (p q t : Bool) → question4 (sheetOf d) (glueEdges a b flag) ≡ p → question5 (sheetOf d) (glueEdges a b flag) ≡ q → question6 (sheetOf d) (glueEdges a b flag) ≡ t → Passed (sheetOf d) (glueEdges a b flag)
+        go : (p q t : Bool) → question4 (sheetOf d) (glueEdges a b flag) ≡ p → question5 (sheetOf d) (glueEdges a b flag) ≡ q
+            → question6 (sheetOf d) (glueEdges a b flag) ≡ t → Passed (sheetOf d) (glueEdges a b flag)
         go false q t ep eq et = absurd (let h = by false q t ep eq et in omega arith)
         go true false t ep eq et = absurd (let h = by true false t ep eq et in omega arith)
         go true true false ep eq et = absurd (let h = by true true false ep eq et in omega arith)

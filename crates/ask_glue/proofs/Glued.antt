@@ -36,7 +36,8 @@ pub record Glues (d : Drawing) (c : Command) (b : ℕ) (f : ℕ → Figure → F
   pub live : isLive (cellAt (sheetOf d) b) ≡ true
   pub is : remade (others b) f (sheetOf d) ≡ result (sheetOf d) c
 
-module _ (d : Drawing) (z : Sizes d) (w : T (soundDrawing d)) (c : Command) (b : ℕ) (f : ℕ → Figure → Figure) (g : Glues d c b f) (ix : Index) (x : Indexes d ix) (row : ℕ) (er : row ≡ rowOf b (take (d .count) (ix .ids)))
+module _ (d : Drawing) (z : Sizes d) (w : T (soundDrawing d)) (c : Command) (b : ℕ) (f : ℕ → Figure
+    → Figure) (g : Glues d c b f) (ix : Index) (x : Indexes d ix) (row : ℕ) (er : row ≡ rowOf b (take (d .count) (ix .ids)))
     (mid : Drawing) (zm : Sizes mid) (gm : Fits mid) (em : sheetOf mid ≡ withEntries (sheetOf d) (reshape f (sheetOf d .cells)))
     (dead : List Bool) (ed : dead ≡ set (replicate 256 false) row true)
     (out : Drawing) (eo : sheetOf out ≡ withEntries (sheetOf mid) (kept (take (mid .count) dead) (sheetOf mid .cells))) where

@@ -39,7 +39,8 @@ vertex-live (some (closedEdge bs)) e = refl
 vertex-live (some (face ks)) e = refl
 
 module _ (d : Drawing) (z : Sizes d) (w : T (soundDrawing d)) where
-  module _ (a b : ℕ) (ix : Index) (x : Indexes d ix) (r : ℕ) (er : r ≡ verticesNo (indexValue 4 d ix (ix .kinds) a) (indexValue 4 d ix (ix .kinds) b) (eqb a b)) where
+  module _ (a b : ℕ) (ix : Index) (x : Indexes d ix) (r : ℕ)
+      (er : r ≡ verticesNo (indexValue 4 d ix (ix .kinds) a) (indexValue 4 d ix (ix .kinds) b) (eqb a b)) where
     abbrev noBy : Bool → Bool → Bool → ℕ
     noBy p q e = cond p (cond q (cond e 6 0) 4) 4
 
@@ -72,7 +73,8 @@ module _ (d : Drawing) (z : Sizes d) (w : T (soundDrawing d)) where
         said : (n : ℕ) → r ≡ n → asked3 (sheetOf d) (glueVertices a b) ≡ no n (sheetOf d) → asked3 (sheetOf d) (glueVertices a b) ≡ no r (sheetOf d)
         said n e h = h ∙ ap (λ (m : ℕ). no m (sheetOf d)) (sym e)
 
-        go : (p q e : Bool) → isVertex (cellAt (sheetOf d) a) ≡ p → isVertex (cellAt (sheetOf d) b) ≡ q → eqb a b ≡ e → asked3 (sheetOf d) (glueVertices a b) ≡ no r (sheetOf d)
+        go : (p q e : Bool) → isVertex (cellAt (sheetOf d) a) ≡ p → isVertex (cellAt (sheetOf d) b) ≡ q → eqb a b ≡ e
+            → asked3 (sheetOf d) (glueVertices a b) ≡ no r (sheetOf d)
         go false q e ep eq ee = said 4 (by false q e ep eq ee) (no-4 (sheetOf d) (glueVertices a b) bytes (four false q ep eq))
         go true false e ep eq ee = said 4 (by true false e ep eq ee) (no-4 (sheetOf d) (glueVertices a b) bytes (four true false ep eq))
         go true true true ep eq ee = said 6 (by true true true ep eq ee) (no-6 (sheetOf d) (glueVertices a b) bytes (four true true ep eq) five (six true ee))
@@ -81,7 +83,8 @@ module _ (d : Drawing) (z : Sizes d) (w : T (soundDrawing d)) where
     glue-passed : r ≡ 0 → Passed (sheetOf d) (glueVertices a b) × (isVertex (cellAt (sheetOf d) b) ≡ true)
     glue-passed z0 = go (isVertex (cellAt (sheetOf d) a)) (isVertex (cellAt (sheetOf d) b)) (eqb a b) refl refl refl
       where
-        go : (p q e : Bool) → isVertex (cellAt (sheetOf d) a) ≡ p → isVertex (cellAt (sheetOf d) b) ≡ q → eqb a b ≡ e → Passed (sheetOf d) (glueVertices a b) × (isVertex (cellAt (sheetOf d) b) ≡ true)
+        go : (p q e : Bool) → isVertex (cellAt (sheetOf d) a) ≡ p → isVertex (cellAt (sheetOf d) b) ≡ q → eqb a b ≡ e
+            → Passed (sheetOf d) (glueVertices a b) × (isVertex (cellAt (sheetOf d) b) ≡ true)
         go false q e ep eq ee = absurd (let h = by false q e ep eq ee in omega arith)
         go true false e ep eq ee = absurd (let h = by true false e ep eq ee in omega arith)
         go true true true ep eq ee = absurd (let h = by true true true ep eq ee in omega arith)
@@ -93,13 +96,16 @@ module _ (d : Drawing) (z : Sizes d) (w : T (soundDrawing d)) where
     none-new = refl
 
     sizes-fit : sizesFit (sizesAfter (sheetOf d) (glueVertices a b)) ≡ true
-    sizes-fit = sym (sizes-after (sheetOf d) (sound-in d w) (glueVertices a b) (asked-six (sheetOf d) (glueVertices a b) p)) ∙ true-of _ (glue-fits (sheetOf d) (sound-in d w) a b (asked-six (sheetOf d) (glueVertices a b) p))
+    sizes-fit = sym (sizes-after (sheetOf d) (sound-in d w) (glueVertices a b) (asked-six (sheetOf d) (glueVertices a b) p))
+        ∙ true-of _ (glue-fits (sheetOf d) (sound-in d w) a b (asked-six (sheetOf d) (glueVertices a b) p))
 
     glued-is : remade (others b) (rewired (renamed a b) one) (sheetOf d) ≡ result (sheetOf d) (glueVertices a b)
     unfolding result gluedVertices
     glued-is = remade-rebuild (others b) (rewired (renamed a b) one) (sheetOf d)
 
-  pub glues-vertices : (a b : ℕ) (ix : Index) → Indexes d ix → (r : ℕ) → r ≡ verticesNo (indexValue 4 d ix (ix .kinds) a) (indexValue 4 d ix (ix .kinds) b) (eqb a b) → r ≡ 0 → Glues d (glueVertices a b) b (rewired (renamed a b) one)
+  pub glues-vertices : (a b : ℕ) (ix : Index) → Indexes d ix → (r : ℕ)
+      → r ≡ verticesNo (indexValue 4 d ix (ix .kinds) a) (indexValue 4 d ix (ix .kinds) b) (eqb a b) → r ≡ 0
+      → Glues d (glueVertices a b) b (rewired (renamed a b) one)
   glues-vertices a b ix x r er e =
       let p = glue-passed a b ix x r er e in
       record {

@@ -164,7 +164,8 @@ module _ {A : Type 0} (p : A → Bool) (g : Cycle → List A) (ns st : List ℕ)
 
   module _ (h : m ≤ length ns) (from i : ℕ) (k : i < m) (x : Rounding from i) where
     after : any p (spread g (cyclesFrom (take m ns) st))
-        ≡ any p (g (cycleOf (getD ns i 0) (drop from st))) || any p (spread g (cyclesFrom (drop (i + 1) (take m ns)) (drop (width (getD ns i 0)) (drop from st))))
+        ≡ any p (g (cycleOf (getD ns i 0) (drop from st)))
+        || any p (spread g (cyclesFrom (drop (i + 1) (take m ns)) (drop (width (getD ns i 0)) (drop from st))))
     after =
         x .rest ∙ ap (λ (y : List ℕ). any p (spread g (cyclesFrom y (drop from st)))) (left-cons ns m i 0 h k)
         ∙ any-append p (g (cycleOf (getD ns i 0) (drop from st))) (spread g (cyclesFrom (drop (i + 1) (take m ns)) (drop (width (getD ns i 0)) (drop from st))))

@@ -206,7 +206,8 @@ module _ (e n : ℕ) (is ks ns st : List ℕ) where
     rowing-turn y g c1 p1 ec ep =
         let cy = drop c0 (cyclesFrom ns st) in
         let mine : take k cy ≡ cyclesFrom (take k (drop c0 ns)) (drop from st) =
-        ap (take k) (cycles-drop c0 ns st ∙ ap (λ (p : ℕ). cyclesFrom (drop c0 ns) (drop p st)) (sym (t .from-is))) ∙ take-cycles k (drop c0 ns) (drop from st) in
+        ap (take k) (cycles-drop c0 ns st ∙ ap (λ (p : ℕ). cyclesFrom (drop c0 ns) (drop p st)) (sym (t .from-is)))
+        ∙ take-cycles k (drop c0 ns) (drop from st) in
         let ys = rowUses e (drop (i + 1) (take n is)) (drop (i + 1) (take n ks)) in
         record {
           start-is = ec ∙ cycles-on;
@@ -231,4 +232,5 @@ module _ (e n : ℕ) (is ks ns st : List ℕ) where
       → x ≡ usesTwo (rowUses e (take n is) (take n ks) (cyclesFrom ns st))
   rowing-end q x c0 from i h t =
       sym (sym (folded (rowUses e (take n is) (take n ks) (cyclesFrom ns st))) ∙ t .rest
-      ∙ ap (λ (a : List ℕ). foldl oneUse x (rowUses e a (drop i (take n ks)) (drop c0 (cyclesFrom ns st)))) (left-none is n i (omega (arith, q .few, q .ids)) h))
+      ∙ ap (λ (a : List ℕ). foldl oneUse x (rowUses e a (drop i (take n ks)) (drop c0 (cyclesFrom ns st))))
+      (left-none is n i (omega (arith, q .few, q .ids)) h))

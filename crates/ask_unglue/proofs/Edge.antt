@@ -33,11 +33,13 @@ use Rattle.rows_uses.specs.declared.Use.{Use}
 use Rattle.rows_uses.specs.Uses.{usesIn}
 use Rattle.rows_copied.specs.Copying.{copied}
 use Rattle.ask_unglue.specs.Unglues.{hasUses, lateCopies}
-use Rattle.ask_unglue.proofs.Copies.{EdgeUses, edge-uses, uses-counted, late-are, bends-few, few-refused, late-refused, mid-room, mid-copies, out-answers}
+use Rattle.ask_unglue.proofs.Copies.{EdgeUses, edge-uses, uses-counted, late-are, bends-few, few-refused, late-refused, mid-room, mid-copies}
+use Rattle.ask_unglue.proofs.Copies.{out-answers}
 
 -- what is known of the edge's uses
 module _ (u : Use) (d : Drawing) (z : Sizes d) (w : T (soundDrawing d)) (ix : Index) (x : Indexes d ix) (e : ℕ) (h : T (hasUses u (cellAt (sheetOf d) e)))
-    (t : Totals) (et : t ≡ totalsIn d z (sound-fits d w) ix x) (n : ℕ) (en : n ≡ total (usesIn u e) (cyclesFrom (take (t .cycles) (d .cycles)) (d .steps))) where
+    (t : Totals) (et : t ≡ totalsIn d z (sound-fits d w) ix x) (n : ℕ)
+    (en : n ≡ total (usesIn u e) (cyclesFrom (take (t .cycles) (d .cycles)) (d .steps))) where
   edge : EdgeUses u (sheetOf d) e (cellAt (sheetOf d) e)
   edge = edge-uses u (sheetOf d) e (cellAt (sheetOf d) e) h
 

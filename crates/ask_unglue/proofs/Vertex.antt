@@ -12,7 +12,8 @@ use lib.ListN.{length, take, getD, length-map, List·getD-map, List·getD-eq-def
 use lib.Seq.{getD-take, length-take-le}
 use Rattle.coordinate.specs.declared.Position.{Position}
 use Rattle.complex.specs.Lists.{filter, consIf, rising}
-use Rattle.complex.specs.Cells.{Halfedge, Figure, vertex, openEdge, closedEdge, face, isVertex, LiveCell, Sheet, along, against, lookup, cellAt, ids, isOpen, startOf, endOf, tailOf}
+use Rattle.complex.specs.Cells.{Halfedge, Figure, vertex, openEdge, closedEdge, face, isVertex, LiveCell, Sheet, along, against, lookup, cellAt, ids, isOpen}
+use Rattle.complex.specs.Cells.{startOf, endOf, tailOf}
 use Rattle.complex.specs.Uses.{loneUse, onUses, endsAt, Passage, passagesAt, allCycles, isIn, groups, groupOf, Together}
 use Rattle.complex.specs.Groups.{linked, itself, back, chain}
 use Rattle.complex.proofs.Bools.{truth, true-of, both}

@@ -64,13 +64,16 @@ module _ (a : Arrays) (t : Totals) (r : Ready a t) where
       )
 
   -- ---- the length
-  pub length-is : (h c s x y : ℕ) → h ≡ total headWidth (take (a .count) (heldBy a .cells)) → c ≡ total spellWidth (take (t .cycles) (a .cycles)) → s ≡ total spellWidth (take (t .steps) (a .steps))
+  pub length-is : (h c s x y : ℕ) → h ≡ total headWidth (take (a .count) (heldBy a .cells)) → c ≡ total spellWidth (take (t .cycles) (a .cycles))
+      → s ≡ total spellWidth (take (t .steps) (a .steps))
       → x ≡ spellWidth (a .next) → y ≡ spellWidth (a .count) → x + (y + (h + ((c + s) + 16 * t .bends))) ≡ length (fileOf (sheetOf (heldBy a)))
   length-is h c s x y eh ec es ex ey =
       let n = cycleTotal (heldBy a) in
       let fc : c ≡ total spellWidth (take n (a .cycles)) = ec ∙ ap (λ (m : ℕ). total spellWidth (take m (a .cycles))) (ready-cycles a t r) in
-      let fs : s ≡ total spellWidth (take (widthSum (take n (a .cycles))) (a .steps)) = es ∙ ap (λ (m : ℕ). total spellWidth (take m (a .steps))) (ready-steps a t r) in
-      let g : c + s ≡ length (spread cycleBytes (cyclesFrom (take n (a .cycles)) (a .steps))) = ap₂ _+_ fc fs ∙ sym (rings-length (take n (a .cycles)) (a .steps) steps-long) in
+      let fs : s ≡ total spellWidth (take (widthSum (take n (a .cycles))) (a .steps)) = es
+      ∙ ap (λ (m : ℕ). total spellWidth (take m (a .steps))) (ready-steps a t r) in
+      let g : c + s ≡ length (spread cycleBytes (cyclesFrom (take n (a .cycles)) (a .steps))) = ap₂ _+_ fc fs
+      ∙ sym (rings-length (take n (a .cycles)) (a .steps) steps-long) in
       let b = ready-bends a t r in
       (λ i. ex i + (ey i + (eh i + (g i + 16 * b i)))) ∙ sym (file-bytes (heldBy a) (ready-sizes a t r) ready-writable)
 
@@ -85,10 +88,12 @@ module _ (a : Arrays) (t : Totals) (r : Ready a t) where
   ready-all = cells-ready (heldBy a) (ready-sizes a t r) ready-writable (a .bx) (a .by) held-points
 
   -- the next id and the count, then the cells
-  pub file-parts : fileOf (sheetOf (heldBy a)) ≡ (spell (a .next) ++ spell (a .count)) ++ spread cellBytes (cellsOf (take (a .count) (heldBy a .cells)) (cyclesFrom (a .cycles) (a .steps)) (positionsFrom (a .bx) (a .by)))
+  pub file-parts : fileOf (sheetOf (heldBy a)) ≡ (spell (a .next) ++ spell (a .count))
+      ++ spread cellBytes (cellsOf (take (a .count) (heldBy a .cells)) (cyclesFrom (a .cycles) (a .steps)) (positionsFrom (a .bx) (a .by)))
   file-parts =
       file-is (heldBy a) (ready-sizes a t r) ready-writable
-      ∙ ap (λ (l : List ℕ). (spell (a .next) ++ spell (a .count)) ++ l) (sym (cells-same (heldBy a) (ready-sizes a t r) ready-writable (a .bx) (a .by) held-points))
+      ∙ ap (λ (l : List ℕ). (spell (a .next) ++ spell (a .count)) ++ l)
+      (sym (cells-same (heldBy a) (ready-sizes a t r) ready-writable (a .bx) (a .by) held-points))
 
   pub call-is : (l : List ℕ) → filled (fileOf (sheetOf (heldBy a))) l ≡ writeCall (sheetOf (heldBy a)) l
   call-is l =

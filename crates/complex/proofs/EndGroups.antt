@@ -1,4 +1,5 @@
--- The groups of a vertex's ends: exactly the classes of ends that belong together, each end in one of them, in the order of their first members. Assumes nothing.
+-- The groups of a vertex's ends: exactly the classes of ends that belong together, each end in one of them, in the order of their first members.
+-- Assumes nothing.
 use Prim.Native.Nat.{ℕ, suc, _+_, _≤_, _<_}
 use native.Mathlib.Omega.{arith}
 use mathlib.Core.Path.{_≡_, refl}

@@ -153,8 +153,8 @@ delete-balanced s i =
     omega arith
 
 -- ---- 0C with c1 = c2
-pub split-balanced : (f c s1 s2 : ℕ) (bs : List Position) (ms : List ℕ) (s : Sheet) → Sound s → Passes s (cutFaceOpen f c s1 c s2 bs ms)
-    → Balanced s (cutFaceOpen f c s1 c s2 bs ms)
+pub split-balanced : (f c s1 s2 : ℕ) (bs : List Position) (ms : List ℕ) (s : Sheet) → Sound s
+    → Passes s (cutFaceOpen f c s1 c s2 bs ms) → Balanced s (cutFaceOpen f c s1 c s2 bs ms)
 unfolding question4 question5 result faceCutAlong
 split-balanced f c s1 s2 bs ms s S q =
     let E : eqb c c ≡ true = eq-eqb c c refl in

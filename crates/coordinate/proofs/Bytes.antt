@@ -54,7 +54,8 @@ take-cons : (s : List ℕ) (i j : ℕ) → i < length s → take (suc j) (drop i
 take-cons s i j h = ap (take (suc j)) (drop-cons s i 0 h)
 
 module _ (k : ℕ) (some : 0 < k) (most : k ≤ 8) where
-  pub value-more : (s : List ℕ) (at : ℕ) → at + 8 ≤ length s → getD s (at + (k - 1)) 0 + 256 * valueOf (take (8 - k) (drop (at + k) s)) ≡ valueOf (take (8 - (k - 1)) (drop (at + (k - 1)) s))
+  pub value-more : (s : List ℕ) (at : ℕ) → at + 8 ≤ length s
+      → getD s (at + (k - 1)) 0 + 256 * valueOf (take (8 - k) (drop (at + k) s)) ≡ valueOf (take (8 - (k - 1)) (drop (at + (k - 1)) s))
   value-more s at long =
       let i : at + k ≡ suc (at + (k - 1)) = omega arith in
       let j : suc (8 - k) ≡ 8 - (k - 1) = omega arith in
@@ -73,7 +74,8 @@ module _ (k : ℕ) (some : 0 < k) (most : k ≤ 8) where
       omega arith
 
 -- ---- a loop that stores: the low byte of the rest at at + k
-pub store-more : (out : List ℕ) (at k n : ℕ) → k < 8 → sets (set out (at + k) (n % 256)) (at + (k + 1)) (bytesOf (8 - (k + 1)) (n / 256)) ≡ sets out (at + k) (bytesOf (8 - k) n)
+pub store-more : (out : List ℕ) (at k n : ℕ) → k < 8 → sets (set out (at + k) (n % 256)) (at + (k + 1)) (bytesOf (8 - (k + 1)) (n / 256))
+    ≡ sets out (at + k) (bytesOf (8 - k) n)
 store-more out at k n h =
     let i : at + (k + 1) ≡ suc (at + k) = omega arith in
     let j : suc (8 - (k + 1)) ≡ 8 - k = omega arith in

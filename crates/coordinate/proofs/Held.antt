@@ -15,7 +15,8 @@ pub held : (p : Position) (vs : List Val) → Is (the-field .row) (the-field .in
 held p vs h = search needs
 
 -- element i of an array, or d past its end
-pub held-at : (ps : List Position) (us : List Val) (i : ℕ) (d : Position) → FloatFits d → shadow (each (the-field .row .Denot) (the-field .row .own) (map (the-field .into) ps) us) → FloatFits (getD ps i d)
+pub held-at : (ps : List Position) (us : List Val) (i : ℕ) (d : Position) → FloatFits d
+    → shadow (each (the-field .row .Denot) (the-field .row .own) (map (the-field .into) ps) us) → FloatFits (getD ps i d)
 held-at [] us i d f h = f
 held-at (p ∷ ps) [] i d f h = absurd h
 held-at (p ∷ ps) (u ∷ us) zero d f h = held p (u ∷ []) (h .0)

@@ -18,7 +18,8 @@ use Rattle.number.proofs.Bytes.{Bytes, bytes-drop}
 use Rattle.number.proofs.Laws.{lt-or-le, done-two}
 use Rattle.coordinate.specs.declared.Position.{Position}
 use Rattle.coordinate.specs.Bounds.{within, half, middle}
-use Rattle.coordinate.specs.Positions.{valueOf, bytesOf, coordinateIn, readCoordinate, coordinateBytes, FloatFits, positionAt, readPosition, positionBytes, locatedAt}
+use Rattle.coordinate.specs.Positions.{valueOf, bytesOf, coordinateIn, readCoordinate, coordinateBytes, FloatFits, positionAt, readPosition}
+use Rattle.coordinate.specs.Positions.{positionBytes, locatedAt}
 use Rattle.coordinate.proofs.Bytes.{value-bytes, value-lt, bytes-value}
 use Rattle.coordinate.proofs.Within.{within-not-nan}
 
@@ -104,7 +105,8 @@ module _ (s : List ℕ) (at : ℕ) where
   pub located-short : length s < at + 16 → locatedAt s at ≡ no 2
   located-short h = ap (placedOr 2 (length s)) (position-short h)
 
-  pub located-at : (p : Position) (next : ℕ) → locatedAt s at ≡ done (p, next) → (readPosition (drop at s) ≡ got p (drop next s)) × (next ≡ at + 16) × (next ≤ length s)
+  pub located-at : (p : Position) (next : ℕ) → locatedAt s at ≡ done (p, next)
+      → (readPosition (drop at s) ≡ got p (drop next s)) × (next ≡ at + 16) × (next ≤ length s)
   located-at p next e = ⊎-elim short long (lt-or-le (length s) (at + 16))
     where
       Reads : Type 0
@@ -161,7 +163,8 @@ read-position p t f =
     rw append-assoc
     (simp (read-coordinate (p .x) (coordinateBytes (p .y) ++ t) (f .0), read-coordinate (p .y) t (f .1)))
 
-bytes-read : (s : List ℕ) → 16 ≤ length s → Bytes s → T (not (isNan (coordinateIn s))) → T (not (isNan (coordinateIn (drop 8 s)))) → positionBytes (positionAt s 0) ++ drop 16 s ≡ s
+bytes-read : (s : List ℕ) → 16 ≤ length s → Bytes s → T (not (isNan (coordinateIn s))) → T (not (isNan (coordinateIn (drop 8 s))))
+    → positionBytes (positionAt s 0) ++ drop 16 s ≡ s
 bytes-read s h B m n =
     let e : length (drop 8 s) ≡ length s - 8 = length-drop 8 s in
     let x = bytes-back s (omega arith) B m in

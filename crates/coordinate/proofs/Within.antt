@@ -1,8 +1,10 @@
--- The middle of two positions in bounds is in bounds, and what is in bounds is a number. `Small x K` says that x is finite and at most K in size. Assumes nothing.
+-- The middle of two positions in bounds is in bounds, and what is in bounds is a number.
+-- `Small x K` says that x is finite and at most K in size. Assumes nothing.
 use mathlib.Core.Path.{_≡_, sym, ap, _∙_, subst}
 use mathlib.Core.Logic.{inl, inr}
 use Prim.Native.Nat.{ℕ, zero, suc, _+_, _-_, _*_, _/_, _%_, _^_, _≤_, _<_, compare}
-use native.Mathlib.Nat.{le-trans, le-of-eq, le-of-lt, eq-or-lt-of-le, mul-one, two-mul, mul-comm, mul-assoc, mul-left-comm, mul-right-comm, mul-le-mul-right, le-of-mul-le-mul-right, mul-pos}
+use native.Mathlib.Nat.{le-trans, le-of-eq, le-of-lt, eq-or-lt-of-le, mul-one, two-mul, mul-comm, mul-assoc, mul-left-comm, mul-right-comm, mul-le-mul-right}
+use native.Mathlib.Nat.{le-of-mul-le-mul-right, mul-pos}
 use native.Mathlib.Omega.{arith}
 use mathlib.Core.Bool.{Bool, true, false, not, _&&_, _||_, Bool·beq, cond, true≢false}
 use lib.Dec.{T, ltb, eqb, eqb→eq, eqb-refl, ltb→lt, lt→ltb, lit≤, lit<}
@@ -47,10 +49,18 @@ right false true Y = tt
 right false false Y = Y
 
 ge-or : (a b : ℕ) → a ≤ b → T (ltb a b || (eqb b a && true))
-ge-or a b h = elim (eq-or-lt-of-le h) [ inl p ↦ right (ltb a b) (eqb b a) (subst (λ (x : ℕ). T (eqb x a)) p (eqb-refl a)) | inr q ↦ left (ltb a b) (eqb b a && true) (lt→ltb a b q) ]
+ge-or a b h = elim (eq-or-lt-of-le h) [
+  | inl p ↦ right (ltb a b) (eqb b a) (subst (λ (x : ℕ). T (eqb x a)) p (eqb-refl a))
+  | inr q ↦ left (ltb a b)
+      (eqb b a && true) (lt→ltb a b q)
+]
 
 le-or : (a b : ℕ) → a ≤ b → T (ltb a b || (eqb a b && true))
-le-or a b h = elim (eq-or-lt-of-le h) [ inl p ↦ right (ltb a b) (eqb a b) (subst (λ (x : ℕ). T (eqb a x)) p (eqb-refl a)) | inr q ↦ left (ltb a b) (eqb a b && true) (lt→ltb a b q) ]
+le-or a b h = elim (eq-or-lt-of-le h) [
+  | inl p ↦ right (ltb a b) (eqb a b) (subst (λ (x : ℕ). T (eqb a x)) p (eqb-refl a))
+  | inr q ↦ left (ltb a b)
+      (eqb a b && true) (lt→ltb a b q)
+]
 
 -- ---- from the order to the size, and back
 small-of-le : (x y : Float) (w l K : ℕ) → HasValue x false w l → HasValue y false K 1 → T (le x y) → Small x K
@@ -83,7 +93,8 @@ unfolding units
 units-small f s q k y K v t = go (ltb (q * 2 ^ k) (2 ^ (low f + suc (emax f)))) t
   where
     go : (b : Bool) → T (le (cond b (odd (suc (prec f)) false q k (low f)) (inf false)) y) → Small (cond b (odd (suc (prec f)) s q k (low f)) (inf s)) K
-    go true u = odd-small (suc (prec f)) s q k (low f) K (small-of-le (odd (suc (prec f)) false q k (low f)) y (q * 2 ^ k) (2 ^ low f) K (odd-sign (suc (prec f)) false q k (low f)) v u)
+    go true u = odd-small (suc (prec f)) s q k (low f) K
+        (small-of-le (odd (suc (prec f)) false q k (low f)) y (q * 2 ^ k) (2 ^ low f) K (odd-sign (suc (prec f)) false q k (low f)) v u)
     go false u = absurd (no-inf y K v u)
 
 round-small : (f : Format) (s : Bool) (a c K : ℕ) → 0 < c → K ≤ 2 ^ prec f → a ≤ K * c → Small (round f s a c) K
@@ -131,7 +142,8 @@ half-small : (f : Format) (x : Float) (K : ℕ) → K ≤ 2 ^ prec f → Small x
 unfolding mul
 half-small f nan K P h = absurd h
 half-small f (inf s) K P h = absurd h
-half-small f (fin s m e) K P h = round-small f (unlike s false) (m * up e * (1 * 1)) (down e * 2) K (mul-pos (down-pos e) (lit< tt)) P (halved (m * up e) K (down e) h)
+half-small f (fin s m e) K P h = round-small f (unlike s false) (m * up e * (1 * 1)) (down e * 2) K (mul-pos (down-pos e) (lit< tt)) P
+    (halved (m * up e) K (down e) h)
 
 -- ---- the range, as a size
 small-of-bounds : (x : Float) → T (inBounds x) → Small x 1048576

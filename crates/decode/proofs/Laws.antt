@@ -20,7 +20,8 @@ pub record Begins (s : List ℕ) (c : Command) (next : ℕ) : Type 0 where
   pub fits : next ≤ length s
   pub lists : ListsLie s c
 
-pub begins : {s : List ℕ} {r : Decoded} {c : Command} {next : ℕ} → decodedSays s r ≡ foundOr 2 (decode s) → DecodedEnd s 1 r → r ≡ Whole c next → Begins s c next
+pub begins : {s : List ℕ} {r : Decoded} {c : Command} {next : ℕ} → decodedSays s r ≡ foundOr 2 (decode s) → DecodedEnd s 1 r → r ≡ Whole c next
+    → Begins s c next
 begins {s} {c = c} {next = next} d e f =
     let h : Ended s 1 c next = subst (DecodedEnd s 1) f e in
     let a = h .after in

@@ -27,4 +27,5 @@ obeys a c w m =
     record { number = ap (λ (y : Said). y .number) e; sheet = ap (λ (y : Said). y .sheet) e; sound = m .sound w }
 
 pub lent-demand3 : LentDemand3
-lent-demand3 a cs z r = after-calls lentCalls right (λ (b : Arrays) (c : LentCall). CommandedIn b (c .bytes) (c .arrays) (c .line)) obeys a cs (z .sheet) (z .sound) r
+lent-demand3 a cs z r = after-calls lentCalls right (λ (b : Arrays) (c : LentCall). CommandedIn b (c .bytes) (c .arrays) (c .line)) obeys a cs (z .sheet)
+    (z .sound) r

@@ -45,7 +45,8 @@ put-size {l} {m} {xs} {at} {p} a = ap length (a .bytes) ∙ length-sets l at xs
 pub room-first : (l : List ℕ) (at : ℕ) (xs ys : List ℕ) → at + length (xs ++ ys) ≤ length l → at + length xs ≤ length l
 room-first l at xs ys h = let w = length-append xs ys in omega arith
 
-pub room-then : {m : List ℕ} {p : ℕ} (l : List ℕ) (at : ℕ) (xs ys : List ℕ) → BytesPut l at xs m p → at + length (xs ++ ys) ≤ length l → p + length ys ≤ length m
+pub room-then : {m : List ℕ} {p : ℕ} (l : List ℕ) (at : ℕ) (xs ys : List ℕ) → BytesPut l at xs m p → at + length (xs ++ ys) ≤ length l
+    → p + length ys ≤ length m
 room-then {m} {p} l at xs ys a h =
     let w = length-append xs ys in
     let u = a .next in
@@ -84,7 +85,8 @@ module _ {A : Type 0} (f : A → List ℕ) (l : List A) where
       omega arith
 
   -- the first i elements stand at a place, and bs are the bytes of the next
-  module _ (o out : List ℕ) (at p i : ℕ) (h : i < length l) (a : BytesPut o at (spread f (take i l)) out p) (z : A) (bs : List ℕ) (e : f (getD l i z) ≡ bs) where
+  module _ (o out : List ℕ) (at p i : ℕ) (h : i < length l) (a : BytesPut o at (spread f (take i l)) out p) (z : A) (bs : List ℕ)
+      (e : f (getD l i z) ≡ bs) where
     more : spread f (take (i + 1) l) ≡ spread f (take i l) ++ bs
     more = flat-more i z h ∙ ap (λ (r : List ℕ). spread f (take i l) ++ r) e
 

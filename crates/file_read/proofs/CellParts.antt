@@ -28,7 +28,8 @@ abbrev readParts : Shape → List ℕ → Read Figure
 readParts x t = andThen (times readPosition (bendCount x) t) λ bs u. andThen (times readCycle (cycleCount x) u) λ ks v. got (figureOf x ks bs) v
 
 -- n things that were read are the first n of them
-taken : {A : Type 0} (r : List ℕ → Read A) (f : List A → Figure) (n : ℕ) (s : List ℕ) → andThen (times r n s) (λ xs t. got (f xs) t) ≡ andThen (times r n s) λ xs t. got (f (take n xs)) t
+taken : {A : Type 0} (r : List ℕ → Read A) (f : List A → Figure) (n : ℕ) (s : List ℕ)
+    → andThen (times r n s) (λ xs t. got (f xs) t) ≡ andThen (times r n s) λ xs t. got (f (take n xs)) t
 taken {A} r f n s = go (times r n s) refl
   where
     go : (q : Read (List A)) → times r n s ≡ q → andThen q (λ xs t. got (f xs) t) ≡ andThen q λ xs t. got (f (take n xs)) t
@@ -43,21 +44,25 @@ figure-is zero s = go (readPosition s)
     go bad = refl
 figure-is (suc zero) s = start (readNumber s)
   where
-    count : (a b : ℕ) (q : Read ℕ) → andThen (andThen q λ n t. times readPosition n t) (λ bs v. got (openEdge a b bs) v) ≡ andThen (andThen q λ n v. got (Open a b n) v) readParts
+    count : (a b : ℕ) (q : Read ℕ) → andThen (andThen q λ n t. times readPosition n t) (λ bs v. got (openEdge a b bs) v)
+        ≡ andThen (andThen q λ n v. got (Open a b n) v) readParts
     count a b (got n v) = taken readPosition (openEdge a b) n v
     count a b bad = refl
 
-    end : (a : ℕ) (q : Read ℕ) → andThen q (λ b u. andThen (andThen (readNumber u) λ n t. times readPosition n t) λ bs v. got (openEdge a b bs) v) ≡ andThen (andThen q λ b u. andThen (readNumber u) λ n v. got (Open a b n) v) readParts
+    end : (a : ℕ) (q : Read ℕ) → andThen q (λ b u. andThen (andThen (readNumber u) λ n t. times readPosition n t) λ bs v. got (openEdge a b bs) v)
+        ≡ andThen (andThen q λ b u. andThen (readNumber u) λ n v. got (Open a b n) v) readParts
     end a (got b u) = count a b (readNumber u)
     end a bad = refl
 
-    start : (q : Read ℕ) → andThen q (λ a t. andThen (readNumber t) λ b u. andThen (andThen (readNumber u) λ n t. times readPosition n t) λ bs v. got (openEdge a b bs) v)
+    start : (q : Read ℕ) → andThen q
+        (λ a t. andThen (readNumber t) λ b u. andThen (andThen (readNumber u) λ n t. times readPosition n t) λ bs v. got (openEdge a b bs) v)
         ≡ andThen (andThen q λ a t. andThen (readNumber t) λ b u. andThen (readNumber u) λ n v. got (Open a b n) v) readParts
     start (got a t) = end a (readNumber t)
     start bad = refl
 figure-is (suc (suc zero)) s = count (readNumber s)
   where
-    count : (q : Read ℕ) → andThen (andThen q λ n t. times readPosition n t) (λ bs v. got (closedEdge bs) v) ≡ andThen (andThen q λ n v. got (Closed n) v) readParts
+    count : (q : Read ℕ) → andThen (andThen q λ n t. times readPosition n t) (λ bs v. got (closedEdge bs) v)
+        ≡ andThen (andThen q λ n v. got (Closed n) v) readParts
     count (got n v) = taken readPosition closedEdge n v
     count bad = refl
 figure-is (suc (suc (suc zero))) s = count (readNumber s)
@@ -74,7 +79,8 @@ whole q = andThen q λ c t. andThen (readParts (c .shape) t) λ f v. got (record
 cell-is : (s : List ℕ) → readCell s ≡ whole (readHead s)
 cell-is s = go (readNumber s)
   where
-    shape : (i : ℕ) (q : Read Shape) → andThen (andThen q readParts) (λ x v. got (record { id = i; figure = x }) v) ≡ whole (andThen q λ x v. got (record { id = i; shape = x }) v)
+    shape : (i : ℕ) (q : Read Shape) → andThen (andThen q readParts) (λ x v. got (record { id = i; figure = x }) v)
+        ≡ whole (andThen q λ x v. got (record { id = i; shape = x }) v)
     shape i (got x v) = refl
     shape i bad = refl
 
@@ -96,11 +102,14 @@ abbrev pub cellWith : Cell → List Cycle → List Position → LiveCell
 cellWith c ks bs = record { id = c .id; figure = figureOf (c .shape) ks bs }
 
 module _ (c : Cell) (s t : List ℕ) (head : readHead s ≡ got c t) where
-  pub cell-found : (bs : List Position) (ks : List Cycle) (u v : List ℕ) → times readPosition (bendCount (c .shape)) t ≡ got bs u → times readCycle (cycleCount (c .shape)) u ≡ got ks v
+  pub cell-found : (bs : List Position) (ks : List Cycle) (u v : List ℕ) → times readPosition (bendCount (c .shape)) t ≡ got bs u
+      → times readCycle (cycleCount (c .shape)) u ≡ got ks v
       → readCell s ≡ got (cellWith c ks bs) v
   cell-found bs ks u v e f =
       cell-is s ∙ ap whole head
-      ∙ ap (λ (q : Read (List Position)). andThen (andThen q λ cs w. andThen (times readCycle (cycleCount (c .shape)) w) λ ls z. got (figureOf (c .shape) ls cs) z) λ x z. got (record { id = c .id; figure = x }) z) e
+      ∙ ap (λ (q : Read (List Position)). andThen
+      (andThen q λ cs w. andThen (times readCycle (cycleCount (c .shape)) w) λ ls z. got (figureOf (c .shape) ls cs) z) λ x z. got
+      (record { id = c .id; figure = x }) z) e
       ∙ ap (λ (q : Read (List Cycle)). andThen (andThen q λ ls z. got (figureOf (c .shape) ls bs) z) λ x z. got (record { id = c .id; figure = x }) z) f
 
   -- a cell that was read, by its bends and cycles
@@ -124,7 +133,8 @@ module _ (c : Cell) (s t : List ℕ) (head : readHead s ≡ got c t) where
         between = u;
         readBends = h;
         readCycles = l ∙ ap (got ks) (got-rest (figureOf x ks bs) f z v m ∙ got-rest (record { id = c .id; figure = f }) y v w d);
-        same = sym (ap (λ (n : Figure). record { id = c .id; figure = n }) (got-thing (figureOf x ks bs) f z v m) ∙ got-thing (record { id = c .id; figure = f }) y v w d);
+        same = sym (ap (λ (n : Figure). record { id = c .id; figure = n }) (got-thing (figureOf x ks bs) f z v m)
+            ∙ got-thing (record { id = c .id; figure = f }) y v w d);
       }
 
 -- ---- what the cell puts into the arrays

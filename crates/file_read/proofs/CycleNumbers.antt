@@ -35,7 +35,8 @@ steps-numbers (suc n) s = go (steps-numbers n) (readNumber s)
     rest v bad = refl
 
     go : ((t : List ℕ) → times readStep n t ≡ halves (times readNumber n t)) → (q : Read ℕ)
-        → andThen (andThen q λ v t. got (stepOf v) t) (λ h t. andThen (times readStep n t) λ hs u. got (h ∷ hs) u) ≡ halves (andThen q λ v t. andThen (times readNumber n t) λ vs u. got (v ∷ vs) u)
+        → andThen (andThen q λ v t. got (stepOf v) t) (λ h t. andThen (times readStep n t) λ hs u. got (h ∷ hs) u)
+        ≡ halves (andThen q λ v t. andThen (times readNumber n t) λ vs u. got (v ∷ vs) u)
     go ih (got v t) = ap (λ (q : Read (List Halfedge)). andThen q λ hs u. got (stepOf v ∷ hs) u) (ih t) ∙ rest v (times readNumber n t)
     go ih bad = refl
 
@@ -95,10 +96,12 @@ places-taken m vs e =
 
 pub too-long : (s t : List ℕ) (m : ℕ) (used : Used) → readNumber s ≡ got m t → 2048 < used .steps + width m → CyclesOver (times readCycle 1 s) used
 too-long s t m used e h ks u f k l =
-    then-from (times readNumber (width m) t) (λ vs v. got (cycleOf m vs ∷ []) v) ks u (sym (ap single (cycle-is s ∙ ap numbered e) ∙ flat (times readNumber (width m) t)) ∙ f) λ vs v g d.
+    then-from (times readNumber (width m) t) (λ vs v. got (cycleOf m vs ∷ []) v) ks u
+    (sym (ap single (cycle-is s ∙ ap numbered e) ∙ flat (times readNumber (width m) t)) ∙ f) λ vs v g d.
     let n = times-length readNumber (width m) t v vs g in
     let w : length (spread cycleWords (cycleOf m vs ∷ [])) ≡ width m = ap length (places-taken m vs n) ∙ n in
-    let z : length (spread cycleWords ks) ≡ width m = ap (λ (x : List Cycle). length (spread cycleWords x)) (sym (got-thing (cycleOf m vs ∷ []) ks v u d)) ∙ w in
+    let z : length (spread cycleWords ks) ≡ width m = ap (λ (x : List Cycle). length (spread cycleWords x)) (sym (got-thing (cycleOf m vs ∷ []) ks v u d))
+    ∙ w in
     omega arith
   where
     flat : (q : Read (List ℕ)) → single (cycleFrom m q) ≡ andThen q λ vs v. got (cycleOf m vs ∷ []) v
@@ -110,7 +113,8 @@ module _ (s : List ℕ) (at first m w : ℕ) (wide : w ≡ width m) (number : re
   no-numbers e = no-steps (drop at s) (drop first s) m used number (ap (λ (n : ℕ). times readNumber n (drop first s)) (sym wide) ∙ e)
 
   pub cycle-loaded : (counts steps steps′ : List ℕ) (next : ℕ) → NumbersIn s first w steps (used .steps) steps′ next → used .cycles < length counts
-      → CyclesIn (times readCycle 1 (drop at s)) s counts steps used (set counts (used .cycles) m) steps′ next (record { bends = used .bends; cycles = used .cycles + 1; steps = used .steps + w })
+      → CyclesIn (times readCycle 1 (drop at s)) s counts steps used (set counts (used .cycles) m) steps′ next
+      (record { bends = used .bends; cycles = used .cycles + 1; steps = used .steps + w })
   cycle-loaded counts steps steps′ next N h =
       let vs = N .numbers in
       let l : length vs ≡ width m = times-length readNumber w (drop first s) (drop next s) vs (N .read) ∙ wide in
@@ -119,7 +123,8 @@ module _ (s : List ℕ) (at first m w : ℕ) (wide : w ≡ width m) (number : re
       let p = places-taken m vs l in
       record {
         cycles = k ∷ [];
-        read = ap single (cycle-is (drop at s) ∙ ap numbered number ∙ ap (cycleFrom m) (ap (λ (n : ℕ). times readNumber n (drop first s)) (sym wide) ∙ N .read));
+        read = ap single (cycle-is (drop at s) ∙ ap numbered number
+            ∙ ap (cycleFrom m) (ap (λ (n : ℕ). times readNumber n (drop first s)) (sym wide) ∙ N .read));
         inside = N .inside;
         real = cycles-real (m ∷ []) vs r;
         counted = rw (numbers (m ∷ []) vs r) (added-one counts (used .cycles) m h);

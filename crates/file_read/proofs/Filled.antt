@@ -54,7 +54,8 @@ pub record Filled (s : List ℕ) (at n i p : ℕ) (cells : List Cell) (counts st
   pub stepsSize : length steps ≡ 2048
   pub spotsSize : length spots ≡ 2048
 
-pub filled-start : (s : List ℕ) (at n : ℕ) (cells : List Cell) (counts steps spots : List ℕ) → at ≤ length s → length cells ≡ 256 → length counts ≡ 512 → length steps ≡ 2048 → length spots ≡ 2048
+pub filled-start : (s : List ℕ) (at n : ℕ) (cells : List Cell) (counts steps spots : List ℕ) → at ≤ length s → length cells ≡ 256 → length counts ≡ 512
+    → length steps ≡ 2048 → length spots ≡ 2048
     → Filled s at n 0 at cells counts steps spots (record { bends = 0; cycles = 0; steps = 0 })
 filled-start s at n cells counts steps spots h a b c d =
     record {
@@ -104,8 +105,10 @@ module _ (s : List ℕ) (at n i p : ℕ) (cells : List Cell) (counts steps spots
         let y = cellWith c ks bs in
         let xs = F .xs in
         let ls = spread entryCycles xs in
-        let more-cycles : spread entryCycles (xs ++ (y ∷ [])) ≡ ls ++ ks = flat-append entryCycles xs (y ∷ []) ∙ ap (λ (l : List Cycle). ls ++ l) (one-cycles c ks bs lk lb) in
-        let more-bends : spread entryBends (xs ++ (y ∷ [])) ≡ spread entryBends xs ++ bs = flat-append entryBends xs (y ∷ []) ∙ ap (λ (l : List Position). spread entryBends xs ++ l) (one-bends c ks bs lk lb) in
+        let more-cycles : spread entryCycles (xs ++ (y ∷ [])) ≡ ls ++ ks = flat-append entryCycles xs (y ∷ [])
+        ∙ ap (λ (l : List Cycle). ls ++ l) (one-cycles c ks bs lk lb) in
+        let more-bends : spread entryBends (xs ++ (y ∷ [])) ≡ spread entryBends xs ++ bs = flat-append entryBends xs (y ∷ [])
+        ∙ ap (λ (l : List Position). spread entryBends xs ++ l) (one-bends c ks bs lk lb) in
         let ps = F .ps in
         let sp = spotsFrom first b in
         let ul : used .cycles ≡ length (map numOf ls) = F .usedCycles ∙ sym (length-map ls numOf) in
@@ -113,7 +116,8 @@ module _ (s : List ℕ) (at n i p : ℕ) (cells : List Cell) (counts steps spots
         record {
           xs = xs ++ (y ∷ []);
           ps = ps ++ sp;
-          reading = reading-turn readCell s at n i p xs (F .reading) y next h (cell-found c (drop p s) (drop first s) (H .read) bs ks (drop (first + 16 * b) s) (drop next s) read-bends (C .read)) (C .inside);
+          reading = reading-turn readCell s at n i p xs (F .reading) y next h
+              (cell-found c (drop p s) (drop first s) (H .read) bs ks (drop (first + 16 * b) s) (drop next s) read-bends (C .read)) (C .inside);
           heads =
               rw (map-append entryCell xs (y ∷ []), one-head c ks bs lk lb)
               (begins-added i il (F .heads) (added-one cells i c (omega (arith, F .cellsSize))));
@@ -126,7 +130,8 @@ module _ (s : List ℕ) (at n i p : ℕ) (cells : List Cell) (counts steps spots
           usedBends = C .sameBends ∙ (let e = F .usedBends in let l = length-append ps sp in let m = spots-length first b in omega arith);
           usedCycles = C .moreCycles ∙ ap (λ (m : ℕ). m + length ks) (F .usedCycles) ∙ sym (length-append ls ks) ∙ ap length (sym more-cycles);
           usedSteps =
-              C .moreSteps ∙ ap (λ (m : ℕ). m + length (spread cycleWords ks)) (F .usedSteps) ∙ sym (length-append (spread cycleWords ls) (spread cycleWords ks))
+              C .moreSteps ∙ ap (λ (m : ℕ). m + length (spread cycleWords ks)) (F .usedSteps)
+              ∙ sym (length-append (spread cycleWords ls) (spread cycleWords ks))
               ∙ ap length (sym (flat-append cycleWords ls ks)) ∙ ap (λ (l : List Cycle). length (spread cycleWords l)) (sym more-cycles);
           cellsSize = length-set cells i c ∙ F .cellsSize;
           countsSize = C .counted .size ∙ F .countsSize;
@@ -140,7 +145,8 @@ module _ (s : List ℕ) (at n i p : ℕ) (cells : List Cell) (counts steps spots
       let a = reading-ahead readCell s at n i p (F .xs) (F .reading) zs [] h f in
       not-bad (a .next) (a .rest) (sym (no-head (drop p s) e) ∙ a .read)
 
-  pub parts-over : (c : Cell) (first : ℕ) → i < n → ReadAt (readHead (drop p s)) s c first → PartsOver s first (c .shape) used → CellsOver (times readCell n (drop at s))
+  pub parts-over : (c : Cell) (first : ℕ) → i < n → ReadAt (readHead (drop p s)) s c first → PartsOver s first (c .shape) used
+      → CellsOver (times readCell n (drop at s))
   parts-over c first h H over zs f r =
       let a = reading-ahead readCell s at n i p (F .xs) (F .reading) zs [] h f in
       let q = cell-parts c (drop p s) (drop first s) (H .read) (a .next) (a .rest) (a .read) in
@@ -154,17 +160,23 @@ module _ (s : List ℕ) (at n i p : ℕ) (cells : List Cell) (counts steps spots
       let w = a .later in
       let z : zs ≡ xs ++ ((y ∷ []) ++ w) = a .whole ∙ ap (λ (m : LiveCell). xs ++ (m ∷ w)) (q .same) in
       let cycles : spread entryCycles zs ≡ ls ++ (ks ++ spread entryCycles w) =
-      ap (spread entryCycles) z ∙ flat-append entryCycles xs ((y ∷ []) ++ w) ∙ ap (λ (l : List Cycle). ls ++ l) (flat-append entryCycles (y ∷ []) w ∙ ap (λ (l : List Cycle). l ++ spread entryCycles w) (one-cycles c ks bs lk lb))
+      ap (spread entryCycles) z ∙ flat-append entryCycles xs ((y ∷ []) ++ w)
+      ∙ ap (λ (l : List Cycle). ls ++ l)
+      (flat-append entryCycles (y ∷ []) w ∙ ap (λ (l : List Cycle). l ++ spread entryCycles w) (one-cycles c ks bs lk lb))
       in
       let bends : spread entryBends zs ≡ spread entryBends xs ++ (bs ++ spread entryBends w) =
-      ap (spread entryBends) z ∙ flat-append entryBends xs ((y ∷ []) ++ w) ∙ ap (λ (l : List Position). spread entryBends xs ++ l) (flat-append entryBends (y ∷ []) w ∙ ap (λ (l : List Position). l ++ spread entryBends w) (one-bends c ks bs lk lb))
+      ap (spread entryBends) z ∙ flat-append entryBends xs ((y ∷ []) ++ w) ∙ ap (λ (l : List Position). spread entryBends xs ++ l)
+      (flat-append entryBends (y ∷ []) w ∙ ap (λ (l : List Position). l ++ spread entryBends w) (one-bends c ks bs lk lb))
       in
       let steps : spread cycleWords (spread entryCycles zs) ≡ spread cycleWords ls ++ (spread cycleWords ks ++ spread cycleWords (spread entryCycles w)) =
-      ap (spread cycleWords) cycles ∙ flat-append cycleWords ls (ks ++ spread entryCycles w) ∙ ap (λ (l : List ℕ). spread cycleWords ls ++ l) (flat-append cycleWords ks (spread entryCycles w))
+      ap (spread cycleWords) cycles ∙ flat-append cycleWords ls (ks ++ spread entryCycles w)
+      ∙ ap (λ (l : List ℕ). spread cycleWords ls ++ l) (flat-append cycleWords ks (spread entryCycles w))
       in
-      let nb : length (spread entryBends zs) ≡ length (spread entryBends xs) + (length bs + length (spread entryBends w)) = ap length bends ∙ simp length-append in
+      let nb : length (spread entryBends zs) ≡ length (spread entryBends xs) + (length bs + length (spread entryBends w)) = ap length bends
+      ∙ simp length-append in
       let nk : length (spread entryCycles zs) ≡ length ls + (length ks + length (spread entryCycles w)) = ap length cycles ∙ simp length-append in
-      let ns : length (spread cycleWords (spread entryCycles zs)) ≡ length (spread cycleWords ls) + (length (spread cycleWords ks) + length (spread cycleWords (spread entryCycles w))) = ap length steps ∙ simp length-append in
+      let ns : length (spread cycleWords (spread entryCycles zs)) ≡ length (spread cycleWords ls)
+      + (length (spread cycleWords ks) + length (spread cycleWords (spread entryCycles w))) = ap length steps ∙ simp length-append in
       let lp : length (F .ps) ≡ length (spread entryBends xs) = sym (length-map (F .ps) (positionAt s)) ∙ ap length (F .bends) in
       let ub = F .usedBends in
       let uk = F .usedCycles in
@@ -180,7 +192,8 @@ module _ (s : List ℕ) (at n i p : ℕ) (cells : List Cell) (counts steps spots
       omega arith
 
   -- ---- all cells
-  module _ (end : i ≡ n) (d : Drawing) (z : Sizes d) (few : n ≤ 256) (count : d .count ≡ n) (cs : d .cells ≡ cells) (ns : d .cycles ≡ counts) (st : d .steps ≡ steps)
+  module _ (end : i ≡ n) (d : Drawing) (z : Sizes d) (few : n ≤ 256) (count : d .count ≡ n) (cs : d .cells ≡ cells) (ns : d .cycles ≡ counts)
+      (st : d .steps ≡ steps)
       (bs : take (used .bends) (d .bends) ≡ map (positionAt s) (take (used .bends) spots)) where
     filled-stands : Stands d (F .xs)
     filled-stands =
@@ -191,7 +204,8 @@ module _ (s : List ℕ) (at n i p : ℕ) (cells : List Cell) (counts steps spots
           cells = ap₂ (λ (k : ℕ) (l : List Cell). take k l) count cs ∙ begins-take n il (F .heads);
           cycles = subst (λ (l : List ℕ). Begins l (map numOf (spread entryCycles xs))) (sym ns) (F .counted);
           steps = subst (λ (l : List ℕ). Begins l (spread cycleWords (spread entryCycles xs))) (sym st) (F .stepped);
-          bends = take-begins (used .bends) (omega (arith, z .bends)) (bs ∙ ap (map (positionAt s)) (begins-take (used .bends) (sym (F .usedBends)) (F .spotted)) ∙ F .bends);
+          bends = take-begins (used .bends) (omega (arith, z .bends))
+              (bs ∙ ap (map (positionAt s)) (begins-take (used .bends) (sym (F .usedBends)) (F .spotted)) ∙ F .bends);
           real = F .real;
         }
 
@@ -204,8 +218,10 @@ module _ (s : List ℕ) (at n i p : ℕ) (cells : List Cell) (counts steps spots
     pub filled-total : used .bends ≡ bendTotal d
     filled-total = F .usedBends ∙ sym (length-map (F .ps) (positionAt s)) ∙ ap length (F .bends) ∙ sym (bend-total d (F .xs) filled-stands)
 
-  pub filled-given : (next : ℕ) (r : ReadAnswer) → r .number ≡ 0 → r .drawing .next ≡ next → i ≡ n → length s ≤ p → Sizes (r .drawing) → n ≤ 256 → r .drawing .count ≡ n → r .drawing .cells ≡ cells
-      → r .drawing .cycles ≡ counts → r .drawing .steps ≡ steps → take (used .bends) (r .drawing .bends) ≡ map (positionAt s) (take (used .bends) spots) → CellsIn (times readCell n (drop at s)) next r
+  pub filled-given : (next : ℕ) (r : ReadAnswer) → r .number ≡ 0 → r .drawing .next ≡ next → i ≡ n → length s ≤ p → Sizes (r .drawing) → n ≤ 256
+      → r .drawing .count ≡ n → r .drawing .cells ≡ cells
+      → r .drawing .cycles ≡ counts → r .drawing .steps ≡ steps → take (used .bends) (r .drawing .bends) ≡ map (positionAt s) (take (used .bends) spots)
+      → CellsIn (times readCell n (drop at s)) next r
   filled-given next r good e end h z few count cs ns st bs =
       record {
         cells = F .xs;

@@ -9,7 +9,13 @@ use Rattle.sound.specs.Soundness.{fitsIn, soundSheet, soundDrawing}
 
 fits-in : (d : Drawing) → Fits d → fitsIn d ≡ true
 fits-in d f =
-    simp (le-leb (d .count) cellsMost (f .cells), le-leb (bendTotal d) bendsMost (f .bends), le-leb (cycleTotal d) cyclesMost (f .cycles), le-leb (stepTotal d) stepsMost (f .steps))
+    simp (
+      le-leb (d .count) cellsMost (f .cells),
+      le-leb (bendTotal d) bendsMost (f .bends),
+      le-leb (cycleTotal d) cyclesMost (f .cycles),
+      le-leb (stepTotal
+          d) stepsMost (f .steps),
+    )
 
 pub fitting-sound : (d : Drawing) → Fits d → soundDrawing d ≡ sound (sheetOf d)
 fitting-sound d f = ap (λ (b : Bool). b && soundSheet d) (fits-in d f)

@@ -46,7 +46,8 @@ pub record Loading (s : List ℕ) (at n : ℕ) (counts₀ steps₀ : List ℕ) (
   pub moreCycles : used .cycles ≡ used₀ .cycles + length cycles
   pub moreSteps : used .steps ≡ used₀ .steps + length (spread cycleWords cycles)
 
-pub loading-start : (s : List ℕ) (at n : ℕ) (counts steps : List ℕ) (used : Used) → at ≤ length s → used .cycles ≤ length counts → used .steps ≤ length steps → Loading s at n counts steps used 0 at counts steps used
+pub loading-start : (s : List ℕ) (at n : ℕ) (counts steps : List ℕ) (used : Used) → at ≤ length s → used .cycles ≤ length counts → used .steps ≤ length steps
+    → Loading s at n counts steps used 0 at counts steps used
 loading-start s at n counts steps used h k l =
     record {
       cycles = [];
@@ -63,7 +64,8 @@ loading-start s at n counts steps used h k l =
 pub too-many : (s : List ℕ) (n : ℕ) (used : Used) → 512 < used .cycles + n → CyclesOver (times readCycle n s) used
 too-many s n used h ks t e k l = let m = times-length readCycle n s t ks e in omega arith
 
-module _ (s : List ℕ) (at n : ℕ) (counts₀ steps₀ : List ℕ) (used₀ : Used) (i p : ℕ) (counts steps : List ℕ) (used : Used) (L : Loading s at n counts₀ steps₀ used₀ i p counts steps used) where
+module _ (s : List ℕ) (at n : ℕ) (counts₀ steps₀ : List ℕ) (used₀ : Used) (i p : ℕ) (counts steps : List ℕ) (used : Used)
+    (L : Loading s at n counts₀ steps₀ used₀ i p counts steps used) where
   pub loading-sizes : i < n → used₀ .cycles + n ≤ length counts₀ → (used .cycles < length counts₀) × (used .steps ≤ length steps₀)
   loading-sizes h k =
       let c = L .reading .count in
@@ -71,7 +73,8 @@ module _ (s : List ℕ) (at n : ℕ) (counts₀ steps₀ : List ℕ) (used₀ : 
       let t = L .moreSteps in
       (omega arith, omega (arith, L .stepped .room))
 
-  pub loading-turn : (counts′ steps′ : List ℕ) (next : ℕ) (used′ : Used) → i < n → CyclesIn (times readCycle 1 (drop p s)) s counts steps used counts′ steps′ next used′
+  pub loading-turn : (counts′ steps′ : List ℕ) (next : ℕ) (used′ : Used) → i < n
+      → CyclesIn (times readCycle 1 (drop p s)) s counts steps used counts′ steps′ next used′
       → Loading s at n counts₀ steps₀ used₀ (i + 1) next counts′ steps′ used′
   loading-turn counts′ steps′ next used′ h C =
       let ks = L .cycles in
@@ -89,7 +92,8 @@ module _ (s : List ℕ) (at n : ℕ) (counts₀ steps₀ : List ℕ) (used₀ : 
         cycles = ks ++ zs;
         reading = rw only (reading-turn readCycle s at n i p ks (L .reading) (o .thing) next h (o .read) (C .inside));
         real = real-append ks zs (L .real) (C .real);
-        counted = rw (map-append numOf ks zs) (added-then (used .cycles) (m ∙ ap (λ (k : ℕ). used₀ .cycles + k) (sym (length-map ks numOf))) (L .counted) (C .counted));
+        counted = rw (map-append numOf ks zs)
+            (added-then (used .cycles) (m ∙ ap (λ (k : ℕ). used₀ .cycles + k) (sym (length-map ks numOf))) (L .counted) (C .counted));
         stepped = rw (flat-append cycleWords ks zs) (added-then (used .steps) t (L .stepped) (C .stepped));
         sameBends = C .sameBends ∙ L .sameBends;
         moreCycles = omega arith;
@@ -105,7 +109,8 @@ module _ (s : List ℕ) (at n : ℕ) (counts₀ steps₀ : List ℕ) (used₀ : 
       let c : length ks ≡ length (L .cycles) + (1 + length w) = ap length z ∙ simp length-append (omega arith) in
       let d : length (spread cycleWords ks) ≡ length (spread cycleWords (L .cycles)) + (length (spread cycleWords (x ∷ [])) + length (spread cycleWords w)) =
       ap (λ (q : List Cycle). length (spread cycleWords q)) z
-      ∙ ap length (flat-append cycleWords (L .cycles) ((x ∷ []) ++ w) ∙ ap (λ (q : List ℕ). spread cycleWords (L .cycles) ++ q) (flat-append cycleWords (x ∷ []) w))
+      ∙ ap length (flat-append cycleWords (L .cycles) ((x ∷ []) ++ w) ∙ ap (λ (q : List ℕ). spread cycleWords (L .cycles) ++ q)
+      (flat-append cycleWords (x ∷ []) w))
       ∙ length-append (spread cycleWords (L .cycles)) (spread cycleWords (x ∷ []) ++ spread cycleWords w)
       ∙ ap (λ (q : ℕ). length (spread cycleWords (L .cycles)) + q) (length-append (spread cycleWords (x ∷ [])) (spread cycleWords w))
       in

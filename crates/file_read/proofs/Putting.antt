@@ -20,7 +20,8 @@ pub putting-start : (s : List ℕ) (at m : ℕ) (out : List ℕ) (used : ℕ) �
 putting-start s at m out used h g = record { numbers = []; reading = reading-start readNumber s at m h; added = added-none out used g }
 
 module _ (s : List ℕ) (at m : ℕ) (out₀ : List ℕ) (used i p : ℕ) (out : List ℕ) (P : Putting s at m out₀ used i p out) where
-  pub putting-turn : (v next : ℕ) → i < m → used + m ≤ length out₀ → readNumber (drop p s) ≡ got v (drop next s) → next ≤ length s → Putting s at m out₀ used (i + 1) next (set out (used + i) v)
+  pub putting-turn : (v next : ℕ) → i < m → used + m ≤ length out₀ → readNumber (drop p s) ≡ got v (drop next s) → next ≤ length s
+      → Putting s at m out₀ used (i + 1) next (set out (used + i) v)
   putting-turn v next h g e l =
       let z = P .added .size in
       record {
@@ -30,4 +31,9 @@ module _ (s : List ℕ) (at m : ℕ) (out₀ : List ℕ) (used i p : ℕ) (out :
       }
 
   pub putting-end : i ≡ m → NumbersIn s at m out₀ used out p
-  putting-end e = record { numbers = P .numbers; read = reading-end readNumber s at m i p (P .numbers) (P .reading) e; inside = P .reading .inside; added = P .added }
+  putting-end e = record {
+    numbers = P .numbers;
+    read = reading-end readNumber s at m i p (P .numbers) (P .reading) e;
+    inside = P .reading .inside;
+    added = P .added;
+  }

@@ -24,7 +24,9 @@ module _ (s : List ℕ) (first : ℕ) (x : Shape) (used : Used) where
   too-few-bytes b e l h bs ks t u f g i j k = not-bad bs t (sym (positions-short s first (bendCount x) l (omega arith)) ∙ f)
 
   -- where there is no room for the cycles after the bends, there is none for the parts
-  pub cycles-over : first + 16 * bendCount x ≤ length s → CyclesOver (times readCycle (cycleCount x) (drop (first + 16 * bendCount x) s)) (bendsMore used (bendCount x)) → PartsOver s first x used
+  pub cycles-over : first + 16 * bendCount x ≤ length s → CyclesOver (times readCycle (cycleCount x) (drop (first + 16 * bendCount x) s))
+      (bendsMore used (bendCount x)) → PartsOver s first x used
   cycles-over h over bs ks t u f g i j k =
-      let m : t ≡ drop (first + 16 * bendCount x) s = got-rest bs (positionsAt s first (bendCount x)) t (drop (first + 16 * bendCount x) s) (sym f ∙ positions-long s first (bendCount x) h) in
+      let m : t ≡ drop (first + 16 * bendCount x) s = got-rest bs (positionsAt s first (bendCount x)) t (drop (first + 16 * bendCount x) s)
+      (sym f ∙ positions-long s first (bendCount x) h) in
       over ks u (ap (times readCycle (cycleCount x)) (sym m) ∙ g) j k

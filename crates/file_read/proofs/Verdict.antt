@@ -26,7 +26,8 @@ use Rattle.file_read.specs.Outcome.{refused, RoomFor, CellsOver, CellsRe
 sound-room : (s : Sheet) → T (sound s) → RoomFor (s .cells) × (length (s .cells) ≤ cellsMost)
 sound-room s t =
     let cs = s .cells in
-    let a = both (leb (length cs) cellsMost) (leb (over cyclesIn cs) cyclesMost && (leb (over stepsIn cs) stepsMost && leb (over bendsIn cs) bendsMost)) (sound-parts s t .fits) in
+    let a = both (leb (length cs) cellsMost) (leb (over cyclesIn cs) cyclesMost && (leb (over stepsIn cs) stepsMost && leb (over bendsIn cs) bendsMost))
+    (sound-parts s t .fits) in
     let b = both (leb (over cyclesIn cs) cyclesMost) (leb (over stepsIn cs) stepsMost && leb (over bendsIn cs) bendsMost) (a .1) in
     let c = both (leb (over stepsIn cs) stepsMost) (leb (over bendsIn cs) bendsMost) (b .1) in
     let k = leb→le (over cyclesIn cs) cyclesMost (b .0) in
@@ -88,7 +89,8 @@ module _ (s t : List ℕ) (next : ℕ) (e : readNumber s ≡ got next t) where
         omega arith
 
     pub cells-read : (r : ReadAnswer) → CellsRead (times readCell n u) next r → SheetRead s r
-    cells-read r (inl c) = inl (c .given .number, c .given .fits, counted-cells ∙ ap (sheeted next) (c .read) ∙ ap (λ (x : Sheet). got x []) (sym (c .given .sheet)))
+    cells-read r (inl c) = inl
+        (c .given .number, c .given .fits, counted-cells ∙ ap (sheeted next) (c .read) ∙ ap (λ (x : Sheet). got x []) (sym (c .given .sheet)))
     cells-read r (inr c) = inr (c .0, cells-over (c .1))
 
 -- ---- answers

@@ -154,7 +154,11 @@ module _ (cs : List Cell) (n : ℕ) (xs ys : List Float) (ns st : List ℕ) (r :
           figure = figureOf (c .shape) (drop (cycleSum l) (cyclesFrom ns st)) (drop (bendSum l) (positionsFrom xs ys));
         })
         (getD-take n cs i y h) (take-take i n cs (omega arith))
-        ∙ ap (λ (ks : List Cycle). record { id = getD cs i y .id; figure = figureOf (getD cs i y .shape) ks (drop (bendSum (take i cs)) (positionsFrom xs ys)) })
+        ∙ ap (λ (ks : List Cycle). record {
+          id = getD cs i y .id;
+          figure = figureOf (getD cs i y .shape) ks (drop (bendSum (take i cs))
+              (positionsFrom xs ys));
+        })
         (drop-cycles (cycleSum (take i cs)) ns st)
 
     bends-more : bendSum (take i cs) + bendCount (getD cs i y .shape) ≡ bendSum (take (i + 1) cs)

@@ -12,7 +12,8 @@ use Rattle.number.specs.Numbers.{numbersEnd}
 use Rattle.number.proofs.Laws.{lt-or-le}
 use Rattle.coordinate.specs.Bounds.{within}
 use Rattle.complex.specs.Lists.{isEmpty, rising}
-use Rattle.complex.specs.Cells.{Halfedge, Cycle, lone, path, Figure, vertex, openEdge, closedEdge, face, LiveCell, Sheet, Look, lookup, ids, isVertex, isOpen, isClosed, same, headOf}
+use Rattle.complex.specs.Cells.{Halfedge, Cycle, lone, path, Figure, vertex, openEdge, closedEdge, face, LiveCell, Sheet, Look, lookup, ids, isVertex, isOpen}
+use Rattle.complex.specs.Cells.{isClosed, same, headOf}
 use Rattle.complex.specs.Sound.{idsEnd, Walk, joins, cycleOk, figureOk, sound}
 use Rattle.complex.proofs.Bools.{both, pair, all-more}
 use Rattle.complex.proofs.Lookup.{rising-lt, lookup-from, all-from}
@@ -67,8 +68,8 @@ module _ (look : Look) (live : (i : ℕ) → (look i ≡ none → ⊥) → i < i
   figure-spells (closedEdge bs) t = both (not (isEmpty bs)) (all within bs) t .1
   figure-spells (face ks) t = all-more (cycleOk look) cycleSpells cycle-spells ks t
 
-  cells-spell : (lo hi : ℕ) (cs : List LiveCell) → hi ≤ idsEnd → T (rising lo (ids cs) hi) → T (all (λ (c : LiveCell). figureOk look (c .figure)) cs)
-      → T (all cellSpells cs)
+  cells-spell : (lo hi : ℕ) (cs : List LiveCell) → hi ≤ idsEnd → T (rising lo (ids cs) hi)
+      → T (all (λ (c : LiveCell). figureOk look (c .figure)) cs) → T (all cellSpells cs)
   cells-spell lo hi [] h r t = tt
   cells-spell lo hi (c ∷ cs) h r t =
       let a = both (ltb lo (c .id)) (rising (c .id) (ids cs) hi) r in

@@ -43,7 +43,8 @@ pasted-step {out} {out′} {at} {v} h e =
 
 -- k numbers put down after a list, as a cycle more
 pasted-closed : {numbers places out xs numbers′ : List ℕ} {u u′ : Used} {k : ℕ} → Building numbers u places → Pasted places (u .steps) xs out → length xs ≡ k
-    → u .steps + k ≤ length places → Closes numbers u k numbers′ → u′ ≡ moreCycle u k → Built (built numbers u places ++ one (path (map halfedgeOf xs))) numbers′ u′ out
+    → u .steps + k ≤ length places → Closes numbers u k numbers′ → u′ ≡ moreCycle u k
+    → Built (built numbers u places ++ one (path (map halfedgeOf xs))) numbers′ u′ out
 pasted-closed {numbers} {places} {out} {xs} {numbers′} {u} {u′} {k} b p l h c e =
     let j = u .steps in
     let zo = p .size in
@@ -100,7 +101,8 @@ module _ {steps : List ℕ} {p : Place} {s1 : ℕ} {q : Place} {s2 e : ℕ} (j :
         last-asks = omega (arith, with-both .size)
 
         pub joined-built : {out₄ numbers′ : List ℕ} {u′ : Used} → out₄ ≡ set out₃ last (2 * e + 1) → Closes numbers u (p .m + q .m + 2) numbers′
-            → u′ ≡ moreCycle u (p .m + q .m + 2) → Built (built numbers u places ++ one (bridgeCycle e s1 (cycleAt steps p) s2 (cycleAt steps q))) numbers′ u′ out₄
+            → u′ ≡ moreCycle u (p .m + q .m + 2) → Built (built numbers u places ++ one (bridgeCycle e s1 (cycleAt steps p) s2 (cycleAt steps q))) numbers′ u′
+            out₄
         joined-built f₄ cl eu =
             let l1 = length1 j in
             let l2 = length2 j in

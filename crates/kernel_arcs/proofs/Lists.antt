@@ -94,7 +94,8 @@ module _ {cycles steps : List ℕ} {t : Spans} (w : Within cycles steps t) (flag
         (b .building, (omega arith, (omega arith, (omega arith, (omega arith, omega arith)))))
 
     pub ahead-built : {numbers places numbers′ places′ : List ℕ} {u u′ : Used} → Built [] numbers u places
-        → Built (built numbers u places ++ kept (take c flags) (cyclesFrom (take c own) held)) numbers′ u′ places′ → Built (ahead flags c ks) numbers′ u′ places′
+        → Built (built numbers u places ++ kept (take c flags) (cyclesFrom (take c own) held)) numbers′ u′ places′
+        → Built (ahead flags c ks) numbers′ u′ places′
     ahead-built b₀ b = built-as (ap (kept (take c flags)) ahead-is) (built-then (kept (take c flags) (cyclesFrom (take c own) held)) b₀ b)
 
   -- ---- the cycles after c, which stands at p

@@ -42,7 +42,8 @@ copy-asks r =
 
 -- the cycles that are kept follow x
 pub far-asks : {cycles steps : List ℕ} {t : Spans} → (w : Within cycles steps t) (flags : List Bool) → t .cycles .count ≤ length flags → (x : Cycle) {N M : ℕ}
-    → RoomFor N M (x ∷ kept (take (t .cycles .count) flags) (cyclesAt cycles steps t)) → {numbers places : List ℕ} {u : Used} → length numbers ≡ N → length places ≡ M
+    → RoomFor N M (x ∷ kept (take (t .cycles .count) flags) (cyclesAt cycles steps t)) → {numbers places : List ℕ} {u : Used} → length numbers ≡ N
+    → length places ≡ M
     → Built (one x) numbers u places → CopyAsks cycles (t .cycles .first) (t .cycles .count) steps (t .steps .first) flags numbers u places
 far-asks {cycles} {steps} {t} w flags fs x room lc ls b =
     copy-asks (kept-asks cycles steps t w flags fs x (omega (arith, room .cycles)) (omega (arith, room .steps)) b)

@@ -53,7 +53,8 @@ module _ {A : Type 0} where
 
     pub rotated-last : runAt (f + (t - m)) (m - f) r ≡ runAt f (m - f) l
     rotated-last =
-        ap (take (m - f)) (sym (drop-drop (t - m) f r) ∙ ap (drop (t - m)) (drop-at (take f l) (slice m t l ++ (slice f m l ++ drop t l)) f lf) ∙ drop-at (slice m t l) (slice f m l ++ drop t l) (t - m) lb)
+        ap (take (m - f)) (sym (drop-drop (t - m) f r) ∙ ap (drop (t - m)) (drop-at (take f l) (slice m t l ++ (slice f m l ++ drop t l)) f lf)
+        ∙ drop-at (slice m t l) (slice f m l ++ drop t l) (t - m) lb)
         ∙ take-at (slice f m l) (drop t l) (m - f) la ∙ slice-run f m l hm
 
   -- m places from base on go to the end of the first t; of them those from i up to j go to the very end
@@ -119,7 +120,8 @@ module _ {A : Type 0} where
     twice-last =
         let a : t - (t - m + j) ≡ m - j = omega arith in
         let b : t - m + j - (t - m + i) ≡ j - i = omega arith in
-        ap₂ (λ (u v : ℕ). runAt (t - m + i + u) v twice) (sym a) (sym b) ∙ rotated-last (t - m + i) (t - m + j) t once (omega arith) (omega arith) (omega (arith, lo))
+        ap₂ (λ (u v : ℕ). runAt (t - m + i + u) v twice) (sym a) (sym b) ∙ rotated-last (t - m + i) (t - m + j) t once (omega arith) (omega arith)
+        (omega (arith, lo))
         ∙ ap (λ (v : ℕ). runAt (t - m + i) v once) b ∙ sym (take-take (j - i) (m - i) (drop (t - m + i) once) (omega arith)) ∙ ap (take (j - i)) (from i)
         ∙ take-take (j - i) (m - i) (drop (base + i) l) (omega arith)
 

@@ -12,7 +12,8 @@ use Rattle.kernel_bends.specs.Turned.{turned, rotated}
 use Rattle.kernel_bends.proofs.Positions.{positions-take, positions-drop, positions-append}
 
 module _ {A : Type 0} where
-  pub rotated-is : (a b c z : List A) (f m t : ℕ) → length a ≡ f → f + length b ≡ m → m + length c ≡ t → rotated f m t (a ++ (b ++ (c ++ z))) ≡ a ++ (c ++ (b ++ z))
+  pub rotated-is : (a b c z : List A) (f m t : ℕ) → length a ≡ f → f + length b ≡ m → m + length c ≡ t
+      → rotated f m t (a ++ (b ++ (c ++ z))) ≡ a ++ (c ++ (b ++ z))
   rotated-is a b c z f m t ha hb hc =
       let l = a ++ (b ++ (c ++ z)) in
       let lab : length (a ++ b) ≡ m = length-append a b ∙ ap (λ (n : ℕ). n + length b) ha ∙ hb in
@@ -25,7 +26,8 @@ module _ {A : Type 0} where
       let dt : drop t l ≡ z = ap (drop t) l3 ∙ drop-at ((a ++ b) ++ c) z t labc in
       λ i. tf i ++ (tt′ i ++ (tm i ++ dt i))
 
-positions-snoc : (xs ys : List Float) (x y : Float) → length xs ≡ length ys → positionsIn (xs ++ (x ∷ [])) (ys ++ (y ∷ [])) ≡ positionsIn xs ys ++ (record { x = x; y = y } ∷ [])
+positions-snoc : (xs ys : List Float) (x y : Float) → length xs ≡ length ys
+    → positionsIn (xs ++ (x ∷ [])) (ys ++ (y ∷ [])) ≡ positionsIn xs ys ++ (record { x = x; y = y } ∷ [])
 positions-snoc xs ys x y e = positions-append xs (x ∷ []) ys (y ∷ []) e
 
 positions-reverse : (xs ys : List Float) → length xs ≡ length ys → positionsIn (reverse xs) (reverse ys) ≡ reverse (positionsIn xs ys)
@@ -39,12 +41,15 @@ positions-reverse (x ∷ xs) (y ∷ ys) e =
     ∙ ap (λ (l : List Position). l ++ (p ∷ [])) (positions-reverse xs ys (omega (arith, e)))
     ∙ sym (reverse-cons p (positionsIn xs ys))
 
-pub positions-turned : (f t : ℕ) (xs ys : List Float) → length xs ≡ length ys → f ≤ t → t ≤ length xs → positionsIn (turned f t xs) (turned f t ys) ≡ turned f t (positionsIn xs ys)
+pub positions-turned : (f t : ℕ) (xs ys : List Float) → length xs ≡ length ys → f ≤ t → t ≤ length xs
+    → positionsIn (turned f t xs) (turned f t ys) ≡ turned f t (positionsIn xs ys)
 positions-turned f t xs ys e ht hl =
     let sx = length-slice f t xs hl in
     let sy = length-slice f t ys (omega (arith, e, hl)) in
     positions-append (take f xs) (reverse (slice f t xs) ++ drop t xs) (take f ys) (reverse (slice f t ys) ++ drop t ys)
     (length-take-le f xs (omega arith) ∙ sym (length-take-le f ys (omega (arith, e))))
     ∙ ap₂ _++_ (positions-take f xs ys)
-    (positions-append (reverse (slice f t xs)) (drop t xs) (reverse (slice f t ys)) (drop t ys) (length-reverse (slice f t xs) ∙ sx ∙ sym sy ∙ sym (length-reverse (slice f t ys)))
-    ∙ ap₂ _++_ (positions-reverse (slice f t xs) (slice f t ys) (sx ∙ sym sy) ∙ ap reverse (positions-drop f (take t xs) (take t ys) ∙ ap (drop f) (positions-take t xs ys))) (positions-drop t xs ys))
+    (positions-append (reverse (slice f t xs)) (drop t xs) (reverse (slice f t ys)) (drop t ys)
+    (length-reverse (slice f t xs) ∙ sx ∙ sym sy ∙ sym (length-reverse (slice f t ys)))
+    ∙ ap₂ _++_ (positions-reverse (slice f t xs) (slice f t ys) (sx ∙ sym sy)
+    ∙ ap reverse (positions-drop f (take t xs) (take t ys) ∙ ap (drop f) (positions-take t xs ys))) (positions-drop t xs ys))

@@ -33,7 +33,8 @@ positions-append [] us (y ∷ ys) vs h = absurd (omega (arith, h))
 positions-append (x ∷ xs) us [] vs h = absurd (omega (arith, h))
 positions-append (x ∷ xs) us (y ∷ ys) vs h = ap (λ (l : List Position). record { x = x; y = y } ∷ l) (positions-append xs us ys vs (omega (arith, h)))
 
-pub positions-rotated : (f m t : ℕ) (xs ys : List Float) → length xs ≡ length ys → f ≤ m → m ≤ t → t ≤ length xs → positionsIn (rotated f m t xs) (rotated f m t ys) ≡ rotated f m t (positionsIn xs ys)
+pub positions-rotated : (f m t : ℕ) (xs ys : List Float) → length xs ≡ length ys → f ≤ m → m ≤ t → t ≤ length xs
+    → positionsIn (rotated f m t xs) (rotated f m t ys) ≡ rotated f m t (positionsIn xs ys)
 positions-rotated f m t xs ys e hm ht hl =
     positions-append (take f xs) (slice m t xs ++ (slice f m xs ++ drop t xs)) (take f ys) (slice m t ys ++ (slice f m ys ++ drop t ys))
     (length-take-le f xs (omega arith) ∙ sym (length-take-le f ys (omega (arith, e))))
@@ -52,5 +53,6 @@ pub positions-moved : (base m i j t : ℕ) (xs ys : List Float) → length xs �
 positions-moved base m i j t xs ys e hi hj hb hl =
     let lx = rotated-length base (base + m) t xs (omega arith) hb hl in
     let ly = rotated-length base (base + m) t ys (omega arith) hb (omega (arith, e)) in
-    positions-rotated (t - m + i) (t - m + j) t (rotated base (base + m) t xs) (rotated base (base + m) t ys) (lx ∙ e ∙ sym ly) (omega arith) (omega arith) (omega (arith, lx))
+    positions-rotated (t - m + i) (t - m + j) t (rotated base (base + m) t xs) (rotated base (base + m) t ys) (lx ∙ e ∙ sym ly) (omega arith) (omega arith)
+    (omega (arith, lx))
     ∙ ap (rotated (t - m + i) (t - m + j) t) (positions-rotated base (base + m) t xs ys e (omega arith) hb hl)

@@ -49,7 +49,16 @@ module _ {A : Type 0} where
 
   pub mid-start : (a : List A) (f t : ℕ) → f ≤ t → t ≤ length a → Mid a (turned f t a) f (t - f)
   mid-start a f t h k =
-      record { e = take f a; mid = slice f t a; z = drop t a; now = split a f t h; then = refl; at = length-take-le f a (omega arith); len = length-slice f t a k }
+      record {
+        e = take f a;
+        mid = slice f t a;
+        z = drop t a;
+        now = split a f t h;
+        then = refl;
+        at = length-take-le f a (omega
+            arith);
+        len = length-slice f t a k;
+      }
 
   pub mid-done : (xs goal : List A) (i d : ℕ) → Mid xs goal i d → d ≤ 1 → xs ≡ goal
   mid-done xs goal i d m h =
@@ -85,7 +94,8 @@ module _ {A : Type 0} where
         z = x ∷ m .z;
         now = ap (swapped i (j - 1) c) xs-is ∙ swap-mid (m .e) r (m .z) x y c i (j - 1) at (omega arith) ∙ sym (append-snoc (m .e) y (r ++ (x ∷ m .z)));
         then =
-            m .then ∙ ap (λ (l : List A). m .e ++ (l ++ m .z)) (ap reverse (tw .3) ∙ ends x r y) ∙ ap (λ (l : List A). m .e ++ (y ∷ l)) (append-assoc (reverse r) (x ∷ []) (m .z))
+            m .then ∙ ap (λ (l : List A). m .e ++ (l ++ m .z)) (ap reverse (tw .3) ∙ ends x r y)
+            ∙ ap (λ (l : List A). m .e ++ (y ∷ l)) (append-assoc (reverse r) (x ∷ []) (m .z))
             ∙ sym (append-snoc (m .e) y (reverse r ++ (x ∷ m .z)));
         at = length-append (m .e) (y ∷ []) ∙ ap (λ (n : ℕ). n + 1) at;
         len = omega arith;
@@ -100,7 +110,8 @@ module _ {A : Type 0} where
       let dr : drop t l ≡ c = ap (λ (q : List A). drop t q) (sym (append-assoc a b c)) ∙ drop-at (a ++ b) c t (length-append a b ∙ hb) in
       ap₂ (λ (u v : List A). u ++ (reverse v ++ drop t l)) (take-at a (b ++ c) f ha) s ∙ ap (λ (v : List A). a ++ (reverse b ++ v)) dr
 
-  pub three : (l l1 l2 l3 : List A) (f m t : ℕ) → f ≤ m → m ≤ t → t ≤ length l → l1 ≡ turned f m l → l2 ≡ turned m t l1 → l3 ≡ turned f t l2 → l3 ≡ rotated f m t l
+  pub three : (l l1 l2 l3 : List A) (f m t : ℕ) → f ≤ m → m ≤ t → t ≤ length l → l1 ≡ turned f m l → l2 ≡ turned m t l1 → l3 ≡ turned f t l2
+      → l3 ≡ rotated f m t l
   three l l1 l2 l3 f m t hf hm ht e1 e2 e3 =
       let a = take f l in
       let b = slice f m l in
@@ -110,13 +121,15 @@ module _ {A : Type 0} where
       let lb : length b ≡ m - f = length-slice f m l (omega arith) in
       let lc : length c ≡ t - m = length-slice m t l ht in
       let rest : drop m l ≡ c ++ z =
-      sym (drop-at (take m l) (drop m l) m (length-take-le m l (omega arith))) ∙ ap (drop m) (take-append-drop m l ∙ split l m t hm) ∙ drop-at (take m l) (c ++ z) m (length-take-le m l (omega arith)) in
+      sym (drop-at (take m l) (drop m l) m (length-take-le m l (omega arith))) ∙ ap (drop m) (take-append-drop m l ∙ split l m t hm)
+      ∙ drop-at (take m l) (c ++ z) m (length-take-le m l (omega arith)) in
       let rb : length (reverse b) ≡ m - f = length-reverse b ∙ lb in
       let rc : length (reverse c) ≡ t - m = length-reverse c ∙ lc in
       let f1 : l1 ≡ (a ++ reverse b) ++ (c ++ z) = e1 ∙ ap (λ (q : List A). a ++ (reverse b ++ q)) rest ∙ sym (append-assoc a (reverse b) (c ++ z)) in
       let lab : length (a ++ reverse b) ≡ m = length-append a (reverse b) ∙ omega arith in
       let f2 : l2 ≡ a ++ ((reverse b ++ reverse c) ++ z) =
-      e2 ∙ ap (turned m t) f1 ∙ turned-is (a ++ reverse b) c z m t lab (omega arith) ∙ append-assoc a (reverse b) (reverse c ++ z) ∙ ap (λ (q : List A). a ++ q) (sym (append-assoc (reverse b) (reverse c) z)) in
+      e2 ∙ ap (turned m t) f1 ∙ turned-is (a ++ reverse b) c z m t lab (omega arith) ∙ append-assoc a (reverse b) (reverse c ++ z)
+      ∙ ap (λ (q : List A). a ++ q) (sym (append-assoc (reverse b) (reverse c) z)) in
       e3 ∙ ap (turned f t) f2 ∙ turned-is a (reverse b ++ reverse c) z f t la (omega (arith, length-append (reverse b) (reverse c)))
       ∙ ap (λ (q : List A). a ++ (q ++ z)) (reverse-append (reverse b) (reverse c) ∙ ap₂ (λ (u v : List A). u ++ v) (reverse-reverse c) (reverse-reverse b))
       ∙ ap (λ (q : List A). a ++ q) (append-assoc c b z)

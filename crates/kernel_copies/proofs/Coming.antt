@@ -58,7 +58,8 @@ bend-put us₀ vs₀ us vs us′ vs′ base n first k i j p l₀ m₀ l m e ei h
     let ps₀ = positionsIn us₀ vs₀ in
     let ps = positionsIn us vs in
     let z = positions-length us₀ vs₀ (l₀ ∙ sym m₀) in
-    let at : p ≡ getD ps (first + j % k) p = ep ∙ sym (positions-at us vs (first + i) p (omega (arith, hi, l)) (omega (arith, hi, m))) ∙ ap (λ (x : ℕ). getD ps (first + x) p) ei in
+    let at : p ≡ getD ps (first + j % k) p = ep ∙ sym (positions-at us vs (first + i) p (omega (arith, hi, l)) (omega (arith, hi, m)))
+    ∙ ap (λ (x : ℕ). getD ps (first + x) p) ei in
     ap₂ positionsIn eu ev ∙ positions-set us vs (base + j) p ∙ ap (set ps (base + j)) at
     ∙ bend-more ps₀ ps base n first k j p e h (omega (arith, g, z, l₀)) t
 
@@ -77,7 +78,8 @@ module _ (a : Arrays) (s : Shape) (n : ℕ) where
         rows = ap normal e ∙ m;
       }
 
-  module _ (i : ℕ) (b : Arrays) (r : RowsCome a s n i b) (la : Lengths a) (hi : i < n) (hc : a .count + n ≤ 256) (eb : b .count ≡ a .count + i) (en : b .next ≡ a .next + i)
+  module _ (i : ℕ) (b : Arrays) (r : RowsCome a s n i b) (la : Lengths a) (hi : i < n) (hc : a .count + n ≤ 256) (eb : b .count ≡ a .count + i)
+      (en : b .next ≡ a .next + i)
       (k x y u v : ℕ) (p : Position) (es : shapeBy k x y u v p ≡ s) (ok : rowNormal k x y u v ≡ true) where
     abbrev xs : List Float
     xs = set (b .px) (b .count) (p .x)
@@ -91,7 +93,8 @@ module _ (a : Arrays) (s : Shape) (n : ℕ) where
     room : b .count < 256
     room = omega (arith, eb, hc, hi)
 
-    held-more : heldBy after ≡ withCells (heldBy a) (a .next + (i + 1)) (a .count + (i + 1)) (paste (heldBy a .cells) (a .count) (copyCells (a .next) s n) (i + 1))
+    held-more : heldBy after ≡ withCells (heldBy a) (a .next + (i + 1)) (a .count + (i + 1))
+        (paste (heldBy a .cells) (a .count) (copyCells (a .next) s n) (i + 1))
     held-more =
         let d = heldBy b in
         let cs = heldBy a .cells in
@@ -112,23 +115,53 @@ module _ (a : Arrays) (s : Shape) (n : ℕ) where
     rows-more b′ e =
         record {
           held = ap heldBy e ∙ held-more;
-          long = subst Lengths (sym e) (row-long b (r .long) k x y u v xs ys (length-set (b .px) (b .count) (p .x) ∙ r .long .px) (length-set (b .py) (b .count) (p .y) ∙ r .long .py));
+          long = subst Lengths (sym e)
+              (row-long b (r .long) k x y u v xs ys (length-set (b .px) (b .count) (p .x) ∙ r .long .px) (length-set (b .py) (b .count) (p .y) ∙ r .long .py));
           rows = ap normal e ∙ row-normal b (r .long) k x y u v xs ys room ok (r .rows);
         }
 
 -- the row that is copied
-pub row-ok : (a : Arrays) → normal a ≡ true → (row : ℕ) → row < a .count → rowNormal (getD (a .kinds) row 0) (getD (a .starts) row 0) (getD (a .ends) row 0) (getD (a .bends) row 0) (getD (a .counts) row 0) ≡ true
+pub row-ok : (a : Arrays) → normal a ≡ true → (row : ℕ) → row < a .count
+    → rowNormal (getD (a .kinds) row 0) (getD (a .starts) row 0) (getD (a .ends) row 0) (getD (a .bends) row 0) (getD (a .counts) row 0) ≡ true
 row-ok a m row h = all-at (normalAt (a .kinds) (a .starts) (a .ends) (a .bends) (a .counts)) (a .count) row h m
 
 -- ---- copies of a cell
 -- the arrays with other bends
 abbrev pub withPlaces : Arrays → List Float → List Float → Arrays
 withPlaces a us vs =
-    record { next = a .next; count = a .count; ids = a .ids; kinds = a .kinds; starts = a .starts; ends = a .ends; bends = a .bends; counts = a .counts; px = a .px; py = a .py; cycles = a .cycles; steps = a .steps; bx = us; by = vs }
+    record {
+      next = a .next;
+      count = a .count;
+      ids = a .ids;
+      kinds = a .kinds;
+      starts = a .starts;
+      ends = a .ends;
+      bends = a .bends;
+      counts = a .counts;
+      px = a .px;
+      py = a .py;
+      cycles = a .cycles;
+      steps = a .steps;
+      bx = us;
+      by = vs;
+    }
 
 pub long-with : (a : Arrays) → Lengths a → (us vs : List Float) → length us ≡ 2048 → length vs ≡ 2048 → Lengths (withPlaces a us vs)
 long-with a l us vs lu lv =
-    record { ids = l .ids; kinds = l .kinds; starts = l .starts; ends = l .ends; bends = l .bends; counts = l .counts; px = l .px; py = l .py; cycles = l .cycles; steps = l .steps; bx = lu; by = lv }
+    record {
+      ids = l .ids;
+      kinds = l .kinds;
+      starts = l .starts;
+      ends = l .ends;
+      bends = l .bends;
+      counts = l .counts;
+      px = l .px;
+      py = l .py;
+      cycles = l .cycles;
+      steps = l .steps;
+      bx = lu;
+      by = lv;
+    }
 
 module _ (a : Arrays) (l : Lengths a) (m : normal a ≡ true) (row n : ℕ) (h : CopiesRoom (heldBy a) row n) where
   abbrev nowhere : Cell
@@ -147,7 +180,8 @@ module _ (a : Arrays) (l : Lengths a) (m : normal a ≡ true) (row n : ℕ) (h :
 
   pub bends-from : total (placesOf 0) (take row (a .bends)) ≡ bendSum (take row (heldBy a .cells))
   bends-from =
-      ap (total (placesOf 0)) (cells-told bendCount (shapeAt a) row (a .ids) (a .bends) (l .ids ∙ sym (l .bends)) (λ j g. told a l m j (omega (arith, g, h .row)) .bends))
+      ap (total (placesOf 0)) (cells-told bendCount (shapeAt a) row (a .ids) (a .bends) (l .ids ∙ sym (l .bends))
+      (λ j g. told a l m j (omega (arith, g, h .row)) .bends))
       ∙ places-sum (λ (c : Cell). bendCount (c .shape)) (take row (heldBy a .cells))
 
   pub bends-asks : (row ≤ length (a .bends)) × (total (placesOf 0) (take row (a .bends)) ≤ 2048)
@@ -164,7 +198,8 @@ module _ (a : Arrays) (l : Lengths a) (m : normal a ≡ true) (row n : ℕ) (h :
         let g : n * k ≡ n * length (figureBends (figureAt (sheetOf (heldBy a)) row)) = ap (λ (x : ℕ). n * x) e in
         (omega (arith, w, e, eb, ef ∙ bends-from), omega (arith, eb, h .bends, g))
 
-    pub copies-come : (us vs : List Float) → positionsIn us vs ≡ paste (positionsIn (a .bx) (a .by)) base (repeated n (runAt first k (positionsIn (a .bx) (a .by)))) (n * k)
+    pub copies-come : (us vs : List Float) → positionsIn us vs
+        ≡ paste (positionsIn (a .bx) (a .by)) base (repeated n (runAt first k (positionsIn (a .bx) (a .by)))) (n * k)
         → (b : Arrays) → RowsCome (withPlaces a us vs) (shapeAt a row) n n b → CopiesCome a row n b
     copies-come us vs e b r =
         let d = heldBy a in
@@ -177,7 +212,22 @@ module _ (a : Arrays) (l : Lengths a) (m : normal a ≡ true) (row n : ℕ) (h :
 -- ---- uses
 abbrev pub withOtherSteps : Arrays → List ℕ → Arrays
 withOtherSteps a st =
-    record { next = a .next; count = a .count; ids = a .ids; kinds = a .kinds; starts = a .starts; ends = a .ends; bends = a .bends; counts = a .counts; px = a .px; py = a .py; cycles = a .cycles; steps = st; bx = a .bx; by = a .by }
+    record {
+      next = a .next;
+      count = a .count;
+      ids = a .ids;
+      kinds = a .kinds;
+      starts = a .starts;
+      ends = a .ends;
+      bends = a .bends;
+      counts = a .counts;
+      px = a .px;
+      py = a .py;
+      cycles = a .cycles;
+      steps = st;
+      bx = a .bx;
+      by = a .by;
+    }
 
 module _ (a : Arrays) (l : Lengths a) (f : Fits (heldBy a)) (u : Use) (i k m : ℕ) (em : m ≡ cycleTotal (heldBy a)) where
   pub uses-room : (m ≤ length (a .cycles)) × (widthSum (take m (a .cycles)) ≤ length (a .steps))
@@ -192,15 +242,30 @@ module _ (a : Arrays) (l : Lengths a) (f : Fits (heldBy a)) (u : Use) (i k m : �
       let d = heldBy a in
       let z = held-sizes a l in
       let g = stepped-is d z f st ls in
-      let q = subst (λ (x : ℕ). cyclesFrom (take x (a .cycles)) st ≡ counting (usesIn u i) (copied u i (a .next)) k (cyclesFrom (take x (a .cycles)) (a .steps))) em e in
+      let q = subst (λ (x : ℕ). cyclesFrom (take x (a .cycles)) st
+      ≡ counting (usesIn u i) (copied u i (a .next)) k (cyclesFrom (take x (a .cycles)) (a .steps))) em e in
       record {
         sheet = g .0 ∙ ap (λ (xs : List LiveCell). withEntries (sheetOf d) xs) (copied-cells d z f (usesIn u i) (copied u i (a .next)) k st t q);
         fits = g .1;
-        long = record { ids = l .ids; kinds = l .kinds; starts = l .starts; ends = l .ends; bends = l .bends; counts = l .counts; px = l .px; py = l .py; cycles = l .cycles; steps = ls; bx = l .bx; by = l .by };
+        long = record {
+          ids = l .ids;
+          kinds = l .kinds;
+          starts = l .starts;
+          ends = l .ends;
+          bends = l .bends;
+          counts = l .counts;
+          px = l .px;
+          py = l .py;
+          cycles = l .cycles;
+          steps = ls;
+          bx = l .bx;
+          by = l .by;
+        };
       }
 
 -- ---- the answer of a command that issues k ids and keeps all cells
-pub more-outcome : (next n k : ℕ) (out : Drawing) → 1 ≤ k → out .next ≡ next + k → out .count ≡ n + k → record { number = 0; first = next; new = k; removed = 0; drawing = out } ≡ outcome next n out
+pub more-outcome : (next n k : ℕ) (out : Drawing) → 1 ≤ k → out .next ≡ next + k → out .count ≡ n + k
+    → record { number = 0; first = next; new = k; removed = 0; drawing = out } ≡ outcome next n out
 more-outcome next n k out h e f =
     let g : k ≡ out .next - next = omega (arith, e) in
     let r : 0 ≡ n + (out .next - next) - out .count = omega (arith, e, f) in

@@ -63,7 +63,8 @@ total-with counts k row n h l =
     ap (take 1) (drop-cons c row 0 (omega (arith, length-set counts row n))) ∙ ap (λ (x : ℕ). x ∷ []) (getD-set-same counts row n 0 (omega arith)) in
     let p : spanOf 0 c (rowSpan k row) .first ≡ spanOf 0 counts (rowSpan k row) .first = ap (total (placesOf 0)) (take-set-le row counts row n (omega arith)) in
     let q : spanOf 0 c (rowSpan k row) .count ≡ n = ap (total (placesOf 0)) one ∙ omega (arith, places-zero n) in
-    let r : spanOf 0 c (rowSpan k row) .rest ≡ spanOf 0 counts (rowSpan k row) .rest = ap (λ (x : List ℕ). total (placesOf 0) (take (k - (row + 1)) x)) (drop-set-lt (row + 1) counts row n (omega arith)) in
+    let r : spanOf 0 c (rowSpan k row) .rest ≡ spanOf 0 counts (rowSpan k row) .rest = ap (λ (x : List ℕ). total (placesOf 0) (take (k - (row + 1)) x))
+    (drop-set-lt (row + 1) counts row n (omega arith)) in
     ap (λ (i : ℕ). total (placesOf 0) (take i c)) (sym e) ∙ sym (span-sum 0 c (rowSpan k row)) ∙ omega (arith, p, q, r)
 
 module _ (a : Arrays) (row : ℕ) (s : Spans) (counts : List ℕ) (n : ℕ) (steps : List ℕ) (m : ℕ) (w : ReplacesIn a row s counts n steps m) where
@@ -89,7 +90,8 @@ module _ (a : Arrays) (row : ℕ) (s : Spans) (counts : List ℕ) (n : ℕ) (ste
   pub in-rows : row < 256
   in-rows = omega (arith, w .replaces .live, w .replaces .fits .cells)
 
-  module _ (cy st : List ℕ) (lc : length cy ≡ 512) (ls : length st ≡ 2048) (kc : Spliced (a .cycles) (s .cycles) counts n cy) (ks : Spliced (a .steps) (s .steps) steps m st) where
+  module _ (cy st : List ℕ) (lc : length cy ≡ 512) (ls : length st ≡ 2048) (kc : Spliced (a .cycles) (s .cycles) counts n cy)
+      (ks : Spliced (a .steps) (s .steps) steps m st) where
     abbrev b : Arrays
     b = withCycles a row n cy st
 
@@ -134,7 +136,8 @@ module _ (a : Arrays) (row : ℕ) (s : Spans) (counts : List ℕ) (n : ℕ) (ste
 
     both : (sheetOf (heldBy b) ≡ sheetWithRow (sheetOf (heldBy a)) row (face (cyclesFrom (take n counts) steps))) × Fits (heldBy b)
     both =
-        replaced-is (heldBy a) sizes-in (w .replaces .fits) row (w .replaces .live) counts steps n m (w .replaces) (heldBy b) (held-sizes b long) refl refl none cells-are refl
+        replaced-is (heldBy a) sizes-in (w .replaces .fits) row (w .replaces .live) counts steps n m (w .replaces) (heldBy b)
+        (held-sizes b long) refl refl none cells-are refl
         (subst (λ (t : Span). Spliced (a .cycles) t counts n cy) (spans-in .0) kc) (subst (λ (t : Span). Spliced (a .steps) t steps m st) (spans-in .1) ks)
 
     -- the normal form
@@ -172,7 +175,8 @@ module _ (a : Arrays) (row : ℕ) (s : Spans) (counts : List ℕ) (n : ℕ) (ste
         let x = take (s .cycles .first) (a .cycles) in
         let y = take n counts in
         let v = take (s .cycles .rest) (drop (s .cycles .first + s .cycles .count) (a .cycles)) in
-        let e : s .steps ≡ spanOf 1 (a .cycles) (s .cycles) = ap (λ (t : Spans). t .steps) (w .spans) ∙ ap (λ (t : Spans). spanOf 1 (a .cycles) (t .cycles)) (sym (w .spans)) in
+        let e : s .steps ≡ spanOf 1 (a .cycles) (s .cycles) = ap (λ (t : Spans). t .steps) (w .spans)
+        ∙ ap (λ (t : Spans). spanOf 1 (a .cycles) (t .cycles)) (sym (w .spans)) in
         let g = sum-append f x (y ++ v) in
         let h = sum-append f y v in
         let u : total f y ≡ m = width-places y ∙ w .replaces .width in

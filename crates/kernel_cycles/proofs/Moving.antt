@@ -40,12 +40,14 @@ back-turn old from n to i k l b h e p =
     let w = p .le in
     let m : n - k ≡ suc (n - i) = omega arith in
     let same : v ≡ getD old (from + k) 0 =
-    sym (getD-take (to + i) l (from + k) 0 (omega arith)) ∙ ap (λ (q : List ℕ). getD q (from + k) 0) (p .front) ∙ getD-take (to + i) old (from + k) 0 (omega arith) in
+    sym (getD-take (to + i) l (from + k) 0 (omega arith)) ∙ ap (λ (q : List ℕ). getD q (from + k) 0) (p .front)
+    ∙ getD-take (to + i) old (from + k) 0 (omega arith) in
     let z : suc (to + k) ≡ to + i = omega arith in
     let y : suc (from + k) ≡ from + i = omega arith in
     let a : drop (to + k) l′ ≡ v ∷ drop (to + i) l =
     drop-cons l′ (to + k) 0 (omega (arith, length-set l (to + k) v))
-    ∙ ap₂ (λ (x : ℕ) (q : List ℕ). x ∷ q) (getD-set-same l (to + k) v 0 (omega arith)) (drop-set-lt (suc (to + k)) l (to + k) v (omega arith) ∙ ap (λ (q : ℕ). drop q l) z) in
+    ∙ ap₂ (λ (x : ℕ) (q : List ℕ). x ∷ q) (getD-set-same l (to + k) v 0 (omega arith))
+    (drop-set-lt (suc (to + k)) l (to + k) v (omega arith) ∙ ap (λ (q : ℕ). drop q l) z) in
     let c : drop (from + k) old ≡ getD old (from + k) 0 ∷ drop (from + i) old =
     drop-cons old (from + k) 0 (omega arith) ∙ ap (λ (q : ℕ). getD old (from + k) 0 ∷ drop q old) y in
     record {
@@ -88,7 +90,8 @@ forth-turn old from n to i l b h k p =
     let j : ℕ = from - to in
     let u : from + i ≡ to + i + j = omega arith in
     let same : v ≡ getD old (from + i) 0 =
-    ap (λ (x : ℕ). getD l x 0) u ∙ sym (getD-drop (to + i) l j 0) ∙ ap (λ (q : List ℕ). getD q j 0) (p .rest) ∙ getD-drop (to + i) old j 0 ∙ ap (λ (x : ℕ). getD old x 0) (sym u) in
+    ap (λ (x : ℕ). getD l x 0) u ∙ sym (getD-drop (to + i) l j 0) ∙ ap (λ (q : List ℕ). getD q j 0) (p .rest) ∙ getD-drop (to + i) old j 0
+    ∙ ap (λ (x : ℕ). getD old x 0) (sym u) in
     let z : to + (i + 1) ≡ suc (to + i) = omega arith in
     let y : to + i + 1 ≡ to + (i + 1) = omega arith in
     let r : take (i + 1) (drop from old) ≡ take i (drop from old) ++ (v ∷ []) =
@@ -121,7 +124,8 @@ forth-end old from n to l b h p =
     }
 
 -- ---- the run replaced: what follows it goes to its place, and then the new numbers are put before it
-module _ (old new mid out : List ℕ) (s : Span) (n : ℕ) (ho : s .first + s .count + s .rest ≤ length old) (hn : n ≤ length new) (h : s .first + n + s .rest ≤ length old)
+module _ (old new mid out : List ℕ) (s : Span) (n : ℕ) (ho : s .first + s .count + s .rest ≤ length old) (hn : n ≤ length new)
+    (h : s .first + n + s .rest ≤ length old)
     (m : Moved old (s .first + s .count) (s .rest) (s .first + n) mid) (e : out ≡ paste mid (s .first) new n) where
   pub moved-spliced : Spliced old s new n out
   moved-spliced =
@@ -198,20 +202,23 @@ module _ (z : ℕ) (counts : List ℕ) (first count n all : ℕ) (h : first + co
       let k : first + count + (n - (first + count)) ≡ n = omega arith in
       span-sum z counts runOf ∙ ap (λ (i : ℕ). total (placesOf z) (take i counts)) k ∙ sym e
 
-  pub span-known : (a b : ℕ) → a ≡ spanOf z counts runOf .first → b ≡ spanOf z counts runOf .count → record { first = a; count = b; rest = all - (a + b) } ≡ spanOf z counts runOf
+  pub span-known : (a b : ℕ) → a ≡ spanOf z counts runOf .first → b ≡ spanOf z counts runOf .count
+      → record { first = a; count = b; rest = all - (a + b) } ≡ spanOf z counts runOf
   span-known a b ea eb =
       let q = all-in in
       let r : all - (a + b) ≡ spanOf z counts runOf .rest = omega arith in
       λ i. record { first = ea i; count = eb i; rest = r i }
 
-module _ (counts cycles : List ℕ) (row : ℕ) (t : Totals) (w : RowCounted counts cycles row t) (c : Span) (ec : c ≡ spanOf 0 counts (rowSpan (t .cells) row)) where
+module _ (counts cycles : List ℕ) (row : ℕ) (t : Totals) (w : RowCounted counts cycles row t) (c : Span)
+    (ec : c ≡ spanOf 0 counts (rowSpan (t .cells) row)) where
   in-all : c .first + c .count + c .rest ≡ t .cycles
   in-all = ap (λ (s : Span). s .first + s .count + s .rest) ec ∙ all-in 0 counts row 1 (t .cells) (t .cycles) (let l = w .live in omega arith) (w .cycleSum)
 
   pub within-cycles : c .first + c .count ≤ t .cycles
   within-cycles = let k = in-all in omega arith
 
-  pub spans-known : (s : Span) → s ≡ spanOf 1 cycles (record { first = c .first; count = c .count; rest = t .cycles - (c .first + c .count) }) → record { cycles = c; steps = s } ≡ spansOf counts (t .cells) row cycles
+  pub spans-known : (s : Span) → s ≡ spanOf 1 cycles (record { first = c .first; count = c .count; rest = t .cycles - (c .first + c .count) })
+      → record { cycles = c; steps = s } ≡ spansOf counts (t .cells) row cycles
   spans-known s es =
       let k = in-all in
       let r : t .cycles - (c .first + c .count) ≡ c .rest = omega arith in

@@ -12,7 +12,8 @@ use Rattle.lent.specs.Arrays.{Arrays, heldBy, normal}
 use Rattle.lent.specs.declared.Line.{Line}
 use Rattle.lent.specs.Replies.{answerBy, Obeyed}
 
-less-outcome : (next n : ℕ) (out : Drawing) → out .next ≡ next → record { number = 0; first = 0; new = 0; removed = n - out .count; drawing = out } ≡ outcome next n out
+less-outcome : (next n : ℕ) (out : Drawing) → out .next ≡ next
+    → record { number = 0; first = 0; new = 0; removed = n - out .count; drawing = out } ≡ outcome next n out
 less-outcome next n out e =
     let g : 0 ≡ out .next - next = omega (arith, e) in
     let h : n - out .count ≡ n + (out .next - next) - out .count = omega (arith, e) in

@@ -40,7 +40,8 @@ set-pasted l at x xs h =
     set-split l at x h ∙ ap (λ (k : ℕ). take at l ++ (x ∷ drop k l)) (sym (add-one at)) ∙ sym (append-assoc (take at l) (x ∷ []) (drop (at + 1) l))
 
 -- arrays whose parts are equal
-pub same-arrays : (a b : Arrays) → a .next ≡ b .next → a .count ≡ b .count → a .ids ≡ b .ids → a .kinds ≡ b .kinds → a .starts ≡ b .starts → a .ends ≡ b .ends → a .bends ≡ b .bends
+pub same-arrays : (a b : Arrays) → a .next ≡ b .next → a .count ≡ b .count → a .ids ≡ b .ids → a .kinds ≡ b .kinds → a .starts ≡ b .starts → a .ends ≡ b .ends
+    → a .bends ≡ b .bends
     → a .counts ≡ b .counts → a .px ≡ b .px → a .py ≡ b .py → a .cycles ≡ b .cycles → a .steps ≡ b .steps → a .bx ≡ b .bx → a .by ≡ b .by → a ≡ b
 same-arrays a b e1 e2 e3 e4 e5 e6 e7 e8 e9 e10 e11 e12 e13 e14 =
     λ i.
@@ -80,21 +81,31 @@ module _ (b : Arrays) (t : Totals) (script : List ℕ) (k first : ℕ) (w : Ring
     long = placed-long b (w .long) bs k (t .bends) (positions-length script first k) bends-are us vs p
 
     cycles-stay : cycleTotal (heldBy ringed) ≡ t .cycles
-    cycles-stay = closed-cycles (withPlaced b us vs) long k (w .room .cells) ∙ sym (ap (λ (u : Totals). u .cycles) (w .sums) ∙ cycles-held b (w .long) (w .rows))
+    cycles-stay = closed-cycles (withPlaced b us vs) long k (w .room .cells)
+        ∙ sym (ap (λ (u : Totals). u .cycles) (w .sums) ∙ cycles-held b (w .long) (w .rows))
 
     steps-stay : stepTotal (heldBy ringed) ≡ t .steps
     steps-stay =
         ap (λ (n : ℕ). widthSum (take n (b .cycles))) (closed-cycles (withPlaced b us vs) long k (w .room .cells))
         ∙ sym (ap (λ (u : Totals). u .steps) (w .sums) ∙ steps-held b (w .long) (w .rows))
 
-    pub ring-holds : (o : Arrays) → o .next ≡ ringed .next → o .count ≡ ringed .count → o .ids ≡ ringed .ids → o .kinds ≡ ringed .kinds → o .starts ≡ ringed .starts → o .ends ≡ ringed .ends
-        → o .bends ≡ ringed .bends → o .counts ≡ ringed .counts → o .px ≡ b .px → o .py ≡ b .py → o .cycles ≡ b .cycles → o .steps ≡ b .steps → o .bx ≡ us → o .by ≡ vs
+    pub ring-holds : (o : Arrays) → o .next ≡ ringed .next → o .count ≡ ringed .count → o .ids ≡ ringed .ids → o .kinds ≡ ringed .kinds
+        → o .starts ≡ ringed .starts → o .ends ≡ ringed .ends
+        → o .bends ≡ ringed .bends → o .counts ≡ ringed .counts → o .px ≡ b .px → o .py ≡ b .py → o .cycles ≡ b .cycles → o .steps ≡ b .steps → o .bx ≡ us
+        → o .by ≡ vs
         → HoldsIn (appended (sheetOf (heldBy b)) (closedEdge (positionsAt script first k))) (t .cycles) (t .steps) o
     ring-holds o e1 e2 e3 e4 e5 e6 e7 e8 e9 e10 e11 e12 e13 e14 =
         let g = closed-grew b (w .long) bs k (t .bends) (positions-length script first k) bends-are us vs p (w .room) in
-        subst (HoldsIn (appended (sheetOf (heldBy b)) (closedEdge bs)) (t .cycles) (t .steps)) (sym (same-arrays o ringed e1 e2 e3 e4 e5 e6 e7 e8 e9 e10 e11 e12 e13 e14))
+        subst (HoldsIn (appended (sheetOf (heldBy b)) (closedEdge bs)) (t .cycles) (t .steps))
+        (sym (same-arrays o ringed e1 e2 e3 e4 e5 e6 e7 e8 e9 e10 e11 e12 e13 e14))
         (record {
-          holds = record { sheet = g .0; fits = g .1; long = closed-long (withPlaced b us vs) long k; rows = closed-normal (withPlaced b us vs) long k (w .room .cells) (w .rows) };
+          holds = record {
+            sheet = g .0;
+            fits = g .1;
+            long = closed-long (withPlaced b us vs) long k;
+            rows = closed-normal (withPlaced b us
+                vs) long k (w .room .cells) (w .rows);
+          };
           cycles = cycles-stay;
           steps = steps-stay;
         })
@@ -185,7 +196,8 @@ module _ (b : Arrays) (c p : ℕ) (numbers : List ℕ) (u : Used) (places : List
         face-held (withPools b cs ss) l (u .cycles) (m .cells) ∙ ap (λ (n : ℕ). withCell (heldBy (withPools b cs ss)) (Face n)) e in
         subst (Grew d (face ks)) (sym q) g
 
-    pub part-holds : (o : Arrays) → o .next ≡ parted .next → o .count ≡ parted .count → o .ids ≡ parted .ids → o .kinds ≡ parted .kinds → o .starts ≡ parted .starts → o .ends ≡ parted .ends
+    pub part-holds : (o : Arrays) → o .next ≡ parted .next → o .count ≡ parted .count → o .ids ≡ parted .ids → o .kinds ≡ parted .kinds
+        → o .starts ≡ parted .starts → o .ends ≡ parted .ends
         → o .bends ≡ parted .bends → o .counts ≡ parted .counts → o .px ≡ b .px → o .py ≡ b .py → o .cycles ≡ cs → o .steps ≡ ss → o .bx ≡ b .bx → o .by ≡ b .by
         → Holds (appended (sheetOf (heldBy b)) (face (built numbers u places))) o
     part-holds o e1 e2 e3 e4 e5 e6 e7 e8 e9 e10 e11 e12 e13 e14 =

@@ -150,7 +150,8 @@ module _ (cycles steps : List ℕ) (p : Place) (l : Lies cycles steps p) where
   module _ {numbers : List ℕ} {u : Used} {places : List ℕ} (b : Besides cycles steps p numbers u places) where
     others-room : RoomFor (length numbers) (length places) ((built numbers u places ++ front) ++ back)
     others-room =
-        subst (RoomFor (length numbers) (length places)) (ap (λ (ks : List Cycle). built numbers u places ++ ks) others-about ∙ sym (append-assoc (built numbers u places) front back)) (b .room)
+        subst (RoomFor (length numbers) (length places)) (ap (λ (ks : List Cycle). built numbers u places ++ ks) others-about
+        ∙ sym (append-assoc (built numbers u places) front back)) (b .room)
 
     pub others-first : RunJoins cycles steps p front numbers u places
     others-first =
@@ -190,7 +191,14 @@ module _ (cycles steps : List ℕ) (p : Place) (l : Lies cycles steps p) where
     module _ {numbers₁ : List ℕ} {u₁ : Used} {places₁ : List ℕ} (x : Built (built numbers u places ++ front) numbers₁ u₁ places₁) where
       pub around-path : length numbers₁ ≡ length numbers → length places₁ ≡ length places → PathRoom steps a b v numbers₁ u₁ places₁
       around-path lc ls =
-          record { building = x .building; stepsSize = l .within .stepsSize; first = g .first; second = g .second; room = few-after x (one new) around-front lc ls }
+          record {
+            building = x .building;
+            stepsSize = l .within .stepsSize;
+            first = g .first;
+            second = g .second;
+            room = few-after x (one
+                new) around-front lc ls;
+          }
 
       module _ {numbers₂ : List ℕ} {u₂ : Used} {places₂ : List ℕ} (y : Built (built numbers₁ u₁ places₁ ++ one new) numbers₂ u₂ places₂) where
         put : Built ((built numbers u places ++ front) ++ one new) numbers₂ u₂ places₂

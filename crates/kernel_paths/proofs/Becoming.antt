@@ -43,7 +43,12 @@ module _ (cycles steps : List ℕ) (p : Place) (s : ℕ) (q : Place) (t v : ℕ)
   module _ {numbers₁ : List ℕ} {u₁ : Used} {places₁ : List ℕ} (x : Built (built numbers u places ++ front) numbers₁ u₁ places₁) where
     pub merged-others : length numbers₁ ≡ length numbers → length places₁ ≡ length places → Besides cycles steps q numbers₁ u₁ places₁
     merged-others lc ls =
-        record { lies = m .second; building = x .building; room = few-after (built-then front n x) rest (merged-room cycles steps p s q t v m a b ea eb f) lc ls }
+        record {
+          lies = m .second;
+          building = x .building;
+          room = few-after (built-then front n x) rest (merged-room cycles steps p s q t v m a b ea eb
+              f) lc ls;
+        }
 
     pub merged-done : {numbers₂ : List ℕ} {u₂ : Used} {places₂ : List ℕ} → Built (built numbers₁ u₁ places₁ ++ rest) numbers₂ u₂ places₂
         → Built (mergedList cycles steps p s q t v) numbers₂ u₂ places₂

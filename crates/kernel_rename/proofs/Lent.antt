@@ -62,11 +62,13 @@ module _ (r : ℕ → ℕ) where
   normal-renamed (suc (suc k)) s e b c =
       ap₂ (λ (x y : ℕ). rowNormal (suc (suc k)) x y b c) (as-it-was (suc (suc k)) s (λ q. omega (arith, q))) (as-it-was (suc (suc k)) e (λ q. omega (arith, q)))
 
-  cells-renamed : (f g : ℕ → Shape) (n : ℕ) (is : List ℕ) → ((j : ℕ) → j < n → g j ≡ renameShape r (f j)) → take n (cellsBy g is) ≡ map (renameCell r) (take n (cellsBy f is))
+  cells-renamed : (f g : ℕ → Shape) (n : ℕ) (is : List ℕ) → ((j : ℕ) → j < n → g j ≡ renameShape r (f j))
+      → take n (cellsBy g is) ≡ map (renameCell r) (take n (cellsBy f is))
   cells-renamed f g zero is h = refl
   cells-renamed f g (suc n) [] h = refl
   cells-renamed f g (suc n) (x ∷ is) h =
-      ap₂ (λ (s : Shape) (l : List Cell). record { id = x; shape = s } ∷ l) (h 0 (omega arith)) (cells-renamed (λ i. f (suc i)) (λ i. g (suc i)) n is (λ j q. h (suc j) (omega arith)))
+      ap₂ (λ (s : Shape) (l : List Cell). record { id = x; shape = s } ∷ l) (h 0 (omega arith))
+      (cells-renamed (λ i. f (suc i)) (λ i. g (suc i)) n is (λ j q. h (suc j) (omega arith)))
 
 module _ (a : Arrays) (l : Lengths a) (f : Fits (heldBy a)) (k : ℕ) (e : k ≡ cycleTotal (heldBy a)) where
   -- the cycles in use and their steps
@@ -74,9 +76,11 @@ module _ (a : Arrays) (l : Lengths a) (f : Fits (heldBy a)) (k : ℕ) (e : k ≡
   lone-cycles = omega (arith, e, f .cycles)
 
   pub lone-steps : total (placesOf 1) (take k (a .cycles)) ≤ 2048
-  lone-steps = let w = ap (λ (m : ℕ). total (placesOf 1) (take m (a .cycles))) e ∙ width-places (take (cycleTotal (heldBy a)) (a .cycles)) in omega (arith, w, f .steps)
+  lone-steps = let w = ap (λ (m : ℕ). total (placesOf 1) (take m (a .cycles))) e ∙ width-places (take (cycleTotal (heldBy a)) (a .cycles)) in
+      omega (arith, w, f .steps)
 
-module _ (r : ℕ → ℕ) (a : Arrays) (l : Lengths a) (f : Fits (heldBy a)) (n : normal a ≡ true) (ss es st : List ℕ) (rs : EndsRenamed r (a .kinds) (a .count) (a .starts) ss) (re : EndsRenamed r (a .kinds) (a .count) (a .ends) es)
+module _ (r : ℕ → ℕ) (a : Arrays) (l : Lengths a) (f : Fits (heldBy a)) (n : normal a ≡ true) (ss es st : List ℕ)
+    (rs : EndsRenamed r (a .kinds) (a .count) (a .starts) ss) (re : EndsRenamed r (a .kinds) (a .count) (a .ends) es)
     (lt : length st ≡ 2048) (rl : LoneRenamed r (take (cycleTotal (heldBy a)) (a .cycles)) (a .steps) st) where
   abbrev b : Arrays
   b = withEnds a ss es st
@@ -100,8 +104,10 @@ module _ (r : ℕ → ℕ) (a : Arrays) (l : Lengths a) (f : Fits (heldBy a)) (n
 
   shape-at : (j : ℕ) → j < a .count → shapeAt b j ≡ renameShape r (shapeAt a j)
   shape-at j h =
-      ap₂ (λ (s e : ℕ). shapeBy (getD (a .kinds) j 0) s e (getD (a .bends) j 0) (getD (a .counts) j 0) (positionIn (a .px) (a .py) j)) (rs .rows j h) (re .rows j h)
-      ∙ shape-renamed r (getD (a .kinds) j 0) (getD (a .starts) j 0) (getD (a .ends) j 0) (getD (a .bends) j 0) (getD (a .counts) j 0) (positionIn (a .px) (a .py) j)
+      ap₂ (λ (s e : ℕ). shapeBy (getD (a .kinds) j 0) s e (getD (a .bends) j 0) (getD (a .counts) j 0) (positionIn (a .px) (a .py) j)) (rs .rows j h)
+      (re .rows j h)
+      ∙ shape-renamed r (getD (a .kinds) j 0) (getD (a .starts) j 0) (getD (a .ends) j 0) (getD (a .bends) j 0) (getD (a .counts) j 0)
+      (positionIn (a .px) (a .py) j)
 
   normal-at : (j : ℕ) → j < a .count → normalAt (a .kinds) ss es (a .bends) (a .counts) j ≡ true
   normal-at j h =

@@ -20,7 +20,8 @@ lone-length (n ∷ ns) =
     length-append (replicate (placesOf 1 n) (eqb n 0)) (lonePlaces ns) ∙ ap₂ _+_ (length-replicate (placesOf 1 n) (eqb n 0)) (lone-length ns)
 
 -- one cycle more
-lone-more : (ns : List ℕ) (i : ℕ) → i < length ns → lonePlaces (take (i + 1) ns) ≡ lonePlaces (take i ns) ++ replicate (placesOf 1 (getD ns i 0)) (eqb (getD ns i 0) 0)
+lone-more : (ns : List ℕ) (i : ℕ) → i < length ns → lonePlaces (take (i + 1) ns) ≡ lonePlaces (take i ns)
+    ++ replicate (placesOf 1 (getD ns i 0)) (eqb (getD ns i 0) 0)
 lone-more ns i h =
     let isLone : ℕ → Bool = λ n. eqb n 0 in
     ap₂ (λ (bs : List Bool) (cs : List ℕ). spreadFlags 1 bs cs) (map-more isLone ns i 0 h) (ap (λ (n : ℕ). take n ns) (add-one i) ∙ take-suc ns i 0 h)
@@ -39,7 +40,8 @@ module _ (r : ℕ → ℕ) where
   walking-start ns st = record { at-is = refl; size = refl; rest = refl; front = refl }
 
   -- a cycle's places are among those of the first n cycles
-  module _ (ns st₀ : List ℕ) (i at : ℕ) (st : List ℕ) (n : ℕ) (w : Walking r ns st₀ i at st) (h : i < n) (g : n ≤ length ns) (k : total (placesOf 1) (take n ns) ≤ 2048) where
+  module _ (ns st₀ : List ℕ) (i at : ℕ) (st : List ℕ) (n : ℕ) (w : Walking r ns st₀ i at st) (h : i < n) (g : n ≤ length ns)
+      (k : total (placesOf 1) (take n ns) ≤ 2048) where
     pub walk-room : at + placesOf 1 (getD ns i 0) ≤ 2048
     walk-room =
         let e = sum-more (placesOf 1) ns i 0 (omega arith) in
@@ -70,7 +72,8 @@ module _ (r : ℕ → ℕ) where
     walk : (st′ : List ℕ) → length st′ ≡ length st → drop (at + k) st′ ≡ drop (at + k) st → take at st′ ≡ take at st
         → take k (drop at st′) ≡ zipped (renamePlace r) (replicate k (eqb (getD ns i 0) 0)) (take k (drop at st₀)) → Walking r ns st₀ (i + 1) (at + k) st′
     walk st′ e d t c =
-        let ll : length (lonePlaces (take i ns)) ≡ length (take at st₀) = lone-length (take i ns) ∙ sym (w .at-is) ∙ sym (length-take-le at st₀ (omega arith)) in
+        let ll : length (lonePlaces (take i ns)) ≡ length (take at st₀) = lone-length (take i ns) ∙ sym (w .at-is)
+        ∙ sym (length-take-le at st₀ (omega arith)) in
         record {
           at-is = sum;
           size = e ∙ w .size;
@@ -90,13 +93,15 @@ module _ (r : ℕ → ℕ) where
 
   module _ (ns st₀ : List ℕ) (i at : ℕ) (st : List ℕ) (h : i < length ns) (g : at + 1 ≤ length st₀) (w : Walking r ns st₀ i at st) (z : getD ns i 0 ≡ 0) where
     here : getD st at 0 ≡ getD st₀ at 0
-    here = ap (λ (n : ℕ). getD st n 0) (omega arith) ∙ sym (getD-drop at st 0 0) ∙ ap (λ (q : List ℕ). getD q 0 0) (w .rest) ∙ getD-drop at st₀ 0 0 ∙ ap (λ (n : ℕ). getD st₀ n 0) (omega arith)
+    here = ap (λ (n : ℕ). getD st n 0) (omega arith) ∙ sym (getD-drop at st 0 0) ∙ ap (λ (q : List ℕ). getD q 0 0) (w .rest) ∙ getD-drop at st₀ 0 0
+        ∙ ap (λ (n : ℕ). getD st₀ n 0) (omega arith)
 
     pub walk-lone : (v : ℕ) → v ≡ r (getD st at 0) → Walking r ns st₀ (i + 1) (at + placesOf 1 (getD ns i 0)) (set st at v)
     walk-lone v e =
         let k1 : placesOf 1 (getD ns i 0) ≡ 1 = ap (placesOf 1) z in
         let s = w .size in
-        walk ns st₀ i at st h (omega arith) w (set st at v) (length-set st at v) (drop-set-lt (at + placesOf 1 (getD ns i 0)) st at v (omega arith)) (take-set-le at st at v (omega arith))
+        walk ns st₀ i at st h (omega arith) w (set st at v) (length-set st at v) (drop-set-lt (at + placesOf 1 (getD ns i 0)) st at v (omega arith))
+        (take-set-le at st at v (omega arith))
         (ap (λ (n : ℕ). take n (drop at (set st at v))) k1
         ∙ ap (take 1) (drop-cons (set st at v) at 0 (let q = length-set st at v in omega arith))
         ∙ ap (λ (x : ℕ). x ∷ []) (getD-set-same st at v 0 (omega arith) ∙ e ∙ ap r here)

@@ -29,7 +29,8 @@ module _ (l m ys : List ℕ) (at k : ℕ) (w : Wrote l at ys m) (h : at + length
 
   pub wrote-unread : getD m k 0 ≡ getD l k 0
   wrote-unread =
-      ap (λ (n : ℕ). getD m n 0) (omega arith) ∙ sym (getD-drop k m 0 0) ∙ ap (λ (q : List ℕ). getD q 0 0) wrote-rest ∙ getD-drop k l 0 0 ∙ ap (λ (n : ℕ). getD l n 0) (omega arith)
+      ap (λ (n : ℕ). getD m n 0) (omega arith) ∙ sym (getD-drop k m 0 0) ∙ ap (λ (q : List ℕ). getD q 0 0) wrote-rest ∙ getD-drop k l 0 0
+      ∙ ap (λ (n : ℕ). getD l n 0) (omega arith)
 
 -- ---- how many steps there are
 take-few : (n : ℕ) (l : List ℕ) → length (take n l) ≤ n
@@ -89,13 +90,25 @@ module _ (t : Swap) where
   all-few h [] st = omega arith
   all-few h (c ∷ ns) st =
       let r = all-few h ns (drop (width c) st) in
-      omega (arith, length-append (swapSteps t c (take (width c) st)) (allSteps t ns (drop (width c) st)), steps-few h c (take (width c) st), take-few (width c) st)
+      omega (
+        arith,
+        length-append (swapSteps t c (take (width c) st)) (allSteps t ns (drop (width c) st)),
+        steps-few h c (take
+            (width c) st),
+        take-few (width c) st,
+      )
 
   all-more : 1 ≤ t .n → (ns st : List ℕ) → widthSum ns ≤ length st → widthSum ns ≤ length (allSteps t ns st)
   all-more h [] st l = omega arith
   all-more h (c ∷ ns) st l =
       let r = all-more h ns (drop (width c) st) (omega (arith, length-drop (width c) st)) in
-      omega (arith, length-append (swapSteps t c (take (width c) st)) (allSteps t ns (drop (width c) st)), steps-more h c (take (width c) st), length-take-le (width c) st (omega arith))
+      omega (
+        arith,
+        length-append (swapSteps t c (take (width c) st)) (allSteps t ns (drop (width c) st)),
+        steps-more h c (take
+            (width c) st),
+        length-take-le (width c) st (omega arith),
+      )
 
   -- what is written of a cycle ends no later than what is read of it
   module _ (ns st : List ℕ) (g i : ℕ) (hi : i < length ns) (hw : widthSum ns ≤ length st) where
@@ -111,22 +124,27 @@ module _ (t : Swap) where
     sum-is : widthSum ns ≡ widthSum (take i ns) + (width c + widthSum (drop (suc i) ns))
     sum-is = ap widthSum ns-is ∙ sum-append width (take i ns) (c ∷ drop (suc i) ns)
 
-    all-is : length (allSteps t ns st) ≡ length (allSteps t (take i ns) st) + (length (swapSteps t c (take (width c) y)) + length (allSteps t (drop (suc i) ns) (drop (width c) y)))
+    all-is : length (allSteps t ns st) ≡ length (allSteps t (take i ns) st)
+        + (length (swapSteps t c (take (width c) y)) + length (allSteps t (drop (suc i) ns) (drop (width c) y)))
     all-is =
         ap (λ (q : List ℕ). length (allSteps t q st)) ns-is ∙ ap length (all-steps-append t (take i ns) (c ∷ drop (suc i) ns) st)
         ∙ length-append (allSteps t (take i ns) st) (swapSteps t c (take (width c) y) ++ allSteps t (drop (suc i) ns) (drop (width c) y))
-        ∙ ap (λ (n : ℕ). length (allSteps t (take i ns) st) + n) (length-append (swapSteps t c (take (width c) y)) (allSteps t (drop (suc i) ns) (drop (width c) y)))
+        ∙ ap (λ (n : ℕ). length (allSteps t (take i ns) st) + n)
+        (length-append (swapSteps t c (take (width c) y)) (allSteps t (drop (suc i) ns) (drop (width c) y)))
 
-    part : (j : ℕ) → j ≤ width c → length (swapSteps t c (take (width c) y)) ≡ length (swapSteps t c (take j y)) + length (swapSteps t c (take (width c - j) (drop j y)))
+    part : (j : ℕ) → j ≤ width c → length (swapSteps t c (take (width c) y)) ≡ length (swapSteps t c (take j y))
+        + length (swapSteps t c (take (width c - j) (drop j y)))
     part j h =
         let e : width c ≡ j + (width c - j) = omega arith in
         ap (λ (n : ℕ). length (swapSteps t c (take n y))) e ∙ ap (λ (q : List ℕ). length (swapSteps t c q)) (take-add j (width c - j) y)
-        ∙ ap length (steps-append c (take j y) (take (width c - j) (drop j y))) ∙ length-append (swapSteps t c (take j y)) (swapSteps t c (take (width c - j) (drop j y)))
+        ∙ ap length (steps-append c (take j y) (take (width c - j) (drop j y)))
+        ∙ length-append (swapSteps t c (take j y)) (swapSteps t c (take (width c - j) (drop j y)))
 
     few : t .n ≤ 1 → (j : ℕ) → j ≤ width c → length (allSteps t (take i ns) st) + length (swapSteps t c (take j y)) ≤ g + widthSum (take i ns) + j
     few h j k = omega (arith, all-few h (take i ns) st, steps-few h c (take j y), take-few j y)
 
-    grown : 1 ≤ t .n → length (allSteps t ns st) ≤ g + widthSum ns → (j : ℕ) → j ≤ width c → length (allSteps t (take i ns) st) + length (swapSteps t c (take j y)) ≤ g + widthSum (take i ns) + j
+    grown : 1 ≤ t .n → length (allSteps t ns st) ≤ g + widthSum ns → (j : ℕ) → j ≤ width c
+        → length (allSteps t (take i ns) st) + length (swapSteps t c (take j y)) ≤ g + widthSum (take i ns) + j
     grown h r j k =
         let ly = length-drop (widthSum (take i ns)) st in
         let s = sum-is in
@@ -150,25 +168,32 @@ module _ (t : Swap) where
         sym (drop-at (take c st) (take m (drop c st)) c (length-take-le c st (omega arith))) ∙ ap (drop c) (sym (take-add c m st) ∙ e ∙ take-add c m st′)
         ∙ drop-at (take c st′) (take m (drop c st′)) c (length-take-le c st′ (omega arith))
 
-  pub all-steps-front : (ns st st′ : List ℕ) → take (widthSum ns) st ≡ take (widthSum ns) st′ → widthSum ns ≤ length st → widthSum ns ≤ length st′ → allSteps t ns st ≡ allSteps t ns st′
+  pub all-steps-front : (ns st st′ : List ℕ) → take (widthSum ns) st ≡ take (widthSum ns) st′ → widthSum ns ≤ length st → widthSum ns ≤ length st′
+      → allSteps t ns st ≡ allSteps t ns st′
   all-steps-front [] st st′ e h h′ = refl
   all-steps-front (c ∷ ns) st st′ e h h′ =
       ap₂ (λ (x y : List ℕ). swapSteps t c x ++ y) (same-front (width c) (widthSum ns) st st′ e h h′)
-      (all-steps-front ns (drop (width c) st) (drop (width c) st′) (same-rest (width c) (widthSum ns) st st′ e h h′) (omega (arith, length-drop (width c) st)) (omega (arith, length-drop (width c) st′)))
+      (all-steps-front ns (drop (width c) st) (drop (width c) st′) (same-rest (width c) (widthSum ns) st st′ e h h′) (omega (arith, length-drop (width c) st))
+      (omega (arith, length-drop (width c) st′)))
 
-  pub all-numbers-front : (ns st st′ : List ℕ) → take (widthSum ns) st ≡ take (widthSum ns) st′ → widthSum ns ≤ length st → widthSum ns ≤ length st′ → allNumbers t ns st ≡ allNumbers t ns st′
+  pub all-numbers-front : (ns st st′ : List ℕ) → take (widthSum ns) st ≡ take (widthSum ns) st′ → widthSum ns ≤ length st → widthSum ns ≤ length st′
+      → allNumbers t ns st ≡ allNumbers t ns st′
   all-numbers-front [] st st′ e h h′ = refl
   all-numbers-front (c ∷ ns) st st′ e h h′ =
       ap₂ (λ (x : List ℕ) (y : List ℕ). swapNumber t c x ∷ y) (same-front (width c) (widthSum ns) st st′ e h h′)
-      (all-numbers-front ns (drop (width c) st) (drop (width c) st′) (same-rest (width c) (widthSum ns) st st′ e h h′) (omega (arith, length-drop (width c) st)) (omega (arith, length-drop (width c) st′)))
+      (all-numbers-front ns (drop (width c) st) (drop (width c) st′) (same-rest (width c) (widthSum ns) st st′ e h h′) (omega (arith, length-drop (width c) st))
+      (omega (arith, length-drop (width c) st′)))
 
-  pub swapped-front : (ns st st′ cy out : List ℕ) → take (widthSum ns) st ≡ take (widthSum ns) st′ → widthSum ns ≤ length st → widthSum ns ≤ length st′ → Swapped t ns st cy out → Swapped t ns st′ cy out
+  pub swapped-front : (ns st st′ cy out : List ℕ) → take (widthSum ns) st ≡ take (widthSum ns) st′ → widthSum ns ≤ length st → widthSum ns ≤ length st′
+      → Swapped t ns st cy out → Swapped t ns st′ cy out
   swapped-front ns st st′ cy out e h h′ w =
       let a = all-steps-front ns st st′ e h h′ in
       record { numbers = w .numbers ∙ all-numbers-front ns st st′ e h h′; steps = subst (λ (q : List ℕ). take (length q) out ≡ q) a (w .steps) }
 
-  pub room-front : (ns st st′ : List ℕ) (g : ℕ) → take (widthSum ns) st ≡ take (widthSum ns) st′ → widthSum ns ≤ length st → widthSum ns ≤ length st′ → Enough t ns st g → Enough t ns st′ g
-  room-front ns st st′ g e h h′ r = record { room = subst (λ (q : List ℕ). (t .n ≤ 1) ⊎ ((1 ≤ t .n) × (length q ≤ g + widthSum ns))) (all-steps-front ns st st′ e h h′) (r .room) }
+  pub room-front : (ns st st′ : List ℕ) (g : ℕ) → take (widthSum ns) st ≡ take (widthSum ns) st′ → widthSum ns ≤ length st → widthSum ns ≤ length st′
+      → Enough t ns st g → Enough t ns st′ g
+  room-front ns st st′ g e h h′ r =
+      record { room = subst (λ (q : List ℕ). (t .n ≤ 1) ⊎ ((1 ≤ t .n) × (length q ≤ g + widthSum ns))) (all-steps-front ns st st′ e h h′) (r .room) }
 
 -- ---- numbers that go back
 pub record Shifting (l₀ : List ℕ) (n g i : ℕ) (l : List ℕ) : Type 0 where
@@ -182,7 +207,8 @@ shifting-start l n g =
     let z : 0 ≡ n - n = omega arith in
     record { le = omega arith; size = refl; front = refl; rest = subst (λ (k : ℕ). take k (drop (g + n) l) ≡ take k (drop n l)) z refl }
 
-pub shifting-turn : (l₀ : List ℕ) (n g i k : ℕ) (l : List ℕ) → g + n ≤ length l₀ → i ≡ k + 1 → Shifting l₀ n g i l → Shifting l₀ n g k (set l (g + k) (getD l k 0))
+pub shifting-turn : (l₀ : List ℕ) (n g i k : ℕ) (l : List ℕ) → g + n ≤ length l₀ → i ≡ k + 1 → Shifting l₀ n g i l
+    → Shifting l₀ n g k (set l (g + k) (getD l k 0))
 shifting-turn l₀ n g i k l h e p =
     let v = getD l k 0 in
     let l′ = set l (g + k) v in
@@ -193,7 +219,8 @@ shifting-turn l₀ n g i k l h e p =
     let same : v ≡ getD l₀ k 0 = sym (getD-take i l k 0 (omega arith)) ∙ ap (λ (q : List ℕ). getD q k 0) (p .front) ∙ getD-take i l₀ k 0 (omega arith) in
     let z : suc (g + k) ≡ g + i = omega arith in
     let a : drop (g + k) l′ ≡ v ∷ drop (g + i) l =
-    drop-cons l′ (g + k) 0 (omega (arith, length-set l (g + k) v)) ∙ ap₂ (λ (x : ℕ) (y : List ℕ). x ∷ y) (getD-set-same l (g + k) v 0 (omega arith)) (drop-set-lt (suc (g + k)) l (g + k) v (omega arith) ∙ ap (λ (q : ℕ). drop q l) z) in
+    drop-cons l′ (g + k) 0 (omega (arith, length-set l (g + k) v)) ∙ ap₂ (λ (x : ℕ) (y : List ℕ). x ∷ y) (getD-set-same l (g + k) v 0 (omega arith))
+    (drop-set-lt (suc (g + k)) l (g + k) v (omega arith) ∙ ap (λ (q : ℕ). drop q l) z) in
     let c : drop k l₀ ≡ getD l₀ k 0 ∷ drop i l₀ = drop-cons l₀ k 0 (omega arith) ∙ ap (λ (q : ℕ). getD l₀ k 0 ∷ drop q l₀) (sym i-is) in
     record {
       le = omega arith;
@@ -209,7 +236,8 @@ shifting-end l₀ l n g p =
     ap₂ (λ (x y : ℕ). take x (drop y l)) b a ∙ p .rest ∙ ap (λ (x : ℕ). take x l₀) (sym b)
 
 -- ---- a step more of a run
-module _ (t : Swap) (st₀ : List ℕ) (from n at i w : ℕ) (st : List ℕ) (h : from + n ≤ length st₀) (k : i < n) (a : Ahead (spread (swapWord t)) n (drop from st₀) at from)
+module _ (t : Swap) (st₀ : List ℕ) (from n at i w : ℕ) (st : List ℕ) (h : from + n ≤ length st₀) (k : i < n)
+    (a : Ahead (spread (swapWord t)) n (drop from st₀) at from)
     (e : w ≡ length (spread (swapWord t) (take i (drop from st₀)))) (o : Wrote st₀ at (spread (swapWord t) (take i (drop from st₀))) st) where
   place-read : getD st (from + i) 0 ≡ getD st₀ (from + i) 0
   place-read = wrote-unread st₀ st (spread (swapWord t) (take i (drop from st₀))) at (from + i) o (a .before i (omega arith))
@@ -220,17 +248,20 @@ module _ (t : Swap) (st₀ : List ℕ) (from n at i w : ℕ) (st : List ℕ) (h 
   pub place-room : at + w + length (swapWord t (getD st (from + i) 0)) ≤ from + i + 1
   place-room = let b = a .before (i + 1) (omega arith) in omega (arith, place-length)
 
-  pub place-turn : (st′ : List ℕ) → Wrote st (at + w) (swapWord t (getD st (from + i) 0)) st′ → Wrote st₀ at (spread (swapWord t) (take (i + 1) (drop from st₀))) st′
+  pub place-turn : (st′ : List ℕ) → Wrote st (at + w) (swapWord t (getD st (from + i) 0)) st′
+      → Wrote st₀ at (spread (swapWord t) (take (i + 1) (drop from st₀))) st′
   place-turn st′ p =
       let fl = ap (λ (s : ℕ). spread (swapWord t) (take i (drop from st₀)) ++ swapWord t s) place-read ∙ sym (run-flat (swapWord t) st₀ from i n h k) in
       subst (λ (y : List ℕ). Wrote st₀ at y st′) fl
-      (wrote-then st₀ st st′ (spread (swapWord t) (take i (drop from st₀))) (swapWord t (getD st (from + i) 0)) at o (subst (λ (q : ℕ). Wrote st (at + q) (swapWord t (getD st (from + i) 0)) st′) e p))
+      (wrote-then st₀ st st′ (spread (swapWord t) (take i (drop from st₀))) (swapWord t (getD st (from + i) 0)) at o
+      (subst (λ (q : ℕ). Wrote st (at + q) (swapWord t (getD st (from + i) 0)) st′) e p))
 
 -- ---- a cycle
 pub ahead-at : (f : List ℕ → List ℕ) (n : ℕ) (y : List ℕ) (at from : ℕ) → Ahead f n y at from → at ≤ from
 ahead-at f n y at from a = omega (arith, a .before 0 (omega arith))
 
-pub ahead-run : (t : Swap) (c w : ℕ) (y : List ℕ) (at from : ℕ) → (c ≡ 0 → ⊥) → w ≡ c → Ahead (swapSteps t c) (width c) y at from → Ahead (spread (swapWord t)) w y at from
+pub ahead-run : (t : Swap) (c w : ℕ) (y : List ℕ) (at from : ℕ) → (c ≡ 0 → ⊥) → w ≡ c → Ahead (swapSteps t c) (width c) y at from
+    → Ahead (spread (swapWord t)) w y at from
 ahead-run t c w y at from h e a =
     let k = width-some c h in
     record {
@@ -239,8 +270,10 @@ ahead-run t c w y at from h e a =
     }
 
 -- ---- a cycle more
-module _ (t : Swap) (cy₀ out₀ : List ℕ) (g i n from at : ℕ) (cy out : List ℕ) (p : Swapping t cy₀ (drop g out₀) out₀ i from at cy out) (q : drop (g + from) out ≡ drop (g + from) out₀)
-    (hn : n ≤ length cy₀) (hi : i < n) (hg : g + widthSum (take n cy₀) ≤ length out₀) (r : Enough t (take n cy₀) (drop g out₀) g) (c : ℕ) (e : c ≡ getD cy i 0) where
+module _ (t : Swap) (cy₀ out₀ : List ℕ) (g i n from at : ℕ) (cy out : List ℕ) (p : Swapping t cy₀ (drop g out₀) out₀ i from at cy out)
+    (q : drop (g + from) out ≡ drop (g + from) out₀)
+    (hn : n ≤ length cy₀) (hi : i < n) (hg : g + widthSum (take n cy₀) ≤ length out₀) (r : Enough t (take n cy₀) (drop g out₀) g) (c : ℕ)
+    (e : c ≡ getD cy i 0) where
   pub same-run : drop from (drop g out₀) ≡ drop (g + from) out
   same-run = drop-drop from g out₀ ∙ sym q
 
@@ -251,8 +284,10 @@ module _ (t : Swap) (cy₀ out₀ : List ℕ) (g i n from at : ℕ) (cy out : Li
       let u = ahead t (take n cy₀) st g i (omega arith) (omega (arith, length-drop g out₀)) r in
       let k : getD (take n cy₀) i 0 ≡ c = getD-take n cy₀ i 0 hi ∙ sym (unread t cy₀ st out₀ i from at cy out p (omega arith)) ∙ sym e in
       let m : take i (take n cy₀) ≡ take i cy₀ = take-take i n cy₀ (omega arith) in
-      let u1 = subst (λ (l : List ℕ). Ahead (swapSteps t (getD (take n cy₀) i 0)) (width (getD (take n cy₀) i 0)) (drop (widthSum l) st) (length (allSteps t l st)) (g + widthSum l)) m u in
-      let u2 = subst (λ (x : ℕ). Ahead (swapSteps t x) (width x) (drop (widthSum (take i cy₀)) st) (length (allSteps t (take i cy₀) st)) (g + widthSum (take i cy₀))) k u1 in
+      let u1 = subst (λ (l : List ℕ). Ahead (swapSteps t (getD (take n cy₀) i 0)) (width (getD (take n cy₀) i 0)) (drop (widthSum l) st)
+      (length (allSteps t l st)) (g + widthSum l)) m u in
+      let u2 = subst (λ (x : ℕ). Ahead (swapSteps t x) (width x) (drop (widthSum (take i cy₀)) st) (length (allSteps t (take i cy₀) st))
+      (g + widthSum (take i cy₀))) k u1 in
       let u3 = subst (λ (x : ℕ). Ahead (swapSteps t c) (width c) (drop x st) (length (allSteps t (take i cy₀) st)) (g + x)) (sym (p .from-is)) u2 in
       subst (λ (x : ℕ). Ahead (swapSteps t c) (width c) (drop from st) x (g + from)) (sym (p .at-is)) u3
 
@@ -272,14 +307,17 @@ module _ (t : Swap) (cy₀ out₀ : List ℕ) (g i n from at : ℕ) (cy out : Li
       let s = sym same-run in
       let b = cycle-end in
       let z : g + (from + k) ≡ g + from + k = omega arith in (
-        swapping-turn t cy₀ (drop g out₀) out₀ i from at cy out p (omega arith) c w k v out′ e hk (hw ∙ ap (λ (y : List ℕ). length (swapSteps t c (take (width c) y))) s) hv
+        swapping-turn t cy₀ (drop g out₀) out₀ i from at cy out p (omega arith) c w k v out′ e hk
+            (hw ∙ ap (λ (y : List ℕ). length (swapSteps t c (take (width c) y))) s) hv
             (subst (λ (y : List ℕ). Wrote out at (swapSteps t c (take (width c) y)) out′) s o),
         wrote-rest out out′ (swapSteps t c (take (width c) (drop (g + from) out))) at (g + (from + k)) o (omega arith)
-            ∙ ap (λ (x : ℕ). drop x out) z ∙ sym (drop-drop k (g + from) out) ∙ ap (drop k) q ∙ drop-drop k (g + from) out₀ ∙ ap (λ (x : ℕ). drop x out₀) (sym z),
+            ∙ ap (λ (x : ℕ). drop x out) z ∙ sym (drop-drop k (g + from) out) ∙ ap (drop k) q ∙ drop-drop k (g + from) out₀
+            ∙ ap (λ (x : ℕ). drop x out₀) (sym z),
       )
 
 -- ---- the steps that are further back
-module _ (t : Swap) (ns st st′ : List ℕ) (g m : ℕ) (em : m ≡ widthSum ns) (k : take m (drop g st′) ≡ take m st) (hs : g + m ≤ length st) (l : length st′ ≡ length st) where
+module _ (t : Swap) (ns st st′ : List ℕ) (g m : ℕ) (em : m ≡ widthSum ns) (k : take m (drop g st′) ≡ take m st) (hs : g + m ≤ length st)
+    (l : length st′ ≡ length st) where
   shifted-same : take (widthSum ns) (drop g st′) ≡ take (widthSum ns) st
   shifted-same = subst (λ (x : ℕ). take x (drop g st′) ≡ take x st) em k
 

@@ -27,7 +27,8 @@ module _ (a : Arrays) (e n : ℕ) (flip : Bool) (t : Swap) (et : t ≡ oneFor e 
 
   pub one-asks : (k m : ℕ) → Lengths a → Fits (heldBy a) → k ≡ cycleTotal (heldBy a) → m ≡ stepTotal (heldBy a)
       → Fits (heldBy a) × (Lengths a
-      × ((k ≡ cycleTotal (heldBy a)) × ((t .n ≤ 2) × ((allReal (spread entryCycles (reshape (rewired sameVertex (swapHalf t)) (sheetOf (heldBy a) .cells))) ≡ true)
+      × ((k ≡ cycleTotal (heldBy a)) × ((t .n ≤ 2)
+      × ((allReal (spread entryCycles (reshape (rewired sameVertex (swapHalf t)) (sheetOf (heldBy a) .cells))) ≡ true)
       × ((over stepsIn (reshape (rewired sameVertex (swapHalf t)) (sheetOf (heldBy a) .cells)) ≤ 2048) × ((m ≡ stepTotal (heldBy a))
       × (((t .n ≤ 1) × (_≡_ {A = ℕ} 0 0)) ⊎ ((1 ≤ t .n) × (over stepsIn (reshape (rewired sameVertex (swapHalf t)) (sheetOf (heldBy a) .cells)) ≡ 0 + m)))))))))
   one-asks k m l f ek em =

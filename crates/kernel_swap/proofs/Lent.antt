@@ -54,7 +54,8 @@ module _ (t : Swap) (a : Arrays) (l : Lengths a) (f : Fits (heldBy a)) (rm : ove
   steps-are =
       let d = heldBy a in
       let xs = sheetOf d .cells in
-      ap length (held-steps t (spread entryCycles xs) (a .cycles) (cycleTotal d) (a .steps) (stepTotal d) (drawing-held d (held-sizes a l) f) ∙ ap (spread cycleWords) (sym (rewired-cycles sameVertex (swapHalf t) xs)))
+      ap length (held-steps t (spread entryCycles xs) (a .cycles) (cycleTotal d) (a .steps) (stepTotal d) (drawing-held d (held-sizes a l) f)
+      ∙ ap (spread cycleWords) (sym (rewired-cycles sameVertex (swapHalf t) xs)))
       ∙ steps-held (swappedCells t xs)
 
   -- the cycles in use
@@ -62,7 +63,8 @@ module _ (t : Swap) (a : Arrays) (l : Lengths a) (f : Fits (heldBy a)) (rm : ove
   swap-room k e = omega (arith, e, f .cycles)
 
   -- g places are enough, and there are so many
-  pub grow-room : (m g : ℕ) → m ≡ stepTotal (heldBy a) → ((t .n ≤ 1) × (g ≡ 0)) ⊎ ((1 ≤ t .n) × (over stepsHeld (swappedCells t (sheetOf (heldBy a) .cells)) ≡ g + m))
+  pub grow-room : (m g : ℕ) → m ≡ stepTotal (heldBy a) → ((t .n ≤ 1) × (g ≡ 0))
+      ⊎ ((1 ≤ t .n) × (over stepsHeld (swappedCells t (sheetOf (heldBy a) .cells)) ≡ g + m))
       → (g + m ≤ 2048) × Enough t (take (cycleTotal (heldBy a)) (a .cycles)) (a .steps) g
   grow-room m g e h =
       let u = f .steps in (
@@ -70,7 +72,8 @@ module _ (t : Swap) (a : Arrays) (l : Lengths a) (f : Fits (heldBy a)) (rm : ove
         record { room = ⊎-elim (λ x. inl (x .0)) (λ x. inr (x .0, omega (arith, x .1, steps-are))) h },
       )
 
-  module _ (cy st : List ℕ) (lc : length cy ≡ 512) (ls : length st ≡ 2048) (rl : allReal (spread entryCycles (swappedCells t (sheetOf (heldBy a) .cells))) ≡ true)
+  module _ (cy st : List ℕ) (lc : length cy ≡ 512) (ls : length st ≡ 2048) (rl : allReal (spread entryCycles (swappedCells t (sheetOf (heldBy a) .cells)))
+      ≡ true)
       (sw : Swapped t (take (cycleTotal (heldBy a)) (a .cycles)) (a .steps) cy st) where
     abbrev b : Arrays
     b = withPools a cy st
@@ -103,7 +106,8 @@ module _ (t : Swap) (a : Arrays) (l : Lengths a) (f : Fits (heldBy a)) (rm : ove
         held-swapped t (spread entryCycles xs) (a .cycles) (cycleTotal d) (a .steps) (stepTotal d) (drawing-held d z f) cy st (lc ∙ sym (l .cycles))
         (rw (← k) (omega (arith, rm, steps-held ys, ls))) (rw (← k) rl) sw in
         changed-is d (heldBy b) z f (held-sizes b long) refl refl refl ys
-        (stands d z f .cells ∙ sym (cells-same _) ∙ rewired-heads sameVertex (swapHalf t) xs) (rewired-bends sameVertex (swapHalf t) xs) (cycleTotal d) (length (spread cycleWords (map (swapCycle t) (spread entryCycles xs))))
+        (stands d z f .cells ∙ sym (cells-same _) ∙ rewired-heads sameVertex (swapHalf t) xs) (rewired-bends sameVertex (swapHalf t) xs) (cycleTotal d)
+        (length (spread cycleWords (map (swapCycle t) (spread entryCycles xs))))
         (rw k held)
 
     pub swapped-in : SwappedIn t a b

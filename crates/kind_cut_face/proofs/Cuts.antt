@@ -71,7 +71,8 @@ module _ (a : Arrays) (t : Totals) (f : ℕ) (ks : List Cycle) (new : List Figur
                   (room-listed (heldBy a) sizes-in (rowsBy a) f (w .named) ks new (w .room) numbers u places ek);
             }
 
-        pub replaced-sheet : (o : Arrays) → ReplacedIn a row s (u .cycles) (u .steps) (built numbers u places) o → sheetOf (heldBy o) ≡ recycled (sheetOf (heldBy a)) f ks
+        pub replaced-sheet : (o : Arrays) → ReplacedIn a row s (u .cycles) (u .steps) (built numbers u places) o
+            → sheetOf (heldBy o) ≡ recycled (sheetOf (heldBy a)) f ks
         replaced-sheet o r =
             sheet-listed (heldBy a) sizes-in (rowsBy a) f (w .named) ks new (w .room) numbers u places ek (sheetOf (heldBy o))
             (replaced-with (heldBy a) sizes-in (rowsBy a) f (w .named) numbers u places row e (sheetOf (heldBy o)) (r .sheet))

@@ -106,7 +106,8 @@ lone-built cycles steps t w hc hs v =
     built-then (one (lone v)) b (pushed-lone _ u _ (b .building) v (omega (arith, z .0)) (omega (arith, z .1)))
 
 -- ---- the arrays with the row of a vertex
-vertex-row : (b o : Arrays) (p : Position) → o .next ≡ withVertex b p .next → o .count ≡ withVertex b p .count → o .ids ≡ withVertex b p .ids → o .kinds ≡ withVertex b p .kinds
+vertex-row : (b o : Arrays) (p : Position) → o .next ≡ withVertex b p .next → o .count ≡ withVertex b p .count → o .ids ≡ withVertex b p .ids
+    → o .kinds ≡ withVertex b p .kinds
     → o .starts ≡ withVertex b p .starts → o .ends ≡ withVertex b p .ends → o .bends ≡ withVertex b p .bends → o .counts ≡ withVertex b p .counts
     → o .px ≡ withVertex b p .px → o .py ≡ withVertex b p .py → o .cycles ≡ b .cycles → o .steps ≡ b .steps → o .bx ≡ b .bx → o .by ≡ b .by → o ≡ withVertex b p
 vertex-row b o p e1 e2 e3 e4 e5 e6 e7 e8 e9 e10 e11 e12 e13 e14 =
@@ -134,11 +135,13 @@ module _ (a : Arrays) (t : Totals) (f : ℕ) (p : Position) where
   withLone = cells.cyclesOf (cellAt (sheetOf (heldBy a)) f) ++ one (lone (sheetOf (heldBy a) .next))
 
   module _ (w : FaceCuts a t f withLone (vertex p ∷ [])) where
-    pub vertex-room : (b : Arrays) (row : ℕ) (s : Spans) (n m : ℕ) (ks : List Cycle) → ReplacedIn a row s n m ks b → sheetOf (heldBy b) ≡ recycled (sheetOf (heldBy a)) f withLone → CellRoom (heldBy b) (vertex p)
+    pub vertex-room : (b : Arrays) (row : ℕ) (s : Spans) (n m : ℕ) (ks : List Cycle) → ReplacedIn a row s n m ks b
+        → sheetOf (heldBy b) ≡ recycled (sheetOf (heldBy a)) f withLone → CellRoom (heldBy b) (vertex p)
     vertex-room b row s n m ks r e =
         lone-room (heldBy a) (sizes-in a t f withLone (vertex p ∷ []) w) (rowsBy a) f (w .named) p (w .room) (heldBy b) (held-sizes b (r .long)) (r .fits) e
 
-    pub vertex-holds : (b : Arrays) (row : ℕ) (s : Spans) (n m : ℕ) (ks : List Cycle) → ReplacedIn a row s n m ks b → sheetOf (heldBy b) ≡ recycled (sheetOf (heldBy a)) f withLone
+    pub vertex-holds : (b : Arrays) (row : ℕ) (s : Spans) (n m : ℕ) (ks : List Cycle) → ReplacedIn a row s n m ks b
+        → sheetOf (heldBy b) ≡ recycled (sheetOf (heldBy a)) f withLone
         → (o : Arrays) → o .next ≡ withVertex b p .next → o .count ≡ withVertex b p .count → o .ids ≡ withVertex b p .ids → o .kinds ≡ withVertex b p .kinds
         → o .starts ≡ withVertex b p .starts → o .ends ≡ withVertex b p .ends → o .bends ≡ withVertex b p .bends → o .counts ≡ withVertex b p .counts
         → o .px ≡ withVertex b p .px → o .py ≡ withVertex b p .py → o .cycles ≡ b .cycles → o .steps ≡ b .steps → o .bx ≡ b .bx → o .by ≡ b .by
@@ -148,7 +151,8 @@ module _ (a : Arrays) (t : Totals) (f : ℕ) (p : Position) where
         let g = vertex-comes b (r .long) p h in
         subst (Holds (faceCutAt (sheetOf (heldBy a)) f p)) (sym (vertex-row b o p e1 e2 e3 e4 e5 e6 e7 e8 e9 e10 e11 e12 e13 e14))
         (record {
-          sheet = lone-done (heldBy a) (sizes-in a t f withLone (vertex p ∷ []) w) (rowsBy a) f (w .named) p (w .room) (heldBy b) e (sheetOf (heldBy (withVertex b p))) (g .0);
+          sheet = lone-done (heldBy a) (sizes-in a t f withLone (vertex p ∷ []) w) (rowsBy a) f (w .named) p (w .room) (heldBy b) e
+              (sheetOf (heldBy (withVertex b p))) (g .0);
           fits = g .1;
           long = vertex-long b (r .long) p;
           rows = vertex-normal b (r .long) p (h .cells) (r .rows);
@@ -177,7 +181,8 @@ module _ (a : Arrays) (t : Totals) (y : Ready a t) (f : ℕ) (p : Position) (b :
   pub vertex-refused : (r ≡ 0 → ⊥) → (l : Line) → l ≡ lineOf r → Obeyed a (cutFaceVertex f p) a l
   vertex-refused nz l el =
       record {
-        answers = refuses (heldBy a) (ready-sizes a t y) (ready-drawing a t y) (cutFaceVertex f p) r asked nz (answerBy l (heldBy a)) (ap (λ (k : Line). answerBy k (heldBy a)) el);
+        answers = refuses (heldBy a) (ready-sizes a t y) (ready-drawing a t y) (cutFaceVertex f p) r asked nz (answerBy l (heldBy a))
+            (ap (λ (k : Line). answerBy k (heldBy a)) el);
         back = λ z. refl;
         rows = ready-rows a t y;
       }
@@ -188,10 +193,12 @@ module _ (a : Arrays) (t : Totals) (y : Ready a t) (f : ℕ) (p : Position) (b :
         record {
           ready = y;
           named = named-in (heldBy a) (ready-sizes a t y) (ready-drawing a t y) (rowsBy a) (ready-indexes a t y) f g;
-          room = room (heldBy a) (ready-sizes a t y) (ready-drawing a t y) (cutFaceVertex f p) r asked z everyId _ (vertex p ∷ []) (vertex-result (sheetOf (heldBy a)) f p);
+          room = room (heldBy a) (ready-sizes a t y) (ready-drawing a t y) (cutFaceVertex f p) r asked z everyId _ (vertex p ∷ [])
+              (vertex-result (sheetOf (heldBy a)) f p);
         }
 
-    pub vertex-obeyed : (o : Arrays) → o .next ≡ a .next + 1 → o .count ≡ a .count + 1 → Holds (faceCutAt (sheetOf (heldBy a)) f p) o → (l : Line) → l ≡ newLine (a .next) 1 → Obeyed a (cutFaceVertex f p) o l
+    pub vertex-obeyed : (o : Arrays) → o .next ≡ a .next + 1 → o .count ≡ a .count + 1 → Holds (faceCutAt (sheetOf (heldBy a)) f p) o → (l : Line)
+        → l ≡ newLine (a .next) 1 → Obeyed a (cutFaceVertex f p) o l
     vertex-obeyed o en ec h l el =
         record {
           answers =

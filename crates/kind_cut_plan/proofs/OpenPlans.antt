@@ -9,7 +9,8 @@ use lib.ListN.{length, getD, take}
 use Rattle.coordinate.specs.declared.Position.{Position}
 use Rattle.coordinate.specs.Bounds.{within}
 use Rattle.complex.specs.Lists.{all, total}
-use Rattle.complex.specs.Cells.{Figure, vertex, openEdge, closedEdge, face, Sheet, cellAt, isVertex, isOpen, isLive, startOf, endOf, bendsOf, cyclesOf as cyclesHeld, origin}
+use Rattle.complex.specs.Cells.{Figure, vertex, openEdge, closedEdge, face, Sheet, cellAt, isVertex, isOpen, isLive, startOf, endOf, bendsOf}
+use Rattle.complex.specs.Cells.{cyclesOf as cyclesHeld, origin}
 use Rattle.complex.specs.Edits.{keepIds, reshape, others}
 use Rattle.complex.specs.Sound.{stepsIn, over}
 use Rattle.complex.specs.Uses.{stepUse, usesBy}
@@ -139,7 +140,8 @@ module _ (a : Arrays) (l : Lengths a) (w : T (soundArrays a)) where
       sizes-are : sizesBy t ≡ sizesOf (sheetOf (heldBy a) .cells)
       sizes-are = ap sizesBy et ∙ totals-are d z (sound-fits d s) (rowsBy a) x
 
-      change-is : changeOf (sheetOf (heldBy a)) (cutEdge e q) ≡ moreLess (sized 2 0 (total (stepUse e) (cyclesFrom (take (t .cycles) (a .cycles)) (a .steps))) 0)
+      change-is : changeOf (sheetOf (heldBy a)) (cutEdge e q)
+          ≡ moreLess (sized 2 0 (total (stepUse e) (cyclesFrom (take (t .cycles) (a .cycles)) (a .steps))) 0)
           (sized 0 0 0 (q % 2))
       unfolding changeOf
       change-is =

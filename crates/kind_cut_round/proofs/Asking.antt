@@ -42,7 +42,8 @@ module _ (a : Arrays) (t : Totals) (y : Ready a t) (script : List ℕ) (f k firs
       → Obeyed a (cutFaceClosed f (positionsAt script first k) (numbersRead script place moved)) a l
   closed-no n e nz l el =
       ready-no a t y (cutFaceClosed f (positionsAt script first k) (numbersRead script place moved)) n l el
-      (round-refuses (heldBy a) (ready-sizes a t y) (ready-drawing a t y) (rowsBy a) (ready-indexes a t y) script f k first (numbersRead script place moved) n e q nz)
+      (round-refuses (heldBy a) (ready-sizes a t y) (ready-drawing a t y) (rowsBy a) (ready-indexes a t y) script f k first
+      (numbersRead script place moved) n e q nz)
 
   -- r is what 7 and 8 say
   module _ (e : 0 ≡ roundNo (rowsBy a) (a .count) f k (numbersRead script place moved)) (m : ℕ) (em : m ≡ k)
@@ -57,9 +58,11 @@ module _ (a : Arrays) (t : Totals) (y : Ready a t) (script : List ℕ) (f k firs
           totals = t;
           more = moreOf m;
           less = lessOf;
-          passed = round-passes (heldBy a) (ready-sizes a t y) (ready-drawing a t y) (rowsBy a) (ready-indexes a t y) script f k first (numbersRead script place moved) 0 e q refl .1 .1;
+          passed = round-passes (heldBy a) (ready-sizes a t y) (ready-drawing a t y) (rowsBy a) (ready-indexes a t y) script f k first
+              (numbersRead script place moved) 0 e q refl .1 .1;
           newIs = round-new (sheetOf (heldBy a)) f (positionsAt script first k) (numbersRead script place moved);
-          changeIs = round-more (sheetOf (heldBy a)) f (positionsAt script first k) (numbersRead script place moved) m (positions-length script first k ∙ sym em);
+          changeIs = round-more (sheetOf (heldBy a)) f (positionsAt script first k) (numbersRead script place moved) m
+              (positions-length script first k ∙ sym em);
           totalsAre = ready-totals a t y;
           says = er;
         })
@@ -68,7 +71,8 @@ module _ (a : Arrays) (t : Totals) (y : Ready a t) (script : List ℕ) (f k firs
     closed-refused nz l el =
         record {
           answers =
-              refuses (heldBy a) (ready-sizes a t y) (ready-drawing a t y) (cutFaceClosed f (positionsAt script first k) (numbersRead script place moved)) r asked nz (answerBy l (heldBy a))
+              refuses (heldBy a) (ready-sizes a t y) (ready-drawing a t y) (cutFaceClosed f (positionsAt script first k) (numbersRead script place moved)) r
+              asked nz (answerBy l (heldBy a))
               (ap (λ (x : Line). answerBy x (heldBy a)) el);
           back = λ z. refl;
           rows = ready-rows a t y;
@@ -78,8 +82,10 @@ module _ (a : Arrays) (t : Totals) (y : Ready a t) (script : List ℕ) (f k firs
       pub closed-cuts : first + 16 * k ≤ length script → Stand readNumber script place moved → RoundCut (heldBy a) (rowsBy a) script f k first moved place
       closed-cuts h s =
           let d = heldBy a in
-          let p = round-passes d (ready-sizes a t y) (ready-drawing a t y) (rowsBy a) (ready-indexes a t y) script f k first (numbersRead script place moved) 0 e q refl in
-          let o = spare d (ready-sizes a t y) (ready-drawing a t y) (cutFaceClosed f (positionsAt script first k) (numbersRead script place moved)) r asked z (moreOf m) lessOf
+          let p = round-passes d (ready-sizes a t y) (ready-drawing a t y) (rowsBy a) (ready-indexes a t y) script f k first
+          (numbersRead script place moved) 0 e q refl in
+          let o = spare d (ready-sizes a t y) (ready-drawing a t y) (cutFaceClosed f (positionsAt script first k) (numbersRead script place moved)) r asked z
+          (moreOf m) lessOf
           (round-more (sheetOf d) f (positionsAt script first k) (numbersRead script place moved) m (positions-length script first k ∙ sym em)) in
           record {
             named = named-in d (ready-sizes a t y) (ready-drawing a t y) (rowsBy a) (ready-indexes a t y) f (p .0);
@@ -90,7 +96,8 @@ module _ (a : Arrays) (t : Totals) (y : Ready a t) (script : List ℕ) (f k firs
             cycleRoom = omega (arith, o .0);
             stepRoom = omega (arith, o .1);
             room =
-                room d (ready-sizes a t y) (ready-drawing a t y) (cutFaceClosed f (positionsAt script first k) (numbersRead script place moved)) r asked z everyId _ _
+                room d (ready-sizes a t y) (ready-drawing a t y) (cutFaceClosed f (positionsAt script first k) (numbersRead script place moved)) r asked z
+                everyId _ _
                 (round-result (sheetOf d) f (positionsAt script first k) (numbersRead script place moved));
           }
 
@@ -100,7 +107,8 @@ module _ (a : Arrays) (t : Totals) (y : Ready a t) (script : List ℕ) (f k firs
       closed-obeyed o en ec h l el =
           record {
             answers =
-                answers (heldBy a) (ready-sizes a t y) (ready-drawing a t y) (cutFaceClosed f (positionsAt script first k) (numbersRead script place moved)) r asked z (heldBy o) (held-sizes o (h .long)) (h .fits)
+                answers (heldBy a) (ready-sizes a t y) (ready-drawing a t y) (cutFaceClosed f (positionsAt script first k) (numbersRead script place moved)) r
+                asked z (heldBy o) (held-sizes o (h .long)) (h .fits)
                 (h .sheet ∙ sym (round-cut (sheetOf (heldBy a)) f (positionsAt script first k) (numbersRead script place moved)))
                 (answerBy l (heldBy o)) (ap (λ (x : Line). answerBy x (heldBy o)) el ∙ new-outcome (a .next) (a .count) 2 (heldBy o) (omega arith) en ec);
             back = λ n. absurd (n (ap (λ (x : Line). x .number) el));

@@ -30,7 +30,8 @@ use Rattle.kernel_cycles.specs.Replacing.{ReplacedIn, totalsWith}
 use Rattle.kind_cut_face.specs.Cuts.{FaceCuts}
 use Rattle.kernel_part.specs.Rounds.{HoldsIn, RingRoom, PartRoom}
 
-module _ (a : Arrays) (t : Totals) (y : Ready a t) (script : List ℕ) (f k first moved place : ℕ) (r : RoundCut (heldBy a) (rowsBy a) script f k first moved place) where
+module _ (a : Arrays) (t : Totals) (y : Ready a t) (script : List ℕ) (f k first moved place : ℕ)
+    (r : RoundCut (heldBy a) (rowsBy a) script f k first moved place) where
   abbrev ms : List ℕ
   ms = numbersRead script place moved
 
@@ -52,32 +53,54 @@ module _ (a : Arrays) (t : Totals) (y : Ready a t) (script : List ℕ) (f k firs
 
   module _ (s : Spans) (sp : Spanned (heldBy a) f s) where
     pub lists-ask : Within (a .cycles) (a .steps) s
-        × ((s .cycles .count < cyclesMost) × ((s .steps .count < stepsMost) × (Stand readNumber script place moved × ((places 0 (numbersRead script place moved) (s .cycles .count) ≡ true) × (a .next ≤ idsEnd)))))
+        × ((s .cycles .count < cyclesMost) × ((s .steps .count < stepsMost)
+        × (Stand readNumber script place moved × ((places 0 (numbersRead script place moved) (s .cycles .count) ≡ true) × (a .next ≤ idsEnd)))))
     lists-ask = round-asks (heldBy a) (ready-sizes a t y) (rowsBy a) script f k first moved place r s sp
 
-    pub kept-is : (counts : List ℕ) (u : Used) (steps : List ℕ) → Built (stayed (numbersRead script place moved) (cyclesAt (a .cycles) (a .steps) s) (a .next)) counts u steps → built counts u steps ≡ keptList
+    pub kept-is : (counts : List ℕ) (u : Used) (steps : List ℕ)
+        → Built (stayed (numbersRead script place moved) (cyclesAt (a .cycles) (a .steps) s) (a .next)) counts u steps → built counts u steps ≡ keptList
     kept-is = old-list (heldBy a) (ready-sizes a t y) (rowsBy a) script f k first moved place r s sp
 
-    gone-is : (counts : List ℕ) (u : Used) (steps : List ℕ) → Built (left (numbersRead script place moved) (cyclesAt (a .cycles) (a .steps) s) (a .next)) counts u steps → built counts u steps ≡ goneList
+    gone-is : (counts : List ℕ) (u : Used) (steps : List ℕ) → Built (left (numbersRead script place moved) (cyclesAt (a .cycles) (a .steps) s) (a .next)) counts
+        u steps → built counts u steps ≡ goneList
     gone-is = new-list (heldBy a) (ready-sizes a t y) (rowsBy a) script f k first moved place r s sp
 
     -- b have the cycles that are kept
-    module _ (row : ℕ) (u : Used) (l : List Cycle) (b : Arrays) (q : ReplacedIn a row s (u .cycles) (u .steps) l b) (e : sheetOf (heldBy b) ≡ recycled (sheetOf (heldBy a)) f keptList) where
-      pub ring-room : RingRoom b (record { cells = a .count; cycles = s .cycles .first + u .cycles + s .cycles .rest; steps = s .steps .first + u .steps + s .steps .rest; bends = t .bends }) script k first
+    module _ (row : ℕ) (u : Used) (l : List Cycle) (b : Arrays) (q : ReplacedIn a row s (u .cycles) (u .steps) l b)
+        (e : sheetOf (heldBy b) ≡ recycled (sheetOf (heldBy a)) f keptList) where
+      pub ring-room : RingRoom b
+          (record {
+            cells = a .count;
+            cycles = s .cycles .first + u .cycles + s .cycles .rest;
+            steps = s .steps .first + u .steps + s .steps .rest;
+            bends = t .bends;
+          }) script k first
       ring-room =
           let g = ap (λ (x : Totals). x .bends) (y .sums) in
-          let h : record { cells = a .count; cycles = s .cycles .first + u .cycles + s .cycles .rest; steps = s .steps .first + u .steps + s .steps .rest; bends = t .bends } ≡ totalsWith a s (u .cycles) (u .steps) =
-          λ i. record { cells = a .count; cycles = s .cycles .first + u .cycles + s .cycles .rest; steps = s .steps .first + u .steps + s .steps .rest; bends = g i } in
+          let h : record {
+            cells = a .count;
+            cycles = s .cycles .first + u .cycles + s .cycles .rest;
+            steps = s .steps .first + u .steps + s .steps .rest;
+            bends = t .bends;
+          } ≡ totalsWith a s (u .cycles) (u .steps) =
+          λ i. record {
+            cells = a .count;
+            cycles = s .cycles .first + u .cycles + s .cycles .rest;
+            steps = s .steps .first + u .steps + s .steps .rest;
+            bends = g i;
+          } in
           record {
             long = q .long;
             rows = q .rows;
             sums = h ∙ sym (q .sums);
             bytes = r .bytes;
-            room = first-room (heldBy a) (ready-sizes a t y) (rowsBy a) f (r .named) keptList bothCells (r .room) edge (face goneList) refl (heldBy b) e (held-sizes b (q .long)) (q .fits);
+            room = first-room (heldBy a) (ready-sizes a t y) (rowsBy a) f (r .named) keptList bothCells (r .room) edge (face goneList) refl (heldBy b) e
+                (held-sizes b (q .long)) (q .fits);
           }
 
       -- c have the edge too
-      module _ (cy st : ℕ) (c : Arrays) (h : HoldsIn (appended (sheetOf (heldBy b)) (closedEdge (positionsAt script first k))) cy st c) (counts : List ℕ) (v : Used) (steps : List ℕ)
+      module _ (cy st : ℕ) (c : Arrays) (h : HoldsIn (appended (sheetOf (heldBy b)) (closedEdge (positionsAt script first k))) cy st c) (counts : List ℕ)
+          (v : Used) (steps : List ℕ)
           (g : Built (left (numbersRead script place moved) (cyclesAt (a .cycles) (a .steps) s) (a .next)) counts v steps) where
         pub part-room : PartRoom c cy st counts v steps
         part-room =
@@ -89,15 +112,18 @@ module _ (a : Arrays) (t : Totals) (y : Ready a t) (script : List ℕ) (f k firs
               building = g .building;
               room =
                   subst (λ (x : List Cycle). CellRoom (heldBy c) (face x)) (sym (gone-is counts v steps g))
-                  (second-room (heldBy a) (ready-sizes a t y) (rowsBy a) f (r .named) keptList bothCells (r .room) edge (face goneList) refl (heldBy b) e (heldBy c) (h .holds .sheet) (held-sizes c (h .holds .long)) (h .holds .fits));
+                  (second-room (heldBy a) (ready-sizes a t y) (rowsBy a) f (r .named) keptList bothCells (r .room) edge (face goneList) refl (heldBy b) e
+                  (heldBy c) (h .holds .sheet) (held-sizes c (h .holds .long)) (h .holds .fits));
             }
 
-        pub round-holds : (o : Arrays) → Holds (appended (sheetOf (heldBy c)) (face (built counts v steps))) o → Holds (faceCutRound (sheetOf (heldBy a)) f (positionsAt script first k) (numbersRead script place moved)) o
+        pub round-holds : (o : Arrays) → Holds (appended (sheetOf (heldBy c)) (face (built counts v steps))) o
+            → Holds (faceCutRound (sheetOf (heldBy a)) f (positionsAt script first k) (numbersRead script place moved)) o
         unfolding faceCutRound
         round-holds o w =
             record {
               sheet =
-                  both-done (heldBy a) (ready-sizes a t y) (rowsBy a) f (r .named) keptList bothCells (r .room) edge (face goneList) refl (heldBy b) e (heldBy c) (h .holds .sheet) (sheetOf (heldBy o))
+                  both-done (heldBy a) (ready-sizes a t y) (rowsBy a) f (r .named) keptList bothCells (r .room) edge (face goneList) refl (heldBy b) e
+                  (heldBy c) (h .holds .sheet) (sheetOf (heldBy o))
                   (w .sheet ∙ ap (λ (x : List Cycle). appended (sheetOf (heldBy c)) (face x)) (gone-is counts v steps g));
               fits = w .fits;
               long = w .long;

@@ -18,9 +18,12 @@ use Rattle.lent.proofs.Replies.{rows-of, drawing-of}
 use Rattle.kernel_keep.specs.Keeps.{Keeps}
 use Rattle.kernel_keep.proofs.Less.{obeyed-less}
 
-module _ (a : Arrays) (l : Lengths a) (w : T (soundArrays a)) (i row : ℕ) (er : row ≡ rowOf i (take (a .count) (a .ids))) (h : row < a .count) (dead : List Bool)
-    (md : take (a .count) dead ≡ starMarks (take (a .count) (a .ids)) (take (a .count) (a .kinds)) (take (a .count) (a .starts)) (take (a .count) (a .ends)) (take (a .count) (a .counts)) (a .cycles) (a .steps) i) where
-  pub obeyed-deleted : (b : Arrays) → Keeps (set dead row true) a b → b .next ≡ a .next → (k : Line) → k ≡ record { number = 0; first = 0; new = 0; removed = a .count - b .count } → Obeyed a (delete i) b k
+module _ (a : Arrays) (l : Lengths a) (w : T (soundArrays a)) (i row : ℕ) (er : row ≡ rowOf i (take (a .count) (a .ids))) (h : row < a .count)
+    (dead : List Bool)
+    (md : take (a .count) dead ≡ starMarks (take (a .count) (a .ids)) (take (a .count) (a .kinds)) (take (a .count) (a .starts)) (take (a .count) (a .ends))
+    (take (a .count) (a .counts)) (a .cycles) (a .steps) i) where
+  pub obeyed-deleted : (b : Arrays) → Keeps (set dead row true) a b → b .next ≡ a .next → (k : Line)
+      → k ≡ record { number = 0; first = 0; new = 0; removed = a .count - b .count } → Obeyed a (delete i) b k
   obeyed-deleted b p e k ek =
       let d = heldBy a in
       let z = held-sizes a l in

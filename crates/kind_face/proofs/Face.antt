@@ -68,7 +68,8 @@ withPools a cs ss =
     }
 
 -- ---- the face
-module _ (a : Arrays) (l : Lengths a) (ks : List Cycle) (k c p : ℕ) (lk : length ks ≡ k) (ec : c ≡ cycleTotal (heldBy a)) (ep : p ≡ stepTotal (heldBy a)) (re : allReal ks ≡ true)
+module _ (a : Arrays) (l : Lengths a) (ks : List Cycle) (k c p : ℕ) (lk : length ks ≡ k) (ec : c ≡ cycleTotal (heldBy a)) (ep : p ≡ stepTotal (heldBy a))
+    (re : allReal ks ≡ true)
     (cs ss : List ℕ) (es : cs ≡ sets (a .cycles) c (map numOf ks)) (et : ss ≡ sets (a .steps) p (spread cycleWords ks)) where
   pub pools-long : Lengths (withPools a cs ss)
   pools-long =
@@ -150,7 +151,8 @@ module _ (a : Arrays) (t : Totals) (r : Ready a t) (s : List ℕ) (first k : ℕ
               places = omega (arith, f .steps, all-places ks, ready-steps a t r, r .long .steps);
             }
 
-        pub obeyed-face : (cs ss : List ℕ) → cs ≡ sets (a .cycles) (t .cycles) (map numOf (cyclesRead s first k)) → ss ≡ sets (a .steps) (t .steps) (spread cycleWords (cyclesRead s first k))
+        pub obeyed-face : (cs ss : List ℕ) → cs ≡ sets (a .cycles) (t .cycles) (map numOf (cyclesRead s first k))
+            → ss ≡ sets (a .steps) (t .steps) (spread cycleWords (cyclesRead s first k))
             → (o : Arrays) → o ≡ withFace (withPools a cs ss) k → (x : Line) → x ≡ oneNew (a .next) → Obeyed a (create (face (cyclesRead s first k))) o x
         obeyed-face cs ss es et =
             let c = ready-cycles a t r in

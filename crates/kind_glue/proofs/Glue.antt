@@ -91,13 +91,17 @@ module _ (a : Arrays) (t : Totals) (y : Ready a t) where
     read-row : (vs : List ℕ) → getD vs row 0 ≡ indexValue 0 (heldBy a) (rowsBy a) vs b
     read-row vs = sym (getD-take (a .count) vs row 0 row-below) ∙ ap (λ (k : ℕ). getD (take (a .count) vs) k 0) er
 
-    pub vertex-row : (e k : ℕ) → k ≡ verticesNo (indexValue 4 (heldBy a) (rowsBy a) (a .kinds) e) (indexValue 4 (heldBy a) (rowsBy a) (a .kinds) b) (eqb e b) → k ≡ 0 → (getD (a .bends) row 0 ≡ 0) × (getD (a .counts) row 0 ≡ 0)
+    pub vertex-row : (e k : ℕ) → k ≡ verticesNo (indexValue 4 (heldBy a) (rowsBy a) (a .kinds) e) (indexValue 4 (heldBy a) (rowsBy a) (a .kinds) b) (eqb e b)
+        → k ≡ 0 → (getD (a .bends) row 0 ≡ 0) × (getD (a .counts) row 0 ≡ 0)
     vertex-row e k ek z =
         let q = ready-looks a t y in
-        let v = vertex-bare (cellAt (sheetOf (heldBy a)) b) (sym (q .kinds b) ∙ kind-vertex (indexValue 4 (heldBy a) (rowsBy a) (a .kinds) e) (indexValue 4 (heldBy a) (rowsBy a) (a .kinds) b) (eqb e b) (sym ek ∙ z)) in
+        let v = vertex-bare (cellAt (sheetOf (heldBy a)) b)
+        (sym (q .kinds b) ∙ kind-vertex (indexValue 4 (heldBy a) (rowsBy a) (a .kinds) e) (indexValue 4 (heldBy a) (rowsBy a) (a .kinds) b) (eqb e b)
+        (sym ek ∙ z)) in
         (read-row (a .bends) ∙ q .bends b ∙ v .0, read-row (a .counts) ∙ q .cycles b ∙ v .1)
 
-    pub edge-row : (k ka kb : ℕ) (same : Bool) (flag : ℕ) (meet : Bool) → kb ≡ indexValue 4 (heldBy a) (rowsBy a) (a .kinds) b → k ≡ edgesNo ka kb same flag meet → k ≡ 0 → getD (a .counts) row 0 ≡ 0
+    pub edge-row : (k ka kb : ℕ) (same : Bool) (flag : ℕ) (meet : Bool) → kb ≡ indexValue 4 (heldBy a) (rowsBy a) (a .kinds) b
+        → k ≡ edgesNo ka kb same flag meet → k ≡ 0 → getD (a .counts) row 0 ≡ 0
     edge-row k ka kb same flag meet eb ek z =
         let q = ready-looks a t y in
         read-row (a .counts) ∙ q .cycles b
@@ -105,28 +109,35 @@ module _ (a : Arrays) (t : Totals) (y : Ready a t) where
 
   -- ---- what the swap asks
   pub swap-asks : (b e : ℕ) (flip : Bool) (s : Swap) → s ≡ oneFor b e flip
-      → Fits (heldBy a) × (Lengths a × ((t .cycles ≡ cycleTotal (heldBy a)) × ((s .n ≤ 2) × ((allReal (spread entryCycles (reshape (rewired sameVertex (swapHalf s)) (sheetOf (heldBy a) .cells))) ≡ true)
+      → Fits (heldBy a) × (Lengths a × ((t .cycles ≡ cycleTotal (heldBy a))
+      × ((s .n ≤ 2) × ((allReal (spread entryCycles (reshape (rewired sameVertex (swapHalf s)) (sheetOf (heldBy a) .cells))) ≡ true)
       × ((over stepsIn (reshape (rewired sameVertex (swapHalf s)) (sheetOf (heldBy a) .cells)) ≤ 2048) × ((t .steps ≡ stepTotal (heldBy a))
-      × (((s .n ≤ 1) × (_≡_ {A = ℕ} 0 0)) ⊎ ((1 ≤ s .n) × (over stepsIn (reshape (rewired sameVertex (swapHalf s)) (sheetOf (heldBy a) .cells)) ≡ 0 + t .steps)))))))))
+      × (((s .n ≤ 1) × (_≡_ {A = ℕ} 0 0)) ⊎ ((1 ≤ s .n)
+      × (over stepsIn (reshape (rewired sameVertex (swapHalf s)) (sheetOf (heldBy a) .cells)) ≡ 0 + t .steps)))))))))
   swap-asks b e flip s es =
       let d = heldBy a in
       let z = ready-sizes a t y in
       let f = ready-fits a t y in
       let h : swapHalf s ≡ inPlaceOf b e flip = ap swapHalf es ∙ one-for b e flip in
       let n : s .n ≡ 1 = ap (λ (k : Swap). k .n) es in
-      let real = subst (λ (σ : Halfedge → List Halfedge). allReal (spread entryCycles (reshape (rewired sameVertex σ) (sheetOf d .cells))) ≡ true) (sym h) (real-with d z f _ (one-some b e flip)) in
-      let room = subst (λ (σ : Halfedge → List Halfedge). over stepsIn (reshape (rewired sameVertex σ) (sheetOf d .cells)) ≤ 2048) (sym h) (room-with d z f _ (one-few b e flip)) in
+      let real = subst (λ (σ : Halfedge → List Halfedge). allReal (spread entryCycles (reshape (rewired sameVertex σ) (sheetOf d .cells))) ≡ true) (sym h)
+      (real-with d z f _ (one-some b e flip)) in
+      let room = subst (λ (σ : Halfedge → List Halfedge). over stepsIn (reshape (rewired sameVertex σ) (sheetOf d .cells)) ≤ 2048) (sym h)
+      (room-with d z f _ (one-few b e flip)) in
       (f, (y .long, (ready-cycles a t y, (omega (arith, n), (real, (room, (ready-steps a t y, inl (omega (arith, n), refl))))))))
 
   pub swapped-is : (b e : ℕ) (flip : Bool) (s : Swap) → s ≡ oneFor b e flip → (mid : Arrays) → SwappedIn s a mid
       → sheetOf (heldBy mid) ≡ withEntries (sheetOf (heldBy a)) (reshape (rewired sameVertex (inPlaceOf b e flip)) (sheetOf (heldBy a) .cells))
   swapped-is b e flip s es mid sw =
-      sw .sheet ∙ ap (λ (σ : Halfedge → List Halfedge). withEntries (sheetOf (heldBy a)) (reshape (rewired sameVertex σ) (sheetOf (heldBy a) .cells))) (ap swapHalf es ∙ one-for b e flip)
+      sw .sheet ∙ ap (λ (σ : Halfedge → List Halfedge). withEntries (sheetOf (heldBy a)) (reshape (rewired sameVertex σ) (sheetOf (heldBy a) .cells)))
+      (ap swapHalf es ∙ one-for b e flip)
 
   -- ---- the whole
   module _ (c : Command) (b : ℕ) (f : ℕ → Figure → Figure) (g : Glues (heldBy a) c b f) (row : ℕ) (er : row ≡ rowOf b (take (a .count) (a .ids)))
-      (mid : Arrays) (lm : Lengths mid) (fm : Fits (heldBy mid)) (em : sheetOf (heldBy mid) ≡ withEntries (sheetOf (heldBy a)) (reshape f (sheetOf (heldBy a) .cells))) where
-    pub obeyed-glued : (out : Arrays) → Keeps (set (replicate 256 false) row true) mid out → out .next ≡ a .next → (k : Line) → k ≡ record { number = 0; first = 0; new = 0; removed = a .count - out .count } → Obeyed a c out k
+      (mid : Arrays) (lm : Lengths mid) (fm : Fits (heldBy mid))
+      (em : sheetOf (heldBy mid) ≡ withEntries (sheetOf (heldBy a)) (reshape f (sheetOf (heldBy a) .cells))) where
+    pub obeyed-glued : (out : Arrays) → Keeps (set (replicate 256 false) row true) mid out → out .next ≡ a .next → (k : Line)
+        → k ≡ record { number = 0; first = 0; new = 0; removed = a .count - out .count } → Obeyed a c out k
     obeyed-glued out p en k ek =
         obeyed-less a c out en (p .rows)
         (answers (heldBy a) (ready-sizes a t y) (ready-drawing a t y) c 0 (g .asked) refl (heldBy out) (p .sizes) (p .fits)

@@ -37,7 +37,22 @@ use Rattle.lent.proofs.Replies.{rows-of, drawing-of}
 -- the arrays with other positions
 abbrev pub withPlaces : Arrays → List Float → List Float → Arrays
 withPlaces a xs ys =
-    record { next = a .next; count = a .count; ids = a .ids; kinds = a .kinds; starts = a .starts; ends = a .ends; bends = a .bends; counts = a .counts; px = xs; py = ys; cycles = a .cycles; steps = a .steps; bx = a .bx; by = a .by }
+    record {
+      next = a .next;
+      count = a .count;
+      ids = a .ids;
+      kinds = a .kinds;
+      starts = a .starts;
+      ends = a .ends;
+      bends = a .bends;
+      counts = a .counts;
+      px = xs;
+      py = ys;
+      cycles = a .cycles;
+      steps = a .steps;
+      bx = a .bx;
+      by = a .by;
+    }
 
 module _ (a : Arrays) (l : Lengths a) (row : ℕ) (p : Position) (h : row < 256) (k : getD (a .kinds) row 0 ≡ 0) where
   abbrev after : Arrays
@@ -49,10 +64,12 @@ module _ (a : Arrays) (l : Lengths a) (row : ℕ) (p : Position) (h : row < 256)
       λ i. shapeBy (k i) (getD (a .starts) row 0) (getD (a .ends) row 0) (getD (a .bends) row 0) (getD (a .counts) row 0) (q i)
 
   there : (j : ℕ) → (j ≡ row → ⊥) → shapeAt after j ≡ shapeAt a j
-  there j n = ap (shapeBy (getD (a .kinds) j 0) (getD (a .starts) j 0) (getD (a .ends) j 0) (getD (a .bends) j 0) (getD (a .counts) j 0)) (place-other (a .px) (a .py) row j p n)
+  there j n = ap (shapeBy (getD (a .kinds) j 0) (getD (a .starts) j 0) (getD (a .ends) j 0) (getD (a .bends) j 0) (getD (a .counts) j 0))
+      (place-other (a .px) (a .py) row j p n)
 
   -- the arrays hold the drawing with the vertex at its new place
-  pub held-moved : heldBy after ≡ withCells (heldBy a) (a .next) (a .count) (set (heldBy a .cells) row (record { id = getD (heldBy a .cells) row noCell .id; shape = Vertex p }))
+  pub held-moved : heldBy after ≡ withCells (heldBy a) (a .next) (a .count)
+      (set (heldBy a .cells) row (record { id = getD (heldBy a .cells) row noCell .id; shape = Vertex p }))
   held-moved =
       let cs = cellsBy (shapeAt a) (a .ids) in
       ap (withCells (heldBy a) (a .next) (a .count))
@@ -60,13 +77,15 @@ module _ (a : Arrays) (l : Lengths a) (row : ℕ) (p : Position) (h : row < 256)
       ∙ cells-set (shapeAt a) (shapeAt after) row (getD (a .ids) row 0) (a .ids) (omega (arith, l .ids)) there
       ∙ ap₂ (λ (i : ℕ) (s : Shape). set cs row (record { id = i; shape = s })) (sym (cells-id (shapeAt a) (a .ids) row noCell (omega (arith, h, l .ids)))) here)
 
-outcome-is : (next n : ℕ) (out : Drawing) → out .next ≡ next → out .count ≡ n → record { number = 0; first = 0; new = 0; removed = 0; drawing = out } ≡ outcome next n out
+outcome-is : (next n : ℕ) (out : Drawing) → out .next ≡ next → out .count ≡ n
+    → record { number = 0; first = 0; new = 0; removed = 0; drawing = out } ≡ outcome next n out
 outcome-is next n out e f =
     let g : out .next - next ≡ 0 = omega (arith, e) in
     let h : n + (out .next - next) - out .count ≡ 0 = omega (arith, e, f) in
     λ i. record { number = 0; first = cond (eqb (sym g i) 0) 0 next; new = sym g i; removed = sym h i; drawing = out }
 
-module _ (a : Arrays) (l : Lengths a) (w : T (soundArrays a)) (v : ℕ) (p : Position) (k row : ℕ) (e : k ≡ indexValue 4 (heldBy a) (rowsBy a) (a .kinds) v) (k0 : k ≡ 0) (er : row ≡ rowOf v (take (a .count) (a .ids))) where
+module _ (a : Arrays) (l : Lengths a) (w : T (soundArrays a)) (v : ℕ) (p : Position) (k row : ℕ) (e : k ≡ indexValue 4 (heldBy a) (rowsBy a) (a .kinds) v)
+    (k0 : k ≡ 0) (er : row ≡ rowOf v (take (a .count) (a .ids))) where
   pub moved-row : row < 256
   moved-row =
       let d = heldBy a in
@@ -74,7 +93,8 @@ module _ (a : Arrays) (l : Lengths a) (w : T (soundArrays a)) (v : ℕ) (p : Pos
       let f = sound-fits d (drawing-of a w) in
       omega (arith, row-counted d row (held-sizes a l) f (move-row d (rowsBy a) x v k row e er k0), f .cells)
 
-  pub obeyed-moved : within p ≡ true → (xs ys : List Float) → xs ≡ set (a .px) row (p .x) → ys ≡ set (a .py) row (p .y) → (r : Line) → r ≡ lineOf 0 → Obeyed a (move v p) (withPlaces a xs ys) r
+  pub obeyed-moved : within p ≡ true → (xs ys : List Float) → xs ≡ set (a .px) row (p .x) → ys ≡ set (a .py) row (p .y) → (r : Line) → r ≡ lineOf 0
+      → Obeyed a (move v p) (withPlaces a xs ys) r
   obeyed-moved b xs ys ex ey r el =
       let d = heldBy a in
       let s = drawing-of a w in
@@ -85,8 +105,10 @@ module _ (a : Arrays) (l : Lengths a) (w : T (soundArrays a)) (v : ℕ) (p : Pos
       let h = row-counted d row z f g in
       let m = moved-is p d row z f g in
       let hr : row < 256 = moved-row in
-      let kr : getD (a .kinds) row 0 ≡ 0 = getD-any (a .kinds) row 0 4 (omega (arith, hr, l .kinds)) ∙ sym (getD-take (a .count) (a .kinds) row 4 h) ∙ ap (λ (q : List ℕ). getD q row 4) (x .kinds) ∙ g in
-      let t : heldBy (withPlaces a xs ys) ≡ withCells d (a .next) (a .count) (set (d .cells) row (record { id = getD (d .cells) row noCell .id; shape = Vertex p })) =
+      let kr : getD (a .kinds) row 0 ≡ 0 = getD-any (a .kinds) row 0 4 (omega (arith, hr, l .kinds)) ∙ sym (getD-take (a .count) (a .kinds) row 4 h)
+      ∙ ap (λ (q : List ℕ). getD q row 4) (x .kinds) ∙ g in
+      let t : heldBy (withPlaces a xs ys) ≡ withCells d (a .next) (a .count)
+      (set (d .cells) row (record { id = getD (d .cells) row noCell .id; shape = Vertex p })) =
       ap₂ (λ (us vs : List Float). heldBy (withPlaces a us vs)) ex ey ∙ held-moved a l row p hr kr in
       let out = withCells d (a .next) (a .count) (set (d .cells) row (record { id = getD (d .cells) row noCell .id; shape = Vertex p })) in
       record {
@@ -94,7 +116,8 @@ module _ (a : Arrays) (l : Lengths a) (w : T (soundArrays a)) (v : ℕ) (p : Pos
             subst (λ (q : Drawing). Answers d (move v p) (answerBy r q)) (sym t)
             (edit-answers d z s (move v p) (move-new d v p) (move-change d v p)
             (move-passed d v p b (sym (kind-vertex d z s (rowsBy a) x v k e) ∙ eq-eqb k 0 k0))
-            out (record { cells = length-set (d .cells) row _ ∙ z .cells; cycles = z .cycles; steps = z .steps; bends = z .bends }) (m .1) (m .0 ∙ move-result d z s (rowsBy a) x v p row er h)
+            out (record { cells = length-set (d .cells) row _ ∙ z .cells; cycles = z .cycles; steps = z .steps; bends = z .bends }) (m .1)
+            (m .0 ∙ move-result d z s (rowsBy a) x v p row er h)
             (answerBy r out) (ap (λ (u : Line). answerBy u out) el ∙ outcome-is (a .next) (a .count) out refl refl));
         back = λ n. absurd (n (ap (λ (u : Line). u .number) el));
         rows = rows-of a w;

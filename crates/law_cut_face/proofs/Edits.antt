@@ -35,7 +35,8 @@ use Rattle.rows_corners.proofs.Edits.{room-after}
 use Rattle.rows_corners.proofs.Rows.{own, roomy, spare-cycles, spare-steps}
 
 -- ---- 0B
-module _ (d : Drawing) (z : Sizes d) (ix : Index) (f : ℕ) (m : Named d ix f) (p : Position) (r : RoomIn (recycled (sheetOf d) f (cells.cyclesOf (cellAt (sheetOf d) f) ++ one (lone (sheetOf d .next)))) (vertex p ∷ [])) where
+module _ (d : Drawing) (z : Sizes d) (ix : Index) (f : ℕ) (m : Named d ix f) (p : Position)
+    (r : RoomIn (recycled (sheetOf d) f (cells.cyclesOf (cellAt (sheetOf d) f) ++ one (lone (sheetOf d .next)))) (vertex p ∷ [])) where
   abbrev pub with-lone : List Cycle
   with-lone = cells.cyclesOf (cellAt (sheetOf d) f) ++ one (lone (sheetOf d .next))
 
@@ -51,13 +52,15 @@ module _ (d : Drawing) (z : Sizes d) (ix : Index) (f : ℕ) (m : Named d ix f) (
       let fs = s .fewSteps in
       (s .within, (omega arith, omega arith))
 
-  pub lone-list : (t : Spans) → Spanned d f t → (counts : List ℕ) (u : Used) (steps : List ℕ) → Built (cyclesAt (d .cycles) (d .steps) t ++ one (lone (d .next))) counts u steps → built counts u steps ≡ with-lone
+  pub lone-list : (t : Spans) → Spanned d f t → (counts : List ℕ) (u : Used) (steps : List ℕ)
+      → Built (cyclesAt (d .cycles) (d .steps) t ++ one (lone (d .next))) counts u steps → built counts u steps ≡ with-lone
   lone-list t s counts u steps b = b .list ∙ ap₂ (λ (l : List Cycle) (n : ℕ). l ++ one (lone n)) (s .list) (sym (next-is d))
 
   pub lone-room : (out : Drawing) → Sizes out → Fits out → sheetOf out ≡ recycled (sheetOf d) f with-lone → CellRoom out (vertex p)
   lone-room out zo fo e = room-first out zo fo (vertex p) [] (room-after d z ix f m with-lone (vertex p ∷ []) r (sheetOf out) e)
 
-  pub lone-done : (out : Drawing) → sheetOf out ≡ recycled (sheetOf d) f with-lone → (s : Sheet) → s ≡ appended (sheetOf out) (vertex p) → s ≡ faceCutAt (sheetOf d) f p
+  pub lone-done : (out : Drawing) → sheetOf out ≡ recycled (sheetOf d) f with-lone → (s : Sheet) → s ≡ appended (sheetOf out) (vertex p)
+      → s ≡ faceCutAt (sheetOf d) f p
   unfolding faceCutAt
   lone-done out e s g = g ∙ ap (λ (t : Sheet). appended t (vertex p)) e ∙ appended-one (recycled (sheetOf d) f with-lone) (vertex p)
 

@@ -52,7 +52,8 @@ bends-none s at zero = refl
 bends-none s at (suc n) = sym (ne-eqb (suc n) 0 (λ e. omega arith))
 
 -- ---- the lists, by flags
-module _ (cycles steps : List ℕ) (t : Spans) (w : Within cycles steps t) (ms : List ℕ) (flags : List Bool) (m : Marks ms flags) (r : places 0 ms (t .cycles .count) ≡ true) (e : ℕ) where
+module _ (cycles steps : List ℕ) (t : Spans) (w : Within cycles steps t) (ms : List ℕ) (flags : List Bool) (m : Marks ms flags)
+    (r : places 0 ms (t .cycles .count) ≡ true) (e : ℕ) where
   abbrev listed : List Cycle
   listed = cyclesAt cycles steps t
 
@@ -67,10 +68,12 @@ module _ (cycles steps : List ℕ) (t : Spans) (w : Within cycles steps t) (ms :
       ap₂ (λ (l : List Cycle) (hs : List Halfedge). l ++ one (path hs))
       (ap (λ (n : ℕ). kept (take n flags) listed) (sym count-is) ∙ sym (without-kept ms flags m listed few)) (along-read e)
 
-  pub left-kept : (stays : List Bool) → stays ≡ map not flags → path (one (halfedgeOf (2 * e + 1))) ∷ kept (take (t .cycles .count) stays) listed ≡ left ms listed e
+  pub left-kept : (stays : List Bool) → stays ≡ map not flags
+      → path (one (halfedgeOf (2 * e + 1))) ∷ kept (take (t .cycles .count) stays) listed ≡ left ms listed e
   left-kept stays g =
       ap₂ (λ (hs : List Halfedge) (l : List Cycle). path hs ∷ l) (against-read e)
-      (ap₂ (λ (n : ℕ) (l : List Bool). kept (take n l) listed) (sym count-is) g ∙ sym (chosen-kept ms flags m listed few noCycle (ap (places 0 ms) count-is ∙ r)))
+      (ap₂ (λ (n : ℕ) (l : List Bool). kept (take n l) listed) (sym count-is) g
+      ∙ sym (chosen-kept ms flags m listed few noCycle (ap (places 0 ms) count-is ∙ r)))
 
 -- ---- the cut
 module _ (d : Drawing) (z : Sizes d) (ix : Index) (script : List ℕ) (f bends first moved place : ℕ) (r : RoundCut d ix script f bends first moved place) where
@@ -96,7 +99,9 @@ module _ (d : Drawing) (z : Sizes d) (ix : Index) (script : List ℕ) (f bends f
     own-length : t .cycles .count ≡ length ks
     own-length = sym (at-length (d .cycles) (d .steps) t (s .within)) ∙ ap length (s .list)
 
-    pub round-asks : Within (d .cycles) (d .steps) t × ((t .cycles .count < cyclesMost) × ((t .steps .count < stepsMost) × (Stand readNumber script place moved × ((places 0 ms (t .cycles .count) ≡ true) × (d .next ≤ idsEnd)))))
+    pub round-asks : Within (d .cycles) (d .steps) t
+        × ((t .cycles .count < cyclesMost) × ((t .steps .count < stepsMost)
+        × (Stand readNumber script place moved × ((places 0 ms (t .cycles .count) ≡ true) × (d .next ≤ idsEnd)))))
     round-asks =
         let a = s .fewCycles in
         let b = s .fewSteps in
@@ -104,10 +109,12 @@ module _ (d : Drawing) (z : Sizes d) (ix : Index) (script : List ℕ) (f bends f
         let e = r .stepRoom in
         (s .within, (omega arith, (omega arith, (r .stand, (ap (places 0 ms) own-length ∙ r .rise, next-in d (r .sound))))))
 
-    pub old-list : (counts : List ℕ) (u : Used) (steps : List ℕ) → Built (stayed ms (cyclesAt (d .cycles) (d .steps) t) (d .next)) counts u steps → built counts u steps ≡ oldList
+    pub old-list : (counts : List ℕ) (u : Used) (steps : List ℕ) → Built (stayed ms (cyclesAt (d .cycles) (d .steps) t) (d .next)) counts u steps
+        → built counts u steps ≡ oldList
     old-list counts u steps b = b .list ∙ ap₂ (stayed ms) (s .list) (sym (next-is d))
 
-    pub new-list : (counts : List ℕ) (u : Used) (steps : List ℕ) → Built (left ms (cyclesAt (d .cycles) (d .steps) t) (d .next)) counts u steps → built counts u steps ≡ newList
+    pub new-list : (counts : List ℕ) (u : Used) (steps : List ℕ) → Built (left ms (cyclesAt (d .cycles) (d .steps) t) (d .next)) counts u steps
+        → built counts u steps ≡ newList
     new-list counts u steps b = b .list ∙ ap₂ (left ms) (s .list) (sym (next-is d))
 
   -- the old face's cycles
@@ -125,11 +132,13 @@ module _ (d : Drawing) (z : Sizes d) (ix : Index) (script : List ℕ) (f bends f
       -- the new face's
       module _ (b : Drawing) (eb : sheetOf b ≡ appended (sheetOf a) edge) (ls : List Cycle) (el : ls ≡ newList) where
         pub face-room : Sizes b → Fits b → CellRoom b (face ls)
-        face-room zb fb = subst (λ (l : List Cycle). CellRoom b (face l)) (sym el) (second-room d z ix f (r .named) oldList both-cells (r .room) edge (face newList) refl a ea-old b eb zb fb)
+        face-room zb fb = subst (λ (l : List Cycle). CellRoom b (face l)) (sym el)
+            (second-room d z ix f (r .named) oldList both-cells (r .room) edge (face newList) refl a ea-old b eb zb fb)
 
         pub round-done : (s : Sheet) → s ≡ appended (sheetOf b) (face ls) → s ≡ faceCutRound (sheetOf d) f (positionsAt script first bends) ms
         unfolding faceCutRound
-        round-done s g = both-done d z ix f (r .named) oldList both-cells (r .room) edge (face newList) refl a ea-old b eb s (g ∙ ap (λ (l : List Cycle). appended (sheetOf b) (face l)) el)
+        round-done s g = both-done d z ix f (r .named) oldList both-cells (r .room) edge (face newList) refl a ea-old b eb s
+            (g ∙ ap (λ (l : List Cycle). appended (sheetOf b) (face l)) el)
 
 -- ---- the questions
 module _ (s : Sheet) (f : ℕ) (bs : List Position) (ms : List ℕ) where
@@ -154,7 +163,8 @@ module _ (s : Sheet) (f : ℕ) (bs : List Position) (ms : List ℕ) where
   round-more n e = ap (λ (k : ℕ). moreLess (sized 2 2 2 k) nothing) e
 
   pub round-result : result s (cutFaceClosed f bs ms)
-      ≡ rebuild everyId (replaced f (face (stayed ms (cells.cyclesOf (cellAt s f)) (s .next)))) (closedEdge bs ∷ face (left ms (cells.cyclesOf (cellAt s f)) (s .next)) ∷ []) s
+      ≡ rebuild everyId (replaced f (face (stayed ms (cells.cyclesOf (cellAt s f)) (s .next))))
+      (closedEdge bs ∷ face (left ms (cells.cyclesOf (cellAt s f)) (s .next)) ∷ []) s
   unfolding result
   round-result = refl
 
@@ -182,7 +192,8 @@ module _ (ix : Index) (n f bends : ℕ) (ms : List ℕ) where
   pub no-none : eqb kindIn 3 ≡ true → eqb bends 0 ≡ false → places 0 ms countIn ≡ true → 0 ≡ roundNo ix n f bends ms
   no-none e g h = rw (e, g, h)
 
-module _ (d : Drawing) (z : Sizes d) (w : T (soundDrawing d)) (ix : Index) (x : Indexes d ix) (script : List ℕ) (f bends first : ℕ) (ms : List ℕ) (r : ℕ) (er : r ≡ roundNo ix (d .count) f bends ms)
+module _ (d : Drawing) (z : Sizes d) (w : T (soundDrawing d)) (ix : Index) (x : Indexes d ix) (script : List ℕ) (f bends first : ℕ) (ms : List ℕ) (r : ℕ)
+    (er : r ≡ roundNo ix (d .count) f bends ms)
     (q : all within (positionsAt script first bends) ≡ true) where
   abbrev bs : List Position
   bs = positionsAt script first bends
@@ -207,10 +218,12 @@ module _ (d : Drawing) (z : Sizes d) (w : T (soundDrawing d)) (ix : Index) (x : 
       four : (a : Bool) → isFace (cellAt (sheetOf d) f) ≡ a → question4 (sheetOf d) (cutFaceClosed f bs ms) ≡ a
       four a e = round-four (sheetOf d) f bs ms ∙ e
 
-      go : (a b p : Bool) → isFace (cellAt (sheetOf d) f) ≡ a → eqb bends 0 ≡ b → places 0 ms n ≡ p → r ≡ cond a (cond b 5 (cond p 0 5)) 4 → asked3 (sheetOf d) (cutFaceClosed f bs ms) ≡ no r (sheetOf d)
+      go : (a b p : Bool) → isFace (cellAt (sheetOf d) f) ≡ a → eqb bends 0 ≡ b → places 0 ms n ≡ p → r ≡ cond a (cond b 5 (cond p 0 5)) 4
+          → asked3 (sheetOf d) (cutFaceClosed f bs ms) ≡ no r (sheetOf d)
       go false b p ea eb ep e = no-4 (sheetOf d) (cutFaceClosed f bs ms) bytes (four false ea) ∙ ap (λ (k : ℕ). no k (sheetOf d)) (sym e)
       go true true p ea eb ep e = no-5 (sheetOf d) (cutFaceClosed f bs ms) bytes (four true ea) (five true p eb ep) ∙ ap (λ (k : ℕ). no k (sheetOf d)) (sym e)
-      go true false false ea eb ep e = no-5 (sheetOf d) (cutFaceClosed f bs ms) bytes (four true ea) (five false false eb ep) ∙ ap (λ (k : ℕ). no k (sheetOf d)) (sym e)
+      go true false false ea eb ep e = no-5 (sheetOf d) (cutFaceClosed f bs ms) bytes (four true ea) (five false false eb ep)
+          ∙ ap (λ (k : ℕ). no k (sheetOf d)) (sym e)
       go true false true ea eb ep e = absurd (nz e)
 
   pub round-passes : r ≡ 0 → (isFace (cellAt (sheetOf d) f) ≡ true) × ((places 0 ms n ≡ true) × Passed (sheetOf d) (cutFaceClosed f bs ms))

@@ -53,10 +53,12 @@ unchanged z =
     λ i. sized (p i) (q i) (r i) (t i)
 
 -- ---- a command that issues no id and changes no size never gets a no to 7 or 8
-module _ (d : Drawing) (z : Sizes d) (w : T (soundDrawing d)) (c : Command) (n : newCells (sheetOf d) c ≡ 0) (k : changeOf (sheetOf d) c ≡ noChange) (p : Passed (sheetOf d) c) where
+module _ (d : Drawing) (z : Sizes d) (w : T (soundDrawing d)) (c : Command) (n : newCells (sheetOf d) c ≡ 0) (k : changeOf (sheetOf d) c ≡ noChange)
+    (p : Passed (sheetOf d) c) where
   places-suffice : sizesFit (sizesAfter (sheetOf d) c) ≡ true
   unfolding sizesAfter
-  places-suffice = ap (λ (m : Change). sizesFit (changedBy (sizesOf (sheetOf d .cells)) m)) k ∙ ap sizesFit (unchanged (sizesOf (sheetOf d .cells))) ∙ true-of (ceilings (sheetOf d .cells)) (sound-in d w .fits)
+  places-suffice = ap (λ (m : Change). sizesFit (changedBy (sizesOf (sheetOf d .cells)) m)) k ∙ ap sizesFit (unchanged (sizesOf (sheetOf d .cells)))
+      ∙ true-of (ceilings (sheetOf d .cells)) (sound-in d w .fits)
 
   module _ (out : Drawing) (zo : Sizes out) (go : Fits out) (m : sheetOf out ≡ result (sheetOf d) c) where
     pub edit-answers : (r : Answer) → r ≡ outcome (d .next) (d .count) out → Answers d c r
@@ -94,14 +96,16 @@ module _ (d : Drawing) (v : ℕ) (p : Position) where
   unfolding changeOf
   move-change = refl
 
-pub move-row : (d : Drawing) (ix : Index) → Indexes d ix → (v k row : ℕ) → k ≡ indexValue 4 d ix (ix .kinds) v → row ≡ rowOf v (take (d .count) (ix .ids)) → k ≡ 0 → getD (kindsOf d) row 4 ≡ 0
+pub move-row : (d : Drawing) (ix : Index) → Indexes d ix → (v k row : ℕ) → k ≡ indexValue 4 d ix (ix .kinds) v → row ≡ rowOf v (take (d .count) (ix .ids))
+    → k ≡ 0 → getD (kindsOf d) row 4 ≡ 0
 move-row d ix x v k row e r h =
     ap (λ (n : ℕ). getD (kindsOf d) n 4) r ∙ ap (λ (l : List ℕ). getD l (rowOf v (take (d .count) (ix .ids))) 4) (sym (x .kinds)) ∙ sym e ∙ h
 
 module _ (d : Drawing) (z : Sizes d) (w : T (soundDrawing d)) (ix : Index) (x : Indexes d ix) (v : ℕ) (p : Position) where
   -- the cell in the row of v at another place
   pub move-result : (row : ℕ) → row ≡ rowOf v (take (d .count) (ix .ids)) → row < d .count
-      → withEntries (sheetOf d) (set (sheetOf d .cells) row (record { id = getD (ids (sheetOf d .cells)) row 0; figure = vertex p })) ≡ result (sheetOf d) (move v p)
+      → withEntries (sheetOf d) (set (sheetOf d .cells) row (record { id = getD (ids (sheetOf d .cells)) row 0; figure = vertex p }))
+      ≡ result (sheetOf d) (move v p)
   unfolding result moved
   move-result row e h =
       let s = sheetOf d in
@@ -113,18 +117,21 @@ module _ (d : Drawing) (z : Sizes d) (w : T (soundDrawing d)) (ix : Index) (x : 
       let r = row-replaced (vertex p) 0 cs (s .next) row (sound-parts s (sound-sheet d w) .rises) (omega arith) in
       let i : getD (ids cs) row 0 ≡ v = ap (λ (k : ℕ). getD (ids cs) k 0) g ∙ row-has v (ids cs) (omega arith) in
       ap₂ (λ (a : ℕ) (q : List LiveCell). record { next = a; cells = q }) (none-more (s .next))
-      (r ∙ ap (λ (k : ℕ). reshape (replaced k (vertex p)) cs) i ∙ sym (nothing-more (reshape (replaced v (vertex p)) (keepIds everyId cs)) ∙ ap (reshape (replaced v (vertex p))) (kept-all cs)))
+      (r ∙ ap (λ (k : ℕ). reshape (replaced k (vertex p)) cs) i
+      ∙ sym (nothing-more (reshape (replaced v (vertex p)) (keepIds everyId cs)) ∙ ap (reshape (replaced v (vertex p))) (kept-all cs)))
 
 -- ---- 06
 -- the cells of a list with rising ids that p and q choose alike
-same-chosen : (p q : LiveCell → Bool) (lo : ℕ) (cs : List LiveCell) (hi : ℕ) → T (rising lo (ids cs) hi) → ((c : LiveCell) → lookup cs (c .id) ≡ some (c .figure) → p c ≡ q c) → filter p cs ≡ filter q cs
+same-chosen : (p q : LiveCell → Bool) (lo : ℕ) (cs : List LiveCell) (hi : ℕ) → T (rising lo (ids cs) hi)
+    → ((c : LiveCell) → lookup cs (c .id) ≡ some (c .figure) → p c ≡ q c) → filter p cs ≡ filter q cs
 same-chosen p q lo [] hi t h = refl
 same-chosen p q lo (c ∷ cs) hi t h =
     let b = both (ltb lo (c .id)) (rising (c .id) (ids cs) hi) t in
     ap₂ (λ (u : Bool) (r : List LiveCell). consIf u c r) (h c (ap (λ (u : Bool). someIf u (c .figure) (lookup cs (c .id))) (eq-eqb (c .id) (c .id) refl)))
     (same-chosen p q (c .id) cs hi (b .1) (λ y e. h y (later y e (b .1) (eqb (c .id) (y .id)) refl)))
   where
-    later : (y : LiveCell) → lookup cs (y .id) ≡ some (y .figure) → T (rising (c .id) (ids cs) hi) → (u : Bool) → eqb (c .id) (y .id) ≡ u → someIf (eqb (c .id) (y .id)) (c .figure) (lookup cs (y .id)) ≡ some (y .figure)
+    later : (y : LiveCell) → lookup cs (y .id) ≡ some (y .figure) → T (rising (c .id) (ids cs) hi) → (u : Bool) → eqb (c .id) (y .id) ≡ u
+        → someIf (eqb (c .id) (y .id)) (c .figure) (lookup cs (y .id)) ≡ some (y .figure)
     later y e t true q =
         let g = eqb→eq (c .id) (y .id) (truth q) in
         absurd (subst (λ (o : Option Figure). T (isLive o)) (sym e ∙ lookup-upto (c .id) cs hi (y .id) t (omega arith)) tt)
@@ -142,11 +149,13 @@ module _ (i : ℕ) (q : LiveCell → Bool) where
       ap₂ (λ (u : Bool) (r : List Bool). (u || q c) ∷ r) (sym (ne-eqb i (c .id) (omega arith))) (none-marked (c .id) cs hi (b .1) (omega arith))
 
   -- the mark in the row of i
-  marked : (lo : ℕ) (cs : List LiveCell) (hi : ℕ) → T (rising lo (ids cs) hi) → rowOf i (ids cs) < length cs → set (map q cs) (rowOf i (ids cs)) true ≡ map orSelf cs
+  marked : (lo : ℕ) (cs : List LiveCell) (hi : ℕ) → T (rising lo (ids cs) hi) → rowOf i (ids cs) < length cs
+      → set (map q cs) (rowOf i (ids cs)) true ≡ map orSelf cs
   marked lo [] hi t h = absurd (omega arith)
   marked lo (c ∷ cs) hi t h = let b = both (ltb lo (c .id)) (rising (c .id) (ids cs) hi) t in go (b .1) (eqb (c .id) i) refl h (marked (c .id) cs hi (b .1))
     where
-      go : T (rising (c .id) (ids cs) hi) → (u : Bool) → eqb (c .id) i ≡ u → cond u 0 (suc (rowOf i (ids cs))) < suc (length cs) → (rowOf i (ids cs) < length cs → set (map q cs) (rowOf i (ids cs)) true ≡ map orSelf cs)
+      go : T (rising (c .id) (ids cs) hi) → (u : Bool) → eqb (c .id) i ≡ u → cond u 0 (suc (rowOf i (ids cs))) < suc (length cs)
+          → (rowOf i (ids cs) < length cs → set (map q cs) (rowOf i (ids cs)) true ≡ map orSelf cs)
           → set (q c ∷ map q cs) (cond u 0 (suc (rowOf i (ids cs)))) true ≡ (eqb i (c .id) || q c) ∷ map orSelf cs
       go r true e k ih =
           let g = eqb→eq (c .id) i (truth e) in
@@ -157,7 +166,8 @@ kept-chosen : (h : LiveCell → Bool) (cs : List LiveCell) → kept (map h cs) c
 kept-chosen h [] = refl
 kept-chosen h (c ∷ cs) = go (h c) (kept-chosen h cs)
   where
-    go : (b : Bool) → kept (map h cs) cs ≡ filter (λ (c : LiveCell). not (h c)) cs → cond b (kept (map h cs) cs) (c ∷ kept (map h cs) cs) ≡ consIf (not b) c (filter (λ (c : LiveCell). not (h c)) cs)
+    go : (b : Bool) → kept (map h cs) cs ≡ filter (λ (c : LiveCell). not (h c)) cs
+        → cond b (kept (map h cs) cs) (c ∷ kept (map h cs) cs) ≡ consIf (not b) c (filter (λ (c : LiveCell). not (h c)) cs)
     go true e = e
     go false e = ap (λ (l : List LiveCell). c ∷ l) e
 
@@ -186,7 +196,8 @@ module _ (d : Drawing) (z : Sizes d) (w : T (soundDrawing d)) (ix : Index) (x : 
   delete-live row e = ap (λ (r : ℕ). ltb r (d .count)) e ∙ live-row d z (sound-fits d w) ix x i
 
   -- of a sound drawing a cell rests on i if its boundary holds i
-  goes-bounds : (c : LiveCell) → cellAt (sheetOf d) (c .id) ≡ some (c .figure) → not (eqb i (c .id) || bounds (cellAt (sheetOf d)) i (c .figure)) ≡ not (goes (sheetOf d) i (c .id))
+  goes-bounds : (c : LiveCell) → cellAt (sheetOf d) (c .id) ≡ some (c .figure)
+      → not (eqb i (c .id) || bounds (cellAt (sheetOf d)) i (c .figure)) ≡ not (goes (sheetOf d) i (c .id))
   goes-bounds c e =
       let s = sheetOf d in
       ap (λ (b : Bool). not (eqb i (c .id) || b))
@@ -196,7 +207,8 @@ module _ (d : Drawing) (z : Sizes d) (w : T (soundDrawing d)) (ix : Index) (x : 
 
   -- the rows without that of i and those of its star
   pub delete-result : (row : ℕ) → row ≡ rowOf i (take (d .count) (ix .ids)) → row < d .count → (dead : List Bool)
-      → take (d .count) dead ≡ starMarks (take (d .count) (ix .ids)) (take (d .count) (ix .kinds)) (take (d .count) (ix .starts)) (take (d .count) (ix .ends)) (take (d .count) (ix .cycles)) (d .cycles) (d .steps) i
+      → take (d .count) dead ≡ starMarks (take (d .count) (ix .ids)) (take (d .count) (ix .kinds)) (take (d .count) (ix .starts)) (take (d .count) (ix .ends))
+      (take (d .count) (ix .cycles)) (d .cycles) (d .steps) i
       → withEntries (sheetOf d) (kept (take (d .count) (set dead row true)) (sheetOf d .cells)) ≡ result (sheetOf d) (delete i)
   unfolding result deleted
   delete-result row e h dead m =
@@ -207,7 +219,8 @@ module _ (d : Drawing) (z : Sizes d) (w : T (soundDrawing d)) (ix : Index) (x : 
       let n = count-is d cs (stands d z f) z (f .cells) in
       let g : row ≡ rowOf i (ids cs) = e ∙ ap (rowOf i) (x .ids ∙ ids-same d z f) in
       let flags : take (d .count) (set dead row true) ≡ map (orSelf i q) cs =
-      take-set-lt (d .count) dead row true h ∙ ap₂ (λ (l : List Bool) (r : ℕ). set l r true) (m ∙ marks-meant d z f ix x i) g ∙ marked i q 0 cs (s .next) (sheet-sound .rises) (omega arith) in
+      take-set-lt (d .count) dead row true h ∙ ap₂ (λ (l : List Bool) (r : ℕ). set l r true) (m ∙ marks-meant d z f ix x i) g
+      ∙ marked i q 0 cs (s .next) (sheet-sound .rises) (omega arith) in
       ap₂ (λ (a : ℕ) (l : List LiveCell). record { next = a; cells = l }) (none-more (s .next))
       (ap (λ (l : List Bool). kept l cs) flags
       ∙ kept-chosen (orSelf i q) cs

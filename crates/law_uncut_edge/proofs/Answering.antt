@@ -14,7 +14,8 @@ use Rattle.complex.specs.Sound.{idsEnd, cellsMost, cyclesMost, stepsMost, bends
 use Rattle.complex.specs.Decode.{uncut}
 use Rattle.complex.specs.Uses.{Use as Used}
 use Rattle.complex.specs.Uncut.{Uncut, uncutCase, uncutResult, allowed, cycleOfUse}
-use Rattle.answer.specs.Sizes.{SheetSizes as Counted, Change, sized, nothing, moreLess, changedBy, sizesFit, sizesOf, sizesAfter, aloneLeft, newByUncut, uncutChange}
+use Rattle.answer.specs.Sizes.{SheetSizes as Counted, Change, sized, nothing, moreLess, changedBy, sizesFit, sizesOf, sizesAfter, aloneLeft, newByUncut}
+use Rattle.answer.specs.Sizes.{uncutChange}
 use Rattle.store.specs.declared.Drawing.{Drawing}
 use Rattle.store.specs.declared.Index.{Index}
 use Rattle.store.specs.Index.{Indexes}
@@ -66,7 +67,13 @@ pub record Lessens (c : Change) : Type 0 where
 
 by-cycles : (z : Counted) → Few z → (c : Change) → Lessens c → sizesFit (changedBy z c) ≡ leb (z .cycles + c .more .cycles - c .less .cycles) cyclesMost
 by-cycles z f c h =
-    rw (le-leb (z .cells + c .more .cells - c .less .cells) cellsMost (omega (arith, f .cells, h .cells)), le-leb (z .steps + c .more .steps - c .less .steps) stepsMost (omega (arith, f .steps, h .steps)), le-leb (z .bends + c .more .bends - c .less .bends) bendsMost (omega (arith, f .bends, h .bends)))
+    rw (
+      le-leb (z .cells + c .more .cells - c .less .cells) cellsMost (omega (arith, f .cells, h .cells)),
+      le-leb (z .steps
+          + c .more .steps - c .less .steps) stepsMost (omega (arith, f .steps, h .steps)),
+      le-leb (z .bends + c .more .bends - c .less .bends) bendsMost
+          (omega (arith, f .bends, h .bends)),
+    )
     (last (leb (z .cycles + c .more .cycles - c .less .cycles) cyclesMost))
   where
     last : (b : Bool) → b && true ≡ b

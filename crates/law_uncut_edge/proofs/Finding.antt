@@ -42,14 +42,16 @@ module _ (d : Drawing) (ix : Index) (f c : ℕ) (h : Has d ix f c) (t : Spans) (
   pub index-in : t .cycles .first + c < 512
   index-in = let b = below in omega (arith, s .within .inCycles)
 
-  pub place-asks : (length (d .cycles) ≡ 512) × ((t .cycles .first + c ≤ 512) × (t .steps .first + widthSum (take c (drop (t .cycles .first) (d .cycles))) ≤ 2048))
+  pub place-asks : (length (d .cycles) ≡ 512) × ((t .cycles .first + c ≤ 512)
+      × (t .steps .first + widthSum (take c (drop (t .cycles .first) (d .cycles))) ≤ 2048))
   place-asks =
       let w = s .within in
       let b = below in
       let m = sum-le width (drop (t .cycles .first) (d .cycles)) c (t .cycles .count) (omega arith) in
       (w .cyclesSize, (omega (arith, w .inCycles), omega (arith, w .wide, w .inSteps)))
 
-  module _ (at m : ℕ) (ea : at ≡ t .steps .first + widthSum (take c (drop (t .cycles .first) (d .cycles)))) (em : m ≡ getD (d .cycles) (t .cycles .first + c) 0) where
+  module _ (at m : ℕ) (ea : at ≡ t .steps .first + widthSum (take c (drop (t .cycles .first) (d .cycles))))
+      (em : m ≡ getD (d .cycles) (t .cycles .first + c) 0) where
     counted : 1 ≤ m
     counted =
         let w = s .within in
@@ -59,7 +61,8 @@ module _ (d : Drawing) (ix : Index) (f c : ℕ) (h : Has d ix f c) (t : Spans) (
         let st = drop (widthSum (take c (take (t .cycles .count) ns))) (drop (t .steps .first) (d .steps)) in
         let n : getD (take (t .cycles .count) ns) c 0 ≡ m = getD-take (t .cycles .count) ns c 0 b ∙ getD-drop (t .cycles .first) (d .cycles) c 0 ∙ sym em in
         let e : getD (cyclesOf (cellAt (sheetOf d) f)) c noCycle ≡ cycleOf m st =
-        ap (λ (ks : List Cycle). getD ks c noCycle) (sym (s .list)) ∙ cycle-at (take (t .cycles .count) ns) (drop (t .steps .first) (d .steps)) c noCycle (omega arith) ∙ ap (λ (k : ℕ). cycleOf k st) n
+        ap (λ (ks : List Cycle). getD ks c noCycle) (sym (s .list)) ∙ cycle-at (take (t .cycles .count) ns) (drop (t .steps .first) (d .steps)) c noCycle
+        (omega arith) ∙ ap (λ (k : ℕ). cycleOf k st) n
         in
         some-steps m st (let x = ap (λ (k : Cycle). length (stepsOf k)) e in omega (arith, h .some))
 
@@ -72,7 +75,8 @@ found-steps d f c p g =
     ap stepsOf (sym (cycle-is (d .cycles) (d .steps) p (g .lies)) ∙ ap₂ (λ (ks : List Cycle) (n : ℕ). getD ks n noCycle) (g .list) (g .cycle))
 
 -- ---- where a step ends
-pub head-is : {d : Drawing} {ix : Index} → Looks d ix → (e : ℕ) (b : Bool) (r : ℕ) → r ≡ headBy ix (d .count) e b → r ≡ headOf (cellAt (sheetOf d)) (record { edge = e; backward = b })
+pub head-is : {d : Drawing} {ix : Index} → Looks d ix → (e : ℕ) (b : Bool) (r : ℕ) → r ≡ headBy ix (d .count) e b
+    → r ≡ headOf (cellAt (sheetOf d)) (record { edge = e; backward = b })
 head-is {d} {ix} k e b r q = q ∙ ap₂ (cond b) (k .starts e) (k .ends e)
 
 -- ---- the rows of the cells that go

@@ -65,7 +65,8 @@ few-of : {n m : ℕ} (ks : List Cycle) → RoomFor n m ks → Few ks
 few-of {n} {m} ks r = record { cycles = omega (arith, r .cycles, r .fewCounts); steps = omega (arith, r .steps, r .fewSteps) }
 
 -- ---- a use of an edge
-module _ (d : Drawing) (z : Sizes d) (ix : Index) (e : ℕ) (w : T (soundDrawing d)) (x : Indexes d ix) (t : T (isEdge (cellAt (sheetOf d) e))) (u : Use) (p : Placed (cellAt (sheetOf d)) e (useAt e u)) where
+module _ (d : Drawing) (z : Sizes d) (ix : Index) (e : ℕ) (w : T (soundDrawing d)) (x : Indexes d ix) (t : T (isEdge (cellAt (sheetOf d) e))) (u : Use)
+    (p : Placed (cellAt (sheetOf d)) e (useAt e u)) where
   pub has : Has d ix (u .face) (u .cycle)
   has =
       record {

@@ -32,7 +32,8 @@ use Rattle.lent.specs.Growing.{withRow, withVertex, withOpen, withClosed
 use Rattle.lent.proofs.Held.{held-sizes, cells-set, all-at, all-intro, place-other, place-same}
 
 -- ---- a cell more has its own bends and cycles more
-more : (g : Cell → ℕ) (d : Drawing) → Sizes d → d .count < 256 → (s : Shape) → total g (take (d .count + 1) (withCell d s .cells)) ≡ total g (take (d .count) (d .cells)) + g (record { id = d .next; shape = s })
+more : (g : Cell → ℕ) (d : Drawing) → Sizes d → d .count < 256 → (s : Shape)
+    → total g (take (d .count + 1) (withCell d s .cells)) ≡ total g (take (d .count) (d .cells)) + g (record { id = d .next; shape = s })
 more g d z h s =
     let c : Cell = record { id = d .next; shape = s } in
     ap (total g) (ap (λ (n : ℕ). take n (set (d .cells) (d .count) c)) (add-one (d .count)) ∙ take-suc-set (d .cells) (d .count) c (omega (arith, z .cells, h)))
@@ -84,7 +85,8 @@ module _ (a : Arrays) (l : Lengths a) (k s e b c : ℕ) (xs ys : List Float) whe
         λ i. shapeBy (q i) (x i) (y i) (u i) (v i) (positionIn xs ys (a .count))
 
     -- the rows before it are as they were
-    pub row-held : ((j : ℕ) → (j ≡ a .count → ⊥) → positionIn xs ys j ≡ positionIn (a .px) (a .py) j) → heldBy (withRow a k s e b c xs ys) ≡ withCell (heldBy a) (shapeBy k s e b c (positionIn xs ys (a .count)))
+    pub row-held : ((j : ℕ) → (j ≡ a .count → ⊥) → positionIn xs ys j ≡ positionIn (a .px) (a .py) j)
+        → heldBy (withRow a k s e b c xs ys) ≡ withCell (heldBy a) (shapeBy k s e b c (positionIn xs ys (a .count)))
     row-held p =
         ap (withCells (heldBy a) (a .next + 1) (a .count + 1))
         (cells-set (shapeAt a) (shapeAt after) (a .count) (a .next) (a .ids) (omega (arith, l .ids, h)) there
@@ -153,7 +155,8 @@ module _ (a : Arrays) (l : Lengths a) (p : Position) where
     pub vertex-cycles : cycleTotal (heldBy (withVertex a p)) ≡ cycleTotal (heldBy a)
     vertex-cycles = ap cycleTotal vertex-held ∙ cycle-more (heldBy a) (held-sizes a l) h (Vertex p) ∙ omega arith
 
-  pub vertex-comes : CellRoom (heldBy a) (vertex p) → (sheetOf (heldBy (withVertex a p)) ≡ appended (sheetOf (heldBy a)) (vertex p)) × Fits (heldBy (withVertex a p))
+  pub vertex-comes : CellRoom (heldBy a) (vertex p) → (sheetOf (heldBy (withVertex a p)) ≡ appended (sheetOf (heldBy a)) (vertex p))
+      × Fits (heldBy (withVertex a p))
   vertex-comes m =
       let d = heldBy a in
       let s = held-sizes a l in
@@ -162,9 +165,11 @@ module _ (a : Arrays) (l : Lengths a) (p : Position) where
       (ap sheetOf e ∙ g .0, subst Fits (sym e) (g .1))
 
 -- ---- an edge: its k bends are those that stand after those in use
-after-use : (d : Drawing) (bs : List Position) (k : ℕ) → length bs ≡ k → runAt (bendTotal d) k (d .bends) ≡ bs → take (bendTotal d + length bs) (d .bends) ≡ take (bendTotal d) (d .bends) ++ bs
+after-use : (d : Drawing) (bs : List Position) (k : ℕ) → length bs ≡ k → runAt (bendTotal d) k (d .bends) ≡ bs
+    → take (bendTotal d + length bs) (d .bends) ≡ take (bendTotal d) (d .bends) ++ bs
 after-use d bs k lk eb =
-    ap (λ (n : ℕ). take (bendTotal d + n) (d .bends)) lk ∙ take-add (bendTotal d) k (d .bends) ∙ ap (λ (q : List Position). take (bendTotal d) (d .bends) ++ q) eb
+    ap (λ (n : ℕ). take (bendTotal d + n) (d .bends)) lk ∙ take-add (bendTotal d) k (d .bends)
+    ∙ ap (λ (q : List Position). take (bendTotal d) (d .bends) ++ q) eb
 
 module _ (a : Arrays) (l : Lengths a) (s e k : ℕ) where
   pub open-long : Lengths (withOpen a s e k)
@@ -183,7 +188,8 @@ module _ (a : Arrays) (l : Lengths a) (s e k : ℕ) where
     pub open-cycles : cycleTotal (heldBy (withOpen a s e k)) ≡ cycleTotal (heldBy a)
     open-cycles = ap cycleTotal open-held ∙ cycle-more (heldBy a) (held-sizes a l) h (Open s e k) ∙ omega arith
 
-  pub open-comes : (bs : List Position) → CellRoom (heldBy a) (openEdge s e bs) → length bs ≡ k → runAt (bendTotal (heldBy a)) k (positionsIn (a .bx) (a .by)) ≡ bs
+  pub open-comes : (bs : List Position) → CellRoom (heldBy a) (openEdge s e bs) → length bs ≡ k
+      → runAt (bendTotal (heldBy a)) k (positionsIn (a .bx) (a .by)) ≡ bs
       → (sheetOf (heldBy (withOpen a s e k)) ≡ appended (sheetOf (heldBy a)) (openEdge s e bs)) × Fits (heldBy (withOpen a s e k))
   open-comes bs m lk eb =
       let d = heldBy a in
@@ -209,7 +215,8 @@ module _ (a : Arrays) (l : Lengths a) (k : ℕ) where
     pub closed-cycles : cycleTotal (heldBy (withClosed a k)) ≡ cycleTotal (heldBy a)
     closed-cycles = ap cycleTotal closed-held ∙ cycle-more (heldBy a) (held-sizes a l) h (Closed k) ∙ omega arith
 
-  pub closed-comes : (bs : List Position) → CellRoom (heldBy a) (closedEdge bs) → length bs ≡ k → runAt (bendTotal (heldBy a)) k (positionsIn (a .bx) (a .by)) ≡ bs
+  pub closed-comes : (bs : List Position) → CellRoom (heldBy a) (closedEdge bs) → length bs ≡ k
+      → runAt (bendTotal (heldBy a)) k (positionsIn (a .bx) (a .by)) ≡ bs
       → (sheetOf (heldBy (withClosed a k)) ≡ appended (sheetOf (heldBy a)) (closedEdge bs)) × Fits (heldBy (withClosed a k))
   closed-comes bs m lk eb =
       let d = heldBy a in
@@ -236,7 +243,8 @@ module _ (a : Arrays) (l : Lengths a) (k : ℕ) where
     pub face-cycles : cycleTotal (heldBy (withFace a k)) ≡ cycleTotal (heldBy a) + k
     face-cycles = ap cycleTotal face-held ∙ cycle-more (heldBy a) (held-sizes a l) h (Face k)
 
-  pub face-comes : (ks : List Cycle) → CellRoom (heldBy a) (face ks) → length ks ≡ k → allReal ks ≡ true → runAt (cycleTotal (heldBy a)) k (a .cycles) ≡ map numOf ks
+  pub face-comes : (ks : List Cycle) → CellRoom (heldBy a) (face ks) → length ks ≡ k → allReal ks ≡ true
+      → runAt (cycleTotal (heldBy a)) k (a .cycles) ≡ map numOf ks
       → (w : ℕ) → length (spread cycleWords ks) ≡ w → runAt (stepTotal (heldBy a)) w (a .steps) ≡ spread cycleWords ks
       → (sheetOf (heldBy (withFace a k)) ≡ appended (sheetOf (heldBy a)) (face ks)) × Fits (heldBy (withFace a k))
   face-comes ks m lk re ek w lw es =
@@ -244,7 +252,8 @@ module _ (a : Arrays) (l : Lengths a) (k : ℕ) where
       let z = held-sizes a l in
       let ln = length-map ks numOf in
       let u : take (cycleTotal d + length (map numOf ks)) (d .cycles) ≡ take (cycleTotal d) (d .cycles) ++ map numOf ks =
-      ap (λ (n : ℕ). take (cycleTotal d + n) (d .cycles)) (ln ∙ lk) ∙ take-add (cycleTotal d) k (d .cycles) ∙ ap (λ (q : List ℕ). take (cycleTotal d) (d .cycles) ++ q) ek in
+      ap (λ (n : ℕ). take (cycleTotal d + n) (d .cycles)) (ln ∙ lk) ∙ take-add (cycleTotal d) k (d .cycles)
+      ∙ ap (λ (q : List ℕ). take (cycleTotal d) (d .cycles) ++ q) ek in
       let v : take (stepTotal d + length (spread cycleWords ks)) (d .steps) ≡ take (stepTotal d) (d .steps) ++ spread cycleWords ks =
       ap (λ (n : ℕ). take (stepTotal d + n) (d .steps)) lw ∙ take-add (stepTotal d) w (d .steps) ∙ ap (λ (q : List ℕ). take (stepTotal d) (d .steps) ++ q) es in
       let g =

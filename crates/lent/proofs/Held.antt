@@ -51,7 +51,8 @@ cells-ids f (suc n) [] = refl
 cells-ids f (suc n) (x ∷ is) = ap (λ (l : List ℕ). x ∷ l) (cells-ids (λ i. f (suc i)) n is)
 
 -- an array that has the number g of each shape
-pub cells-told : (g : Shape → ℕ) (f : ℕ → Shape) (n : ℕ) (is ks : List ℕ) → length is ≡ length ks → ((j : ℕ) → j < n → g (f j) ≡ getD ks j 0) → take n ks ≡ map (λ (c : Cell). g (c .shape)) (take n (cellsBy f is))
+pub cells-told : (g : Shape → ℕ) (f : ℕ → Shape) (n : ℕ) (is ks : List ℕ) → length is ≡ length ks → ((j : ℕ) → j < n → g (f j) ≡ getD ks j 0)
+    → take n ks ≡ map (λ (c : Cell). g (c .shape)) (take n (cellsBy f is))
 cells-told g f zero is ks l h = refl
 cells-told g f (suc n) [] [] l h = refl
 cells-told g f (suc n) [] (k ∷ ks) l h = absurd (omega arith)
@@ -60,14 +61,16 @@ cells-told g f (suc n) (x ∷ is) (k ∷ ks) l h =
     ap₂ (λ (y : ℕ) (r : List ℕ). y ∷ r) (sym (h 0 (omega arith))) (cells-told g (λ i. f (suc i)) n is ks (omega arith) (λ j q. h (suc j) (omega arith)))
 
 -- a test of each shape
-pub cells-all : (p : ℕ → Bool) (q : Shape → Bool) (f : ℕ → Shape) (n : ℕ) (is : List ℕ) → n ≤ length is → ((j : ℕ) → p j ≡ q (f j)) → allFrom p 0 n ≡ all (λ (c : Cell). q (c .shape)) (take n (cellsBy f is))
+pub cells-all : (p : ℕ → Bool) (q : Shape → Bool) (f : ℕ → Shape) (n : ℕ) (is : List ℕ) → n ≤ length is → ((j : ℕ) → p j ≡ q (f j))
+    → allFrom p 0 n ≡ all (λ (c : Cell). q (c .shape)) (take n (cellsBy f is))
 cells-all p q f zero is l h = refl
 cells-all p q f (suc n) [] l h = absurd (omega arith)
 cells-all p q f (suc n) (x ∷ is) l h = ap₂ _&&_ (h 0) (shifted p 0 n ∙ cells-all (λ (j : ℕ). p (suc j)) q (λ i. f (suc i)) n is (omega arith) (λ j. h (suc j)))
 
 pub cells-same : (f g : ℕ → Shape) (is : List ℕ) → ((j : ℕ) → g j ≡ f j) → cellsBy g is ≡ cellsBy f is
 cells-same f g [] h = refl
-cells-same f g (x ∷ is) h = ap₂ (λ (s : Shape) (l : List Cell). record { id = x; shape = s } ∷ l) (h 0) (cells-same (λ i. f (suc i)) (λ i. g (suc i)) is (λ j. h (suc j)))
+cells-same f g (x ∷ is) h = ap₂ (λ (s : Shape) (l : List Cell). record { id = x; shape = s } ∷ l) (h 0)
+    (cells-same (λ i. f (suc i)) (λ i. g (suc i)) is (λ j. h (suc j)))
 
 -- the id and the shape in a row
 pub cells-id : (f : ℕ → Shape) (is : List ℕ) (k : ℕ) (c : Cell) → k < length is → getD (cellsBy f is) k c .id ≡ getD is k 0
@@ -81,9 +84,11 @@ cells-shape f (x ∷ is) zero c h = refl
 cells-shape f (x ∷ is) (suc k) c h = cells-shape (λ i. f (suc i)) is k c (omega arith)
 
 -- one row is changed
-pub cells-set : (f g : ℕ → Shape) (k x : ℕ) (is : List ℕ) → k < length is → ((j : ℕ) → (j ≡ k → ⊥) → g j ≡ f j) → cellsBy g (set is k x) ≡ set (cellsBy f is) k (record { id = x; shape = g k })
+pub cells-set : (f g : ℕ → Shape) (k x : ℕ) (is : List ℕ) → k < length is → ((j : ℕ) → (j ≡ k → ⊥) → g j ≡ f j)
+    → cellsBy g (set is k x) ≡ set (cellsBy f is) k (record { id = x; shape = g k })
 cells-set f g k x [] l h = absurd (omega arith)
-cells-set f g zero x (y ∷ is) l h = ap (λ (r : List Cell). record { id = x; shape = g 0 } ∷ r) (cells-same (λ i. f (suc i)) (λ i. g (suc i)) is (λ j. h (suc j) (λ e. omega (arith, e))))
+cells-set f g zero x (y ∷ is) l h = ap (λ (r : List Cell). record { id = x; shape = g 0 } ∷ r)
+    (cells-same (λ i. f (suc i)) (λ i. g (suc i)) is (λ j. h (suc j) (λ e. omega (arith, e))))
 cells-set f g (suc k) x (y ∷ is) l h =
     ap₂ (λ (s : Shape) (r : List Cell). record { id = y; shape = s } ∷ r) (h 0 (λ e. omega (arith, e)))
     (cells-set (λ i. f (suc i)) (λ i. g (suc i)) k x is (omega arith) (λ j n. h (suc j) (λ e. n (omega (arith, e)))))
@@ -130,18 +135,41 @@ pub row-told : (k s e b c : ℕ) (p : Position) → rowNormal k s e b c ≡ true
 row-told zero s e b c p h =
     let h1 = and-second (eqb s 0) _ h in
     let h2 = and-second (eqb e 0) _ h1 in
-    record { kind = refl; start = zero-is s (and-first (eqb s 0) _ h); end = zero-is e (and-first (eqb e 0) _ h1); bends = zero-is b (and-first (eqb b 0) _ h2); cycles = zero-is c (and-second (eqb b 0) _ h2) }
+    record {
+      kind = refl;
+      start = zero-is s (and-first (eqb s 0) _ h);
+      end = zero-is e (and-first (eqb e 0) _ h1);
+      bends = zero-is b (and-first
+          (eqb b 0) _ h2);
+      cycles = zero-is c (and-second (eqb b 0) _ h2);
+    }
 row-told (suc zero) s e b c p h = record { kind = refl; start = refl; end = refl; bends = refl; cycles = zero-is c h }
 row-told (suc (suc zero)) s e b c p h =
     let h1 = and-second (eqb s 0) _ h in
-    record { kind = refl; start = zero-is s (and-first (eqb s 0) _ h); end = zero-is e (and-first (eqb e 0) _ h1); bends = refl; cycles = zero-is c (and-second (eqb e 0) _ h1) }
+    record {
+      kind = refl;
+      start = zero-is s (and-first (eqb s 0) _ h);
+      end = zero-is e (and-first (eqb e 0) _ h1);
+      bends = refl;
+      cycles = zero-is c (and-second
+          (eqb e 0) _ h1);
+    }
 row-told (suc (suc (suc zero))) s e b c p h =
     let h1 = and-second (eqb s 0) _ h in
     let h2 = and-second (eqb e 0) _ h1 in
-    record { kind = refl; start = zero-is s (and-first (eqb s 0) _ h); end = zero-is e (and-first (eqb e 0) _ h1); bends = zero-is b (and-first (eqb b 0) _ h2); cycles = refl }
+    record {
+      kind = refl;
+      start = zero-is s (and-first (eqb s 0) _ h);
+      end = zero-is e (and-first (eqb e 0) _ h1);
+      bends = zero-is b (and-first
+          (eqb b 0) _ h2);
+      cycles = refl;
+    }
 row-told (suc (suc (suc (suc k)))) s e b c p h =
     let m = suc (suc (suc (suc k))) in
-    let g : (eqb s 0 && (eqb e 0 && (eqb b 0 && false))) ≡ true = rw (ne-eqb m 1 (λ q. omega (arith, q)), ne-eqb m 2 (λ q. omega (arith, q)), ne-eqb m 3 (λ q. omega (arith, q)), ne-eqb m 0 (λ q. omega (arith, q))) at h in
+    let g : (eqb s 0 && (eqb e 0 && (eqb b 0 && false))) ≡ true =
+    rw (ne-eqb m 1 (λ q. omega (arith, q)), ne-eqb m 2 (λ q. omega (arith, q)), ne-eqb m 3 (λ q. omega (arith, q)), ne-eqb m 0 (λ q. omega (arith, q))) at
+    h in
     let h3 : false ≡ true = and-second (eqb b 0) _ (and-second (eqb e 0) _ (and-second (eqb s 0) _ g)) in
     let z : _≡_ {A = ℕ} 0 1 = cc in
     absurd (omega arith)
@@ -158,7 +186,8 @@ module _ (a : Arrays) (l : Lengths a) where
       }
 
   module _ (n : normal a ≡ true) where
-    pub told : (j : ℕ) → j < a .count → Told (getD (a .kinds) j 0) (getD (a .starts) j 0) (getD (a .ends) j 0) (getD (a .bends) j 0) (getD (a .counts) j 0) (shapeAt a j)
+    pub told : (j : ℕ) → j < a .count → Told (getD (a .kinds) j 0) (getD (a .starts) j 0) (getD (a .ends) j 0) (getD (a .bends) j 0) (getD (a .counts) j 0)
+        (shapeAt a j)
     told j h =
         row-told (getD (a .kinds) j 0) (getD (a .starts) j 0) (getD (a .ends) j 0) (getD (a .bends) j 0) (getD (a .counts) j 0) (positionIn (a .px) (a .py) j)
         (all-at (normalAt (a .kinds) (a .starts) (a .ends) (a .bends) (a .counts)) (a .count) j h n)

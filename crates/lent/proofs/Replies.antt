@@ -26,7 +26,8 @@ fits-in : (d : Drawing) → Fits d → T (fitsIn d)
 fits-in d f =
     pair (leb (d .count) cellsMost) (sumsFit (bendTotal d) (cycleTotal d) (stepTotal d)) (le→leb (d .count) cellsMost (f .cells))
     (pair (leb (bendTotal d) bendsMost) (leb (cycleTotal d) cyclesMost && leb (stepTotal d) stepsMost) (le→leb (bendTotal d) bendsMost (f .bends))
-    (pair (leb (cycleTotal d) cyclesMost) (leb (stepTotal d) stepsMost) (le→leb (cycleTotal d) cyclesMost (f .cycles)) (le→leb (stepTotal d) stepsMost (f .steps))))
+    (pair (leb (cycleTotal d) cyclesMost) (leb (stepTotal d) stepsMost) (le→leb (cycleTotal d) cyclesMost (f .cycles))
+    (le→leb (stepTotal d) stepsMost (f .steps))))
 
 -- a command on a sound sheet leaves a sound one
 pub asked-sound : (s : Sheet) (c : Command) → T (sound s) → T (sound (asked3 s c .sheet))
@@ -43,7 +44,8 @@ module _ (a : Arrays) where
   drawing-of w = truth (and-second (normal a) (soundDrawing (heldBy a)) (true-of (soundArrays a) w))
 
   -- a no
-  pub obeyed-no : (w : T (soundArrays a)) (c : Command) (n : ℕ) (l : Line) → l ≡ lineOf n → asked3 (sheetOf (heldBy a)) c ≡ no n (sheetOf (heldBy a)) → Obeyed a c a l
+  pub obeyed-no : (w : T (soundArrays a)) (c : Command) (n : ℕ) (l : Line) → l ≡ lineOf n → asked3 (sheetOf (heldBy a)) c ≡ no n (sheetOf (heldBy a))
+      → Obeyed a c a l
   obeyed-no w c n l e q =
       record {
         answers = answers-no (heldBy a) (sound-fits (heldBy a) (drawing-of w)) c n (answerBy l (heldBy a)) (ap (λ (k : Line). answerBy k (heldBy a)) e) q;
@@ -55,7 +57,8 @@ module _ (a : Arrays) where
   pub replied-unsound : soundArrays a ≡ false → (c : Command) (l : Line) → l ≡ lineOf 1 → Replied a c a l
   replied-unsound w c l e =
       record {
-        said = ap (λ (k : Line). saidBy (answerBy k (heldBy a))) e ∙ sym (ap (λ (b : Bool). cond b (asked3 (sheetOf (heldBy a)) c) (no 1 (sheetOf (heldBy a)))) w);
+        said = ap (λ (k : Line). saidBy (answerBy k (heldBy a))) e
+            ∙ sym (ap (λ (b : Bool). cond b (asked3 (sheetOf (heldBy a)) c) (no 1 (sheetOf (heldBy a)))) w);
         back = λ z. refl;
         sound = λ t. absurd (false-not w t);
       }

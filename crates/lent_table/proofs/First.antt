@@ -52,7 +52,8 @@ pub record Filling (ts is : List ℕ) (n i : ℕ) : Type 0 where
 pub filling-start : (ts is : List ℕ) (n : ℕ) → length ts ≡ tablePlaces → Filling ts is n n
 filling-start ts is n h = record { places = h; low = λ j u v. absurd (omega arith) }
 
-pub filling-turn : (ts is : List ℕ) (n k i at : ℕ) → Filling ts is n k → k ≡ i + 1 → at ≡ getD is i 0 % tablePlaces → at < tablePlaces → Filling (set ts at i) is n i
+pub filling-turn : (ts is : List ℕ) (n k i at : ℕ) → Filling ts is n k → k ≡ i + 1 → at ≡ getD is i 0 % tablePlaces → at < tablePlaces
+    → Filling (set ts at i) is n i
 filling-turn ts is n k i at f z e h =
     record { places = length-set ts at i ∙ f .places; low = λ j u v. go j u v (ℕ-discrete (getD is j 0 % tablePlaces) at) }
   where
@@ -98,13 +99,15 @@ filling-end ts is n i z f h l = record { few = h; places = f .places; ids = l; f
         let t = length-take-le n is (omega (arith, h, l)) in
         let g : getD (take n is) r 0 ≡ x = getD-take n is r 0 k ∙ e in
         let w = first-le x (take n is) r (omega (arith, t, k)) g in
-        let has : getD is (rowOf x (take n is)) 0 ≡ x = sym (getD-take n is (rowOf x (take n is)) 0 (omega (arith, w, k))) ∙ first-has x (take n is) r (omega (arith, t, k)) g in
+        let has : getD is (rowOf x (take n is)) 0 ≡ x = sym (getD-take n is (rowOf x (take n is)) 0 (omega (arith, w, k)))
+        ∙ first-has x (take n is) r (omega (arith, t, k)) g in
         let low = f .low (rowOf x (take n is)) (omega (arith, z)) (omega (arith, w, k)) in
         let same : rowHinted ts (getD is (rowOf x (take n is)) 0) ≡ r = ap (rowHinted ts) has in
         omega (arith, w, low, same)
 
 -- the hinted row r has the id x
-pub hinted : (n : ℕ) (ts is : List ℕ) → Table n ts is → (x w r : ℕ) → w ≡ x → r ≡ getD ts (w % tablePlaces) 0 → r < n → getD is r 0 ≡ x → r ≡ rowOf x (take n is)
+pub hinted : (n : ℕ) (ts is : List ℕ) → Table n ts is → (x w r : ℕ) → w ≡ x → r ≡ getD ts (w % tablePlaces) 0 → r < n → getD is r 0 ≡ x
+    → r ≡ rowOf x (take n is)
 hinted n ts is t x w r e g h k =
     let q : r ≡ rowHinted ts x = g ∙ ap (rowHinted ts) e in
     q ∙ t .first x (omega (arith, q, h)) (ap (λ (j : ℕ). getD is j 0) (sym q) ∙ k)

@@ -108,5 +108,8 @@ module _ {A : Type 0} (r : List ℕ → Read A) where
           let c = counted-cases s t xs e in
           let l : length xs ≡ c .count = times-length (c .count) (c .between) t xs (c .things) in
           let f : s ≡ spell (c .count) ++ c .between = spell-read s (c .between) (c .count) B (c .number) in
-          let g : c .between ≡ spread w xs ++ t = times-from (c .count) (c .between) t xs (bytes-rest s (spell (c .count)) (c .between) f B) (c .things) h in
-          (f ∙ (λ i. spell (sym l i) ++ g i) ∙ sym (append-assoc (spell (length xs)) (spread w xs) t), subst (λ (n : ℕ). n < numbersEnd) (sym l) (read-small s (c .between) (c .count) B (c .number)))
+          let g : c .between ≡ spread w xs ++ t = times-from (c .count) (c .between) t xs (bytes-rest s (spell (c .count)) (c .between) f B) (c .things) h in (
+            f ∙ (λ i. spell (sym l i) ++ g i) ∙ sym (append-assoc (spell (length xs)) (spread w xs) t),
+            subst (λ (n : ℕ). n
+                < numbersEnd) (sym l) (read-small s (c .between) (c .count) B (c .number)),
+          )

@@ -111,7 +111,8 @@ next-of b bad t n h e = absurd (not-bad n t e)
 read-cases : (b : ℕ) (s t : List ℕ) (n : ℕ) → readNumber (b ∷ s) ≡ got n t → Last b s t n ⊎ Next b (more (numberBytes - 1) s) t n
 read-cases b s t n e =
     ⊎-elim
-    (λ h. let q : got b s ≡ got n t = sym (read-last b s h) ∙ e in inl (record { small = h; value = sym (got-thing b n s t q); rest = sym (got-rest b n s t q) }))
+    (λ h. let q : got b s ≡ got n t = sym (read-last b s h) ∙ e in
+    inl (record { small = h; value = sym (got-thing b n s t q); rest = sym (got-rest b n s t q) }))
     (λ h. inr (next-of b (more (numberBytes - 1) s) t n h (sym (read-next b s h) ∙ e)))
     (lt-or-le b 128)
 
@@ -120,7 +121,8 @@ more-cases k zero s t n e = absurd (not-bad n t e)
 more-cases k (suc a) s t n e =
     let b = suc a in
     ⊎-elim
-    (λ h. let q : got b s ≡ got n t = sym (more-last k b s h (λ z. omega arith)) ∙ e in inl (omega arith, record { small = h; value = sym (got-thing b n s t q); rest = sym (got-rest b n s t q) }))
+    (λ h. let q : got b s ≡ got n t = sym (more-last k b s h (λ z. omega arith)) ∙ e in
+    inl (omega arith, record { small = h; value = sym (got-thing b n s t q); rest = sym (got-rest b n s t q) }))
     (λ h. inr (next-of b (more k s) t n h (sym (more-next k b s h) ∙ e)))
     (lt-or-le b 128)
 
@@ -251,7 +253,8 @@ read-shorter s t n e =
 
 -- ---- reading at a place
 -- what is left is what stands after the number
-pub read-left : (s t : List ℕ) (at n : ℕ) → readNumber (drop at s) ≡ got n t → (t ≡ drop (length s - length t) s) × (at < length s - length t) × (length t ≤ length s)
+pub read-left : (s t : List ℕ) (at n : ℕ) → readNumber (drop at s) ≡ got n t
+    → (t ≡ drop (length s - length t) s) × (at < length s - length t) × (length t ≤ length s)
 read-left s t at n e =
     let r = read-suffix n (drop at s) t e in
     let l = suffix-length (drop at s) t r in
@@ -264,7 +267,8 @@ read-left s t at n e =
 pub value-at : (s : List ℕ) (at n next : ℕ) → numberAt s at ≡ done (n, next) → (readNumber (drop at s) ≡ got n (drop next s)) × (at < next) × (next ≤ length s)
 value-at s at n next e = go (readNumber (drop at s)) refl e
   where
-    go : (r : Read ℕ) → readNumber (drop at s) ≡ r → placedOr 2 (length s) r ≡ done (n, next) → (readNumber (drop at s) ≡ got n (drop next s)) × (at < next) × (next ≤ length s)
+    go : (r : Read ℕ) → readNumber (drop at s) ≡ r → placedOr 2 (length s) r ≡ done (n, next)
+        → (readNumber (drop at s) ≡ got n (drop next s)) × (at < next) × (next ≤ length s)
     go (got m t) f p =
         let l = read-left s t at m f in
         let a = l .1 in

@@ -118,13 +118,15 @@ none-earlier i lo (c ∷ cs) hi t h =
     ap (λ (x : Bool). consIf x c (earlier i cs)) (le-ltb (c .id) i (omega arith)) ∙ none-earlier i (c .id) cs hi (b .1) (omega arith)
 
 -- those before a cell of rising ids
-pub earlier-are : (lo : ℕ) (ps : List LiveCell) (c : LiveCell) (cs : List LiveCell) (hi : ℕ) → T (rising lo (ids (ps ++ c ∷ cs)) hi) → earlier (c .id) (ps ++ c ∷ cs) ≡ ps
+pub earlier-are : (lo : ℕ) (ps : List LiveCell) (c : LiveCell) (cs : List LiveCell) (hi : ℕ) → T (rising lo (ids (ps ++ c ∷ cs)) hi)
+    → earlier (c .id) (ps ++ c ∷ cs) ≡ ps
 earlier-are lo [] c cs hi t =
     let b = both (ltb lo (c .id)) (rising (c .id) (ids cs) hi) t in
     ap (λ (x : Bool). consIf x c (earlier (c .id) cs)) (le-ltb (c .id) (c .id) (omega arith)) ∙ none-earlier (c .id) (c .id) cs hi (b .1) (omega arith)
 earlier-are lo (p ∷ ps) c cs hi t =
     let b = both (ltb lo (p .id)) (rising (p .id) (ids (ps ++ c ∷ cs)) hi) t in
-    ap₂ (λ (x : Bool) (r : List LiveCell). consIf x p r) (lt-ltb (p .id) (c .id) (rising-over (p .id) ps c cs hi (b .1))) (earlier-are (p .id) ps c cs hi (b .1))
+    ap₂ (λ (x : Bool) (r : List LiveCell). consIf x p r) (lt-ltb (p .id) (c .id) (rising-over (p .id) ps c cs hi (b .1)))
+    (earlier-are (p .id) ps c cs hi (b .1))
 
 -- ---- uses, cell by cell
 module _ (uses : Cycle → ℕ) where
@@ -132,27 +134,33 @@ module _ (uses : Cycle → ℕ) where
     counting-append : (k : ℕ) (xs ys : List Cycle) → counting uses f k (xs ++ ys) ≡ counting uses f k xs ++ counting uses f (k + total uses xs) ys
     counting-append k [] ys = ap (λ (n : ℕ). counting uses f n ys) (omega arith)
     counting-append k (x ∷ xs) ys =
-        ap (λ (r : List Cycle). f k x ∷ r) (counting-append (k + uses x) xs ys ∙ ap (λ (n : ℕ). counting uses f (k + uses x) xs ++ counting uses f n ys) (omega arith))
+        ap (λ (r : List Cycle). f k x ∷ r)
+        (counting-append (k + uses x) xs ys ∙ ap (λ (n : ℕ). counting uses f (k + uses x) xs ++ counting uses f n ys) (omega arith))
 
     counting-length : (k : ℕ) (xs : List Cycle) → length (counting uses f k xs) ≡ length xs
     counting-length k [] = refl
     counting-length k (x ∷ xs) = ap suc (counting-length (k + uses x) xs)
 
     module _ (n lo : ℕ) (hi : ℕ) (all : List LiveCell) (t : T (rising lo (ids all) hi)) where
-      figure-counted : (i : ℕ) (k : ℕ) (g : Figure) (ks : List Cycle) → k ≡ n + usesBy uses (earlier i all) → dealtFigure (counting uses f k (figureCycles g) ++ ks) g ≡ onUses uses f n all i g
+      figure-counted : (i : ℕ) (k : ℕ) (g : Figure) (ks : List Cycle) → k ≡ n + usesBy uses (earlier i all)
+          → dealtFigure (counting uses f k (figureCycles g) ++ ks) g ≡ onUses uses f n all i g
       figure-counted i k (vertex p) ks e = refl
       figure-counted i k (openEdge a b bs) ks e = refl
       figure-counted i k (closedEdge bs) ks e = refl
-      figure-counted i k (face old) ks e = ap face (take-at (counting uses f k old) ks (length old) (counting-length k old) ∙ ap (λ (m : ℕ). counting uses f m old) e)
+      figure-counted i k (face old) ks e = ap face (take-at (counting uses f k old) ks (length old) (counting-length k old)
+          ∙ ap (λ (m : ℕ). counting uses f m old) e)
 
-      dealt-from : (ps cs : List LiveCell) → ps ++ cs ≡ all → dealt (counting uses f (n + usesBy uses ps) (spread entryCycles cs)) cs ≡ reshape (onUses uses f n all) cs
+      dealt-from : (ps cs : List LiveCell) → ps ++ cs ≡ all → dealt (counting uses f (n + usesBy uses ps) (spread entryCycles cs)) cs
+          ≡ reshape (onUses uses f n all) cs
       dealt-from ps [] e = refl
       dealt-from ps (c ∷ cs) e =
           let m = n + usesBy uses ps in
           let front = counting uses f m (entryCycles c) in
           let after = counting uses f (m + total uses (entryCycles c)) (spread entryCycles cs) in
           let here : m ≡ n + usesBy uses (earlier (c .id) all) =
-          ap (λ (q : List LiveCell). n + usesBy uses q) (sym (subst (λ (l : List LiveCell). earlier (c .id) l ≡ ps) e (earlier-are lo ps c cs hi (subst (λ (l : List LiveCell). T (rising lo (ids l) hi)) (sym e) t)))) in
+          ap (λ (q : List LiveCell). n + usesBy uses q)
+          (sym (subst (λ (l : List LiveCell). earlier (c .id) l ≡ ps) e
+          (earlier-are lo ps c cs hi (subst (λ (l : List LiveCell). T (rising lo (ids l) hi)) (sym e) t)))) in
           let more = uses-by uses (ps ++ (c ∷ [])) ∙ ap (total uses) (spread-snoc ps c) ∙ sum-append uses (spread entryCycles ps) (entryCycles c) in
           let next : m + total uses (entryCycles c) ≡ n + usesBy uses (ps ++ (c ∷ [])) = omega (arith, more, uses-by uses ps) in
           ap (λ (l : List Cycle). dealt l (c ∷ cs)) (counting-append m (entryCycles c) (spread entryCycles cs))
@@ -163,15 +171,18 @@ module _ (uses : Cycle → ℕ) where
         where
           spread-snoc : (qs : List LiveCell) (x : LiveCell) → spread entryCycles (qs ++ (x ∷ [])) ≡ spread entryCycles qs ++ entryCycles x
           spread-snoc [] x = append-nil (entryCycles x)
-          spread-snoc (q ∷ qs) x = ap (λ (r : List Cycle). entryCycles q ++ r) (spread-snoc qs x) ∙ sym (append-assoc (entryCycles q) (spread entryCycles qs) (entryCycles x))
+          spread-snoc (q ∷ qs) x = ap (λ (r : List Cycle). entryCycles q ++ r) (spread-snoc qs x)
+              ∙ sym (append-assoc (entryCycles q) (spread entryCycles qs) (entryCycles x))
 
       -- the cycles counted through and dealt out again are the cells changed by their uses
       pub dealt-uses : dealt (counting uses f n (spread entryCycles all)) all ≡ reshape (onUses uses f n all) all
       dealt-uses = ap (λ (k : ℕ). dealt (counting uses f k (spread entryCycles all)) all) (omega arith) ∙ dealt-from [] all refl
 
 -- a drawing's steps copied in the arrays are the cells changed by their uses
-pub copied-cells : (d : Drawing) → Sizes d → Fits d → (uses : Cycle → ℕ) (f : ℕ → Cycle → Cycle) (k : ℕ) (st : List ℕ) → T (rising 0 (ids (sheetOf d .cells)) (sheetOf d .next))
+pub copied-cells : (d : Drawing) → Sizes d → Fits d → (uses : Cycle → ℕ) (f : ℕ → Cycle → Cycle) (k : ℕ) (st : List ℕ)
+    → T (rising 0 (ids (sheetOf d .cells)) (sheetOf d .next))
     → cyclesFrom (take (cycleTotal d) (d .cycles)) st ≡ counting uses f k (cyclesFrom (take (cycleTotal d) (d .cycles)) (d .steps))
     → dealt (cyclesFrom (take (cycleTotal d) (d .cycles)) st) (sheetOf d .cells) ≡ reshape (onUses uses f k (sheetOf d .cells)) (sheetOf d .cells)
 copied-cells d z g uses f k st t e =
-    ap (λ (ks : List Cycle). dealt ks (sheetOf d .cells)) (e ∙ ap (counting uses f k) (sym (used-cycles d z g))) ∙ dealt-uses uses f k 0 (sheetOf d .next) (sheetOf d .cells) t
+    ap (λ (ks : List Cycle). dealt ks (sheetOf d .cells)) (e ∙ ap (counting uses f k) (sym (used-cycles d z g)))
+    ∙ dealt-uses uses f k 0 (sheetOf d .next) (sheetOf d .cells) t

@@ -64,12 +64,14 @@ module _ (uses : Cycle → ℕ) where
             from-is = ap (λ (a : ℕ). from + a) ew ∙ from-more ns j from c h (p .from-is) e;
             size = ap length es ∙ length-append (take from st) l ∙ ap₂ _+_ first (ch .size ∙ length-drop from st) ∙ (let z = p .size in omega arith);
             rest =
-                ap (λ (a : ℕ). drop (from + a) st′) ew ∙ sym (drop-drop (width c) from st′) ∙ ap (drop (width c)) after ∙ ch .rest ∙ ap (drop (width c)) (p .rest)
+                ap (λ (a : ℕ). drop (from + a) st′) ew ∙ sym (drop-drop (width c) from st′) ∙ ap (drop (width c)) after ∙ ch .rest
+                ∙ ap (drop (width c)) (p .rest)
                 ∙ drop-drop (width c) from st₀ ∙ ap (λ (a : ℕ). drop (from + a) st₀) (sym ew);
             front =
                 cycles-more ns j from c st′ h (p .from-is) e
                 ∙ ap₂ (λ (ks : List Cycle) (x : Cycle). ks ++ (x ∷ [])) (before ∙ p .front) (ap (cycleOf c) after ∙ ch .cycle ∙ ap₂ f (p .count) there)
-                ∙ sym (ap (counting uses f k₀) (cycles-more ns j from c st₀ h (p .from-is) e) ∙ counting-snoc k₀ (cyclesFrom (take j ns) st₀) (cycleOf c (drop from st₀)));
+                ∙ sym (ap (counting uses f k₀) (cycles-more ns j from c st₀ h (p .from-is) e)
+                ∙ counting-snoc k₀ (cyclesFrom (take j ns) st₀) (cycleOf c (drop from st₀)));
             count =
                 ap₂ _+_ (p .count) (em ∙ ap uses there)
                 ∙ (let t = total-more uses ns j from c st₀ h (p .from-is) e in omega arith);
@@ -79,4 +81,5 @@ module _ (uses : Cycle → ℕ) where
 -- ---- the part of an array from a place on
 pub part-put : (from : ℕ) (st l : List ℕ) → take from st ++ (l ++ drop (length st - from) (drop from st)) ≡ take from st ++ l
 part-put from st l =
-    ap (λ (r : List ℕ). take from st ++ (l ++ r)) (drop-of-length-le (drop from st) {i = length st - from} (omega (arith, length-drop from st))) ∙ ap (λ (r : List ℕ). take from st ++ r) (append-nil l)
+    ap (λ (r : List ℕ). take from st ++ (l ++ r)) (drop-of-length-le (drop from st) {i = length st - from} (omega (arith, length-drop from st)))
+    ∙ ap (λ (r : List ℕ). take from st ++ r) (append-nil l)

@@ -61,7 +61,8 @@ module _ (i next : ℕ) where
   run-all k [] = refl
   run-all k (s ∷ ws) = ap₂ (λ (h : Halfedge) (hs : List Halfedge). h ∷ hs) (copied-half i next k s ∙ go (eqb i (s / 2))) (run-all k ws)
     where
-      go : (b : Bool) → _≡_ {A = Halfedge} (record { edge = cond b (copyOf i next k) (s / 2); backward = eqb (s % 2) 1 }) (cond b (record { edge = copyOf i next k; backward = eqb (s % 2) 1 }) (halfedgeOf s))
+      go : (b : Bool) → _≡_ {A = Halfedge} (record { edge = cond b (copyOf i next k) (s / 2); backward = eqb (s % 2) 1 })
+          (cond b (record { edge = copyOf i next k; backward = eqb (s % 2) 1 }) (halfedgeOf s))
       go true = refl
       go false = refl
 
@@ -80,7 +81,8 @@ rest-next : (j : ℕ) (l l₀ : List ℕ) (v : ℕ) → drop j l ≡ drop j l₀
 rest-next j l l₀ v e = drop-set-lt (j + 1) l j v (omega arith) ∙ sym (drop-drop 1 j l) ∙ ap (drop 1) e ∙ drop-drop 1 j l₀
 
 module _ (each : Bool) (i next : ℕ) where
-  run-snoc : (k : ℕ) (ws : List ℕ) (s : ℕ) → copiedRun each i next k (ws ++ (s ∷ [])) ≡ copiedRun each i next k ws ++ (copiedWord i next (counted each i k ws) s ∷ [])
+  run-snoc : (k : ℕ) (ws : List ℕ) (s : ℕ) → copiedRun each i next k (ws ++ (s ∷ [])) ≡ copiedRun each i next k ws
+      ++ (copiedWord i next (counted each i k ws) s ∷ [])
   run-snoc k [] s = refl
   run-snoc k (w ∷ ws) s = ap (λ (q : List ℕ). copiedWord i next k w ∷ q) (run-snoc (usesAfter each i k w) ws s)
 
@@ -116,7 +118,8 @@ module _ (each : Bool) (i next : ℕ) where
       }
 
 -- ---- a cycle
-pub path-changed : (each : Bool) (i next k c : ℕ) (l l′ : List ℕ) → (c ≡ 0 → ⊥) → length l′ ≡ length l → take c l′ ≡ copiedRun each i next k (take c l) → drop c l′ ≡ drop c l
+pub path-changed : (each : Bool) (i next k c : ℕ) (l l′ : List ℕ) → (c ≡ 0 → ⊥) → length l′ ≡ length l → take c l′ ≡ copiedRun each i next k (take c l)
+    → drop c l′ ≡ drop c l
     → Changed (copiedPath each i next k) c l l′
 path-changed each i next k zero l l′ n z e g = absurd (n refl)
 path-changed true i next k (suc c) l l′ n z e g = record { size = z; cycle = ap path (ap (map halfedgeOf) e ∙ run-each i next k (take (suc c) l)); rest = g }
@@ -131,7 +134,8 @@ pub lone-none : (i next k c : ℕ) (l : List ℕ) → (c ≡ 0 → ⊥) → Chan
 lone-none i next k zero l h = absurd (h refl)
 lone-none i next k (suc c) l h = record { size = refl; cycle = refl; rest = refl }
 
-pub lone-changed : (i next k c : ℕ) (l : List ℕ) (v : ℕ) → c ≡ 0 → width c ≤ length l → v ≡ copiedVertex i next k (getD l 0 0) → Changed (newLone i next k) c l (set l 0 v)
+pub lone-changed : (i next k c : ℕ) (l : List ℕ) (v : ℕ) → c ≡ 0 → width c ≤ length l → v ≡ copiedVertex i next k (getD l 0 0)
+    → Changed (newLone i next k) c l (set l 0 v)
 lone-changed i next k zero l v e h g =
     record { size = length-set l 0 v; cycle = ap lone (getD-set-same l 0 v 0 (omega arith) ∙ g); rest = drop-set-lt 1 l 0 v (omega arith) }
 lone-changed i next k (suc c) l v e h g = absurd (omega arith)

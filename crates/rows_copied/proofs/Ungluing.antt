@@ -26,7 +26,8 @@ module _ (f g : ℕ → ℕ → ℕ) (uses : Cycle → ℕ) where
   same-uses i (c ∷ cs) = go (ltb (c .id) i) (same-uses i cs)
     where
       go : (b : Bool) → usesBy uses (earlier i (reshape (endsBy f g) cs)) ≡ usesBy uses (earlier i cs)
-          → usesBy uses (consIf b (record { id = c .id; figure = endsBy f g (c .id) (c .figure) }) (earlier i (reshape (endsBy f g) cs))) ≡ usesBy uses (consIf b c (earlier i cs))
+          → usesBy uses (consIf b (record { id = c .id; figure = endsBy f g (c .id) (c .figure) }) (earlier i (reshape (endsBy f g) cs)))
+          ≡ usesBy uses (consIf b c (earlier i cs))
       go true e = ap₂ (λ (ks : List Cycle) (n : ℕ). total uses ks + n) (same-cycles (c .id) (c .figure)) e
       go false e = e
 
@@ -47,11 +48,14 @@ module _ (v next : ℕ) (gs : List (List Halfedge)) where
     figure-unglued i (face ks) = ap (λ (n : ℕ). face (counting (loneUse v) (newLone v next) (length gs + n) ks)) (same-uses newStart newStop (loneUse v) i all)
 
     unglued-from : (cs : List LiveCell)
-        → reshape (onUses (loneUse v) (newLone v next) (length gs) (reshape (endsBy newStart newStop) all)) (reshape (endsBy newStart newStop) cs) ≡ reshape (newEnds v next gs all) cs
+        → reshape (onUses (loneUse v) (newLone v next) (length gs) (reshape (endsBy newStart newStop) all)) (reshape (endsBy newStart newStop) cs)
+        ≡ reshape (newEnds v next gs all) cs
     unglued-from [] = refl
-    unglued-from (c ∷ cs) = ap₂ (λ (x : Figure) (q : List LiveCell). record { id = c .id; figure = x } ∷ q) (figure-unglued (c .id) (c .figure)) (unglued-from cs)
+    unglued-from (c ∷ cs) = ap₂ (λ (x : Figure) (q : List LiveCell). record { id = c .id; figure = x } ∷ q) (figure-unglued (c .id) (c .figure))
+        (unglued-from cs)
 
     -- first the ends, then the lone cycles
     pub ends-then-lone :
-        reshape (onUses (loneUse v) (newLone v next) (length gs) (reshape (endsBy newStart newStop) all)) (reshape (endsBy newStart newStop) all) ≡ reshape (newEnds v next gs all) all
+        reshape (onUses (loneUse v) (newLone v next) (length gs) (reshape (endsBy newStart newStop) all)) (reshape (endsBy newStart newStop) all)
+        ≡ reshape (newEnds v next gs all) all
     ends-then-lone = unglued-from all

@@ -78,7 +78,8 @@ module _ (steps : List ℕ) (base n from len : ℕ) (out : List ℕ) (at : ℕ) 
             ∙ ap (λ (q : List ℕ). take at out ++ q) (sym (arc-short steps base n from len zs c h (a .least) g));
       }
 
-  pub pasted-long : n - from < len → (mid st : List ℕ) (end : ℕ) → end ≡ at + (n - from) → mid ≡ paste out at (drop (base + from) steps) (n - from) → st ≡ paste mid end (drop base steps) (len - (n - from))
+  pub pasted-long : n - from < len → (mid st : List ℕ) (end : ℕ) → end ≡ at + (n - from) → mid ≡ paste out at (drop (base + from) steps) (n - from)
+      → st ≡ paste mid end (drop base steps) (len - (n - from))
       → Pasted out at arc st
   pasted-long g mid st end ee em e =
       let zs = a .stepsSize in
@@ -95,7 +96,8 @@ module _ (steps : List ℕ) (base n from len : ℕ) (out : List ℕ) (at : ℕ) 
         size = ap length e ∙ length-paste mid end (drop base steps) (len - (n - from)) (omega arith) (omega arith) ∙ lm;
         front =
             ap₂ take s e ∙ take-paste mid end (drop base steps) (len - (n - from)) (omega arith) (omega arith)
-            ∙ ap (λ (q : List ℕ). q ++ take (len - (n - from)) (drop base steps)) (ap₂ take ee em ∙ take-paste out at (drop (base + from) steps) (n - from) (omega arith) (omega arith))
+            ∙ ap (λ (q : List ℕ). q ++ take (len - (n - from)) (drop base steps))
+            (ap₂ take ee em ∙ take-paste out at (drop (base + from) steps) (n - from) (omega arith) (omega arith))
             ∙ append-assoc (take at out) (take (n - from) (drop (base + from) steps)) (take (len - (n - from)) (drop base steps))
             ∙ ap (λ (q : List ℕ). take at out ++ q) (sym (arc-long steps base n from len zs c h w (omega arith)));
       }
@@ -107,7 +109,8 @@ module _ (steps : List ℕ) (base n from len : ℕ) (counts : List ℕ) (u : Use
       let r = a .stepRoom in
       record { stepsSize = a .stepsSize; cycle = a .cycle; start = a .start; least = a .least; room = omega arith }
 
-  pub arc-built : (h : ℕ) (mid st counts′ : List ℕ) (end : ℕ) (w : Used) → end ≡ u .steps + len → Pasted out (u .steps) (arcOf steps base n from len) mid → st ≡ set mid end h → Closes counts u (len + 1) counts′
+  pub arc-built : (h : ℕ) (mid st counts′ : List ℕ) (end : ℕ) (w : Used) → end ≡ u .steps + len → Pasted out (u .steps) (arcOf steps base n from len) mid
+      → st ≡ set mid end h → Closes counts u (len + 1) counts′
       → w ≡ moreCycle u (len + 1) → Built (built counts u out ++ one (path (map halfedgeOf (arcOf steps base n from len) ++ one (halfedgeOf h)))) counts′ w st
   arc-built h mid st counts′ end w ee p es c ew =
       let xs = arcOf steps base n from len in
@@ -143,19 +146,23 @@ module _ (ix : Index) (n m : ℕ) (steps : List ℕ) (at s : ℕ) where
   pub corner-none : (m ≡ 0 → ⊥) → m ≤ s → false ≡ cornerIn ix n m steps at s
   corner-none e h = rw (ne-eqb m 0 e, le-ltb s m h)
 
-  pub corner-found : (m ≡ 0 → ⊥) → s < m → (i k : ℕ) → i ≡ s → k ≡ valueAt 4 (take n (ix .ids)) (take n (ix .kinds)) (getD steps (at + i) 0 / 2) → eqb k 1 ≡ cornerIn ix n m steps at s
+  pub corner-found : (m ≡ 0 → ⊥) → s < m → (i k : ℕ) → i ≡ s → k ≡ valueAt 4 (take n (ix .ids)) (take n (ix .kinds)) (getD steps (at + i) 0 / 2)
+      → eqb k 1 ≡ cornerIn ix n m steps at s
   corner-found e h i k ei ek =
-      ap (λ (q : ℕ). eqb q 1) (ek ∙ ap (λ (q : ℕ). valueAt 4 (take n (ix .ids)) (take n (ix .kinds)) (getD steps (at + q) 0 / 2)) ei) ∙ rw (ne-eqb m 0 e, lt-ltb s m h)
+      ap (λ (q : ℕ). eqb q 1) (ek ∙ ap (λ (q : ℕ). valueAt 4 (take n (ix .ids)) (take n (ix .kinds)) (getD steps (at + q) 0 / 2)) ei)
+      ∙ rw (ne-eqb m 0 e, lt-ltb s m h)
 
   pub vertex-lone : m ≡ 0 → getD steps at 0 ≡ cornerVertex ix n m steps at s
   vertex-lone e = rw (eq-eqb m 0 e)
 
-  pub vertex-back : (m ≡ 0 → ⊥) → (i k : ℕ) → i ≡ s → getD steps (at + i) 0 % 2 ≡ 1 → k ≡ valueAt 0 (take n (ix .ids)) (take n (ix .ends)) (getD steps (at + i) 0 / 2) → k ≡ cornerVertex ix n m steps at s
+  pub vertex-back : (m ≡ 0 → ⊥) → (i k : ℕ) → i ≡ s → getD steps (at + i) 0 % 2 ≡ 1
+      → k ≡ valueAt 0 (take n (ix .ids)) (take n (ix .ends)) (getD steps (at + i) 0 / 2) → k ≡ cornerVertex ix n m steps at s
   vertex-back e i k ei g ek =
       ek ∙ ap (λ (q : ℕ). valueAt 0 (take n (ix .ids)) (take n (ix .ends)) (getD steps (at + q) 0 / 2)) ei
       ∙ rw (ne-eqb m 0 e, eq-eqb (getD steps (at + s) 0 % 2) 1 (ap (λ (q : ℕ). getD steps (at + q) 0 % 2) (sym ei) ∙ g))
 
-  pub vertex-on : (m ≡ 0 → ⊥) → (i k : ℕ) → i ≡ s → (getD steps (at + i) 0 % 2 ≡ 1 → ⊥) → k ≡ valueAt 0 (take n (ix .ids)) (take n (ix .starts)) (getD steps (at + i) 0 / 2) → k ≡ cornerVertex ix n m steps at s
+  pub vertex-on : (m ≡ 0 → ⊥) → (i k : ℕ) → i ≡ s → (getD steps (at + i) 0 % 2 ≡ 1 → ⊥)
+      → k ≡ valueAt 0 (take n (ix .ids)) (take n (ix .starts)) (getD steps (at + i) 0 / 2) → k ≡ cornerVertex ix n m steps at s
   vertex-on e i k ei g ek =
       ek ∙ ap (λ (q : ℕ). valueAt 0 (take n (ix .ids)) (take n (ix .starts)) (getD steps (at + q) 0 / 2)) ei
       ∙ rw (ne-eqb m 0 e, ne-eqb (getD steps (at + s) 0 % 2) 1 (λ q. g (ap (λ (r : ℕ). getD steps (at + r) 0 % 2) ei ∙ q)))

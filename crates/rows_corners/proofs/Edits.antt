@@ -26,9 +26,18 @@ use Rattle.rows_corners.proofs.Rows.{roomy}
 -- ---- which ids are faces
 pub rows-in : (d : Drawing) → Sizes d → T (soundDrawing d) → (ix : Index) → Indexes d ix → IndexRows ix (d .count)
 rows-in d z w ix x =
-    record { few = sound-fits d w .cells; ids = x .sizes .0; kinds = x .sizes .1; starts = x .sizes .2; ends = x .sizes .3; cycles = x .sizes .5; rising = looks d z ix x w .rising }
+    record {
+      few = sound-fits d w .cells;
+      ids = x .sizes .0;
+      kinds = x .sizes .1;
+      starts = x .sizes .2;
+      ends = x .sizes .3;
+      cycles = x .sizes .5;
+      rising = looks d z ix x w .rising;
+    }
 
-pub face-told : (d : Drawing) → Sizes d → T (soundDrawing d) → (ix : Index) → Indexes d ix → (f : ℕ) (b : Bool) → b ≡ eqb (valueAt 4 (take (d .count) (ix .ids)) (take (d .count) (ix .kinds)) f) 3
+pub face-told : (d : Drawing) → Sizes d → T (soundDrawing d) → (ix : Index) → Indexes d ix → (f : ℕ) (b : Bool)
+    → b ≡ eqb (valueAt 4 (take (d .count) (ix .ids)) (take (d .count) (ix .kinds)) f) 3
     → isFace (cellAt (sheetOf d) f) ≡ b
 face-told d z w ix x f b e = sym (e ∙ face-at (looks d z ix x w) f)
 
@@ -36,7 +45,8 @@ pub named-in : (d : Drawing) → Sizes d → T (soundDrawing d) → (ix : Index)
 named-in d z w ix x f e = record { fits = sound-fits d w; index = x; rising = looks d z ix x w .rising; face = e }
 
 -- ---- the face gets the cycles ks, and cells come
-module _ (d : Drawing) (z : Sizes d) (ix : Index) (f : ℕ) (m : Named d ix f) (ks : List Cycle) (new : List Figure) (r : RoomIn (recycled (sheetOf d) f ks) new) where
+module _ (d : Drawing) (z : Sizes d) (ix : Index) (f : ℕ) (m : Named d ix f) (ks : List Cycle) (new : List Figure)
+    (r : RoomIn (recycled (sheetOf d) f ks) new) where
   module _ (counts : List ℕ) (u : Used) (steps : List ℕ) (e : built counts u steps ≡ ks) where
     pub room-listed : Roomy (recycled (sheetOf d) f (built counts u steps))
     room-listed = subst (λ (l : List Cycle). Roomy (recycled (sheetOf d) f l)) (sym e) (roomy (recycled (sheetOf d) f ks) new r)

@@ -56,15 +56,19 @@ module _ (cycles steps : List ℕ) (t : Spans) (w : Within cycles steps t) where
   numbers = take (t .cycles .count) (drop (t .cycles .first) cycles)
 
   numbers-length : length numbers ≡ t .cycles .count
-  numbers-length = length-take-le (t .cycles .count) (drop (t .cycles .first) cycles) (omega (arith, w .inCycles, w .cyclesSize, length-drop (t .cycles .first) cycles))
+  numbers-length = length-take-le (t .cycles .count) (drop (t .cycles .first) cycles)
+      (omega (arith, w .inCycles, w .cyclesSize, length-drop (t .cycles .first) cycles))
 
   pub at-length : length (cyclesAt cycles steps t) ≡ t .cycles .count
   at-length = length-cycles numbers (drop (t .steps .first) steps) ∙ numbers-length
 
   -- what is asked, where the list so far leaves room
-  pub copy-asks : (skip : List Bool) → t .cycles .count ≤ length skip → (counts : List ℕ) (u : Used) (out : List ℕ) → Building counts u out → u .cycles + t .cycles .count ≤ length counts → u .steps + t .steps .count ≤ length out
-      → Building counts u out × ((t .cycles .first + t .cycles .count ≤ length cycles) × ((t .steps .first + widthSum numbers ≤ length steps) × ((t .cycles .count ≤ length skip)
-      × ((u .cycles + length (kept (take (t .cycles .count) skip) numbers) ≤ length counts) × (u .steps + widthSum (kept (take (t .cycles .count) skip) numbers) ≤ length out)))))
+  pub copy-asks : (skip : List Bool) → t .cycles .count ≤ length skip → (counts : List ℕ) (u : Used) (out : List ℕ) → Building counts u out
+      → u .cycles + t .cycles .count ≤ length counts → u .steps + t .steps .count ≤ length out
+      → Building counts u out × ((t .cycles .first + t .cycles .count ≤ length cycles)
+      × ((t .steps .first + widthSum numbers ≤ length steps) × ((t .cycles .count ≤ length skip)
+      × ((u .cycles + length (kept (take (t .cycles .count) skip) numbers) ≤ length counts)
+      × (u .steps + widthSum (kept (take (t .cycles .count) skip) numbers) ≤ length out)))))
   copy-asks skip ls counts u out b hc hs =
       let i = w .inCycles in
       let j = w .inSteps in
@@ -78,7 +82,11 @@ module _ (cycles steps : List ℕ) (t : Spans) (w : Within cycles steps t) where
 
   -- how much is used then
   pub copy-used : (skip : List Bool) (u r : Used)
-      → r ≡ record { cycles = u .cycles + length (kept (take (t .cycles .count) skip) numbers); steps = u .steps + widthSum (kept (take (t .cycles .count) skip) numbers) }
+      → r ≡ record {
+        cycles = u .cycles + length (kept (take (t .cycles .count) skip) numbers);
+        steps = u .steps + widthSum (kept
+            (take (t .cycles .count) skip) numbers);
+      }
       → (r .cycles ≤ u .cycles + t .cycles .count) × (r .steps ≤ u .steps + t .steps .count)
   copy-used skip u r e =
       let wi = w .wide in
@@ -93,11 +101,14 @@ module _ (cycles steps : List ℕ) (t : Spans) (w : Within cycles steps t) where
 pub built-as : {ks ls : List Cycle} {counts : List ℕ} {u : Used} {steps : List ℕ} → ks ≡ ls → Built ks counts u steps → Built ls counts u steps
 built-as {ks} {ls} {counts} {u} {steps} e b = record { list = b .list ∙ e; building = b .building }
 
-pub built-then : (xs : List Cycle) {ks : List Cycle} {counts counts′ : List ℕ} {u u′ : Used} {steps steps′ : List ℕ} → Built ks counts u steps → Built (built counts u steps ++ xs) counts′ u′ steps′ → Built (ks ++ xs) counts′ u′ steps′
-built-then xs {ks} {counts} {counts′} {u} {u′} {steps} {steps′} a b = record { list = b .list ∙ ap (λ (l : List Cycle). l ++ xs) (a .list); building = b .building }
+pub built-then : (xs : List Cycle) {ks : List Cycle} {counts counts′ : List ℕ} {u u′ : Used} {steps steps′ : List ℕ} → Built ks counts u steps
+    → Built (built counts u steps ++ xs) counts′ u′ steps′ → Built (ks ++ xs) counts′ u′ steps′
+built-then xs {ks} {counts} {counts′} {u} {u′} {steps} {steps′} a b =
+    record { list = b .list ∙ ap (λ (l : List Cycle). l ++ xs) (a .list); building = b .building }
 
 -- ---- a cycle of one step more
-pub ring-built : {ks : List Cycle} {counts : List ℕ} {u : Used} {steps : List ℕ} → Built ks counts u steps → u .steps < length steps → (h : ℕ) (st out : List ℕ) → st ≡ set steps (u .steps) h → Closes counts u 1 out
+pub ring-built : {ks : List Cycle} {counts : List ℕ} {u : Used} {steps : List ℕ} → Built ks counts u steps → u .steps < length steps → (h : ℕ) (st out : List ℕ)
+    → st ≡ set steps (u .steps) h → Closes counts u 1 out
     → (w : Used) → w ≡ moreCycle u 1 → Built (ks ++ one (path (one (halfedgeOf h)))) out w st
 ring-built {ks} {counts} {u} {steps} b l h st out f c w e =
     let s = built-set counts u steps (b .building) (u .steps) h (omega arith) in
@@ -106,7 +117,8 @@ ring-built {ks} {counts} {u} {steps} b l h st out f c w e =
     ap (λ (k : ℕ). take 1 (drop (u .steps) (set steps k h))) n ∙ run-set steps (u .steps) 0 h (omega arith)
     in
     subst₂ (λ (v : Used) (t : List ℕ). Built (ks ++ one (path (one (halfedgeOf h)))) out v t) (sym e) (sym f)
-    (built-as (ap₂ (λ (l : List Cycle) (t : List ℕ). l ++ one (path (map halfedgeOf t))) (s .list ∙ b .list) q) (c .list (set steps (u .steps) h) (s .building) (omega (arith, length-set steps (u .steps) h))))
+    (built-as (ap₂ (λ (l : List Cycle) (t : List ℕ). l ++ one (path (map halfedgeOf t))) (s .list ∙ b .list) q)
+    (c .list (set steps (u .steps) h) (s .building) (omega (arith, length-set steps (u .steps) h))))
 
 -- ---- a step as it stands in memory
 pub along-read : (e : ℕ) → one (halfedgeOf (2 * e)) ≡ one (along e)

@@ -22,7 +22,8 @@ rise-parts lo n ns hi e =
 
 rise-from : (lo n : ℕ) (ns : List ℕ) (hi : ℕ) → lo ≤ n → n < hi → places (suc n) ns hi ≡ true → places lo (n ∷ ns) hi ≡ true
 rise-from lo n ns hi h k e =
-    true-of (places lo (n ∷ ns) hi) (pair (leb lo n) (ltb n hi && places (suc n) ns hi) (le→leb lo n h) (pair (ltb n hi) (places (suc n) ns hi) (lt→ltb n hi k) (truth e)))
+    true-of (places lo (n ∷ ns) hi)
+    (pair (leb lo n) (ltb n hi && places (suc n) ns hi) (le→leb lo n h) (pair (ltb n hi) (places (suc n) ns hi) (lt→ltb n hi k) (truth e)))
 
 not-held : (lo : ℕ) (ns : List ℕ) (hi j : ℕ) → places lo ns hi ≡ true → j < lo → holds j ns ≡ false
 not-held lo [] hi j e h = refl
@@ -44,7 +45,8 @@ module _ {A : Type 0} where
   sifted-same g h i [] f = refl
   sifted-same g h i (x ∷ xs) f = ap₂ (λ (b : Bool) (l : List A). cond b l (x ∷ l)) (f i (omega arith)) (sifted-same g h (suc i) xs (λ j k. f j (omega arith)))
 
-  pub kept-sifted : (g : ℕ → Bool) (flags : List Bool) → length flags ≡ 512 → ((j : ℕ) → j < 512 → getD flags j false ≡ g j) → (i : ℕ) (xs : List A) → i + length xs ≤ 512
+  pub kept-sifted : (g : ℕ → Bool) (flags : List Bool) → length flags ≡ 512 → ((j : ℕ) → j < 512 → getD flags j false ≡ g j) → (i : ℕ) (xs : List A)
+      → i + length xs ≤ 512
       → kept (take (length xs) (drop i flags)) xs ≡ sifted g i xs
   kept-sifted g flags s f i [] h = refl
   kept-sifted g flags s f i (x ∷ xs) h =
@@ -65,7 +67,8 @@ module _ {A : Type 0} where
         → chosen z ms l ≡ sifted (λ (j : ℕ). not (holds j ms)) i xs
     chosen-sifted [] i [] e f = refl
     chosen-sifted [] i (m ∷ ms) e f = absurd (let p = rise-parts i m ms (i + 0) e in let a = p .0 in let b = p .1 .0 in omega arith)
-    chosen-sifted (x ∷ xs) i [] e f = chosen-sifted xs (suc i) [] refl (λ j k. let q : suc i + j ≡ i + suc j = omega arith in ap (λ (n : ℕ). getD l n z) q ∙ f (suc j) (omega arith))
+    chosen-sifted (x ∷ xs) i [] e f = chosen-sifted xs (suc i) [] refl (λ j k. let q : suc i + j ≡ i + suc j = omega arith in
+        ap (λ (n : ℕ). getD l n z) q ∙ f (suc j) (omega arith))
     chosen-sifted (x ∷ xs) i (m ∷ ms) e f = go (eqb i m) refl (chosen-sifted xs (suc i))
       where
         parts : (i ≤ m) × ((m < i + suc (length xs)) × (places (suc m) ms (i + suc (length xs)) ≡ true))
@@ -78,21 +81,25 @@ module _ {A : Type 0} where
         ends = omega arith
 
         go : (b : Bool) → eqb i m ≡ b
-            → ((ns : List ℕ) → places (suc i) ns (suc i + length xs) ≡ true → ((j : ℕ) → j < length xs → getD l (suc i + j) z ≡ getD xs j z) → chosen z ns l ≡ sifted (λ (j : ℕ). not (holds j ns)) (suc i) xs)
-            → getD l m z ∷ chosen z ms l ≡ cond (not (b || holds i ms)) (sifted (λ (j : ℕ). not (holds j (m ∷ ms))) (suc i) xs) (x ∷ sifted (λ (j : ℕ). not (holds j (m ∷ ms))) (suc i) xs)
+            → ((ns : List ℕ) → places (suc i) ns (suc i + length xs) ≡ true → ((j : ℕ) → j < length xs → getD l (suc i + j) z ≡ getD xs j z)
+            → chosen z ns l ≡ sifted (λ (j : ℕ). not (holds j ns)) (suc i) xs)
+            → getD l m z ∷ chosen z ms l ≡ cond (not (b || holds i ms)) (sifted (λ (j : ℕ). not (holds j (m ∷ ms))) (suc i) xs)
+            (x ∷ sifted (λ (j : ℕ). not (holds j (m ∷ ms))) (suc i) xs)
         go true q ih =
             let w : i ≡ m = eqb-true i m q in
             let n : m ≡ i + 0 = omega arith in
             ap₂ (λ (y : A) (r : List A). y ∷ r) (ap (λ (n : ℕ). getD l n z) n ∙ f 0 (omega arith))
             (ih ms (ap₂ (λ (u v : ℕ). places (suc u) ms v) w (sym ends) ∙ parts .1 .1) later
-            ∙ sifted-same (λ (j : ℕ). not (holds j ms)) (λ (j : ℕ). not (holds j (m ∷ ms))) (suc i) xs (λ j k. ap (λ (b : Bool). not (b || holds j ms)) (sym (ne-eqb j m (λ g. omega arith)))))
+            ∙ sifted-same (λ (j : ℕ). not (holds j ms)) (λ (j : ℕ). not (holds j (m ∷ ms))) (suc i) xs
+            (λ j k. ap (λ (b : Bool). not (b || holds j ms)) (sym (ne-eqb j m (λ g. omega arith)))))
         go false q ih =
             let w = eqb-false i m q in
             let a = parts .0 in
             let b = parts .1 .0 in
             let d : i < m = above i m a w in
             ih (m ∷ ms) (rise-from (suc i) m ms (suc i + length xs) (omega arith) (omega arith) (ap (places (suc m) ms) (sym ends) ∙ parts .1 .1)) later
-            ∙ ap (λ (b : Bool). cond (not b) (sifted (λ (j : ℕ). not (holds j (m ∷ ms))) (suc i) xs) (x ∷ sifted (λ (j : ℕ). not (holds j (m ∷ ms))) (suc i) xs))
+            ∙ ap (λ (b : Bool). cond (not b) (sifted (λ (j : ℕ). not (holds j (m ∷ ms))) (suc i) xs)
+            (x ∷ sifted (λ (j : ℕ). not (holds j (m ∷ ms))) (suc i) xs))
             (sym (not-held (suc m) ms (i + suc (length xs)) i (parts .1 .1) (omega arith)))
 
 -- ---- by flags
@@ -111,6 +118,7 @@ module _ {A : Type 0} (ms : List ℕ) (flags : List Bool) (m : Marks ms flags) (
   pub chosen-kept : (z : A) → places 0 ms (length xs) ≡ true → chosen z ms xs ≡ kept (take (length xs) (map not flags)) xs
   chosen-kept z e =
       let s = m .size in
-      chosen-sifted xs z xs 0 ms (let n : 0 + length xs ≡ length xs = omega arith in ap (places 0 ms) n ∙ e) (λ j k. let n : 0 + j ≡ j = omega arith in ap (λ (i : ℕ). getD xs i z) n)
+      chosen-sifted xs z xs 0 ms (let n : 0 + length xs ≡ length xs = omega arith in ap (places 0 ms) n ∙ e) (λ j k. let n : 0 + j ≡ j = omega arith in
+      ap (λ (i : ℕ). getD xs i z) n)
       ∙ sym (kept-sifted (λ (j : ℕ). not (holds j ms)) (map not flags) (length-map flags not ∙ s)
       (λ j k. turned flags j (omega arith) ∙ ap not (m .at j k)) 0 xs (omega arith))

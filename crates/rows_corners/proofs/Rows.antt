@@ -109,7 +109,8 @@ module _ (d : Drawing) (z : Sizes d) (ix : Index) (f : ℕ) (m : Named d ix f) w
   counted = summed d z fits ix (m .index)
 
   pub spanning : (row : ℕ) → row ≡ rowIn
-      → (d .count ≤ length (ix .cycles)) × ((row < d .count) × ((total (placesOf 0) (take (d .count) (ix .cycles)) ≤ length (d .cycles)) × ((total (placesOf 0) (take (d .count) (ix .cycles)) ≤ 2048)
+      → (d .count ≤ length (ix .cycles)) × ((row < d .count)
+      × ((total (placesOf 0) (take (d .count) (ix .cycles)) ≤ length (d .cycles)) × ((total (placesOf 0) (take (d .count) (ix .cycles)) ≤ 2048)
       × (total (placesOf 1) (take (total (placesOf 0) (take (d .count) (ix .cycles))) (d .cycles)) ≤ 2048))))
   spanning row e =
       let k = counted in
@@ -121,7 +122,8 @@ module _ (d : Drawing) (z : Sizes d) (ix : Index) (f : ℕ) (m : Named d ix f) w
   -- ---- where the cycles stand
   cycles-read : spanOf 0 (ix .cycles) (rowSpan (d .count) rowIn) ≡ cycleSpan d rowIn
   cycles-read =
-      sym (span-take 0 (ix .cycles) (d .count) (rowSpan (d .count) rowIn) (let h = live in omega arith)) ∙ ap (λ (l : List ℕ). spanOf 0 l (rowSpan (d .count) rowIn)) (m .index .cycles)
+      sym (span-take 0 (ix .cycles) (d .count) (rowSpan (d .count) rowIn) (let h = live in omega arith))
+      ∙ ap (λ (l : List ℕ). spanOf 0 l (rowSpan (d .count) rowIn)) (m .index .cycles)
 
   abbrev spans : Spans
   spans = record { cycles = cycleSpan d rowIn; steps = stepSpan d rowIn }
@@ -159,7 +161,8 @@ module _ (d : Drawing) (z : Sizes d) (ix : Index) (f : ℕ) (m : Named d ix f) w
       let w = within in
       let l = d .cycles in
       ap length own-list ∙ length-cycles (take (cycleSpan d rowIn .count) (drop (cycleSpan d rowIn .first) l)) (drop (stepSpan d rowIn .first) (d .steps))
-      ∙ length-take-le (cycleSpan d rowIn .count) (drop (cycleSpan d rowIn .first) l) (omega (arith, w .inCycles, w .cyclesSize, length-drop (cycleSpan d rowIn .first) l))
+      ∙ length-take-le (cycleSpan d rowIn .count) (drop (cycleSpan d rowIn .first) l)
+      (omega (arith, w .inCycles, w .cyclesSize, length-drop (cycleSpan d rowIn .first) l))
 
   own-steps : total stepCount own ≡ stepSpan d rowIn .count
   own-steps =
@@ -191,7 +194,8 @@ module _ (d : Drawing) (z : Sizes d) (ix : Index) (f : ℕ) (m : Named d ix f) w
   sums g y =
       let e = ap (λ (s : Sheet). over g (s .cells)) (recycled-is y) in
       let o = ap g own-figure in
-      let t = total-set (λ (c : LiveCell). g (c .figure)) (sheetOf d .cells) rowIn (record { id = getD (idsOf (sheetOf d)) rowIn 0; figure = y }) (record { id = 0; figure = face [] }) in-sheet in
+      let t = total-set (λ (c : LiveCell). g (c .figure)) (sheetOf d .cells) rowIn (record { id = getD (idsOf (sheetOf d)) rowIn 0; figure = y })
+      (record { id = 0; figure = face [] }) in-sheet in
       omega arith
 
   module _ (ks : List Cycle) (r : Roomy (recycled (sheetOf d) f ks)) where
@@ -211,7 +215,8 @@ module _ (d : Drawing) (z : Sizes d) (ix : Index) (f : ℕ) (m : Named d ix f) w
         let h = r .steps in
         omega arith
 
-  pub replacing : (counts : List ℕ) (u : Used) (steps : List ℕ) (row : ℕ) → row ≡ rowIn → Building counts u steps → Roomy (recycled (sheetOf d) f (built counts u steps))
+  pub replacing : (counts : List ℕ) (u : Used) (steps : List ℕ) (row : ℕ) → row ≡ rowIn → Building counts u steps
+      → Roomy (recycled (sheetOf d) f (built counts u steps))
       → Replaces d row counts (u .cycles) steps (u .steps)
   replacing counts u steps row e b r =
       subst (λ (n : ℕ). Replaces d n counts (u .cycles) steps (u .steps)) (sym e)
@@ -234,7 +239,8 @@ module _ (d : Drawing) (z : Sizes d) (ix : Index) (f : ℕ) (m : Named d ix f) w
         stepRoom = omega arith;
       })
 
-  pub replaced-with : (counts : List ℕ) (u : Used) (steps : List ℕ) (row : ℕ) → row ≡ rowIn → (t : Sheet) → t ≡ sheetWithRow (sheetOf d) row (face (built counts u steps))
+  pub replaced-with : (counts : List ℕ) (u : Used) (steps : List ℕ) (row : ℕ) → row ≡ rowIn → (t : Sheet)
+      → t ≡ sheetWithRow (sheetOf d) row (face (built counts u steps))
       → t ≡ recycled (sheetOf d) f (built counts u steps)
   replaced-with counts u steps row e t g =
       g ∙ ap (λ (n : ℕ). sheetWithRow (sheetOf d) n (face (built counts u steps))) e ∙ recycled-is (face (built counts u steps))
@@ -253,7 +259,8 @@ module _ (cycles : List ℕ) (n : ℕ) (ix : Index) (f : ℕ) where
       (finding (h .drawing) (h .sizes) ix f (h .named))
 
   pub spanning-in : NamedIn cycles n ix f → (row : ℕ) → row ≡ rowOf f (take n (ix .ids))
-      → (n ≤ length (ix .cycles)) × ((row < n) × ((total (placesOf 0) (take n (ix .cycles)) ≤ length cycles) × ((total (placesOf 0) (take n (ix .cycles)) ≤ 2048)
+      → (n ≤ length (ix .cycles))
+      × ((row < n) × ((total (placesOf 0) (take n (ix .cycles)) ≤ length cycles) × ((total (placesOf 0) (take n (ix .cycles)) ≤ 2048)
       × (total (placesOf 1) (take (total (placesOf 0) (take n (ix .cycles))) cycles) ≤ 2048))))
   spanning-in h =
       carried
@@ -265,5 +272,6 @@ module _ (cycles : List ℕ) (n : ℕ) (ix : Index) (f : ℕ) where
   pub spanned-in : (row : ℕ) (t : Spans) → row ≡ rowOf f (take n (ix .ids)) → t ≡ spansOf (ix .cycles) n row cycles → SpannedIn cycles n ix f t
   spanned-in row t e g =
       record {
-        every = λ d z m c k. spanned d z ix f m row t (e ∙ ap (λ (j : ℕ). rowOf f (take j (ix .ids))) (sym k)) (g ∙ ap₂ (λ (j : ℕ) (l : List ℕ). spansOf (ix .cycles) j row l) (sym k) (sym c));
+        every = λ d z m c k. spanned d z ix f m row t (e ∙ ap (λ (j : ℕ). rowOf f (take j (ix .ids))) (sym k))
+            (g ∙ ap₂ (λ (j : ℕ) (l : List ℕ). spansOf (ix .cycles) j row l) (sym k) (sym c));
       }

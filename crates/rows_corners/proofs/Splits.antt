@@ -31,7 +31,8 @@ front-about {A} l z i k h g =
     split-at (take k l) i z (omega arith)
     ∙ ap₂ (λ (p : List A) (q : List A). p ++ q) (take-take i k l (omega arith))
     (ap₂ (λ (x : A) (q : List A). x ∷ q) (getD-take k l i z h)
-    (sym (take-all (k - (i + 1)) r (omega arith)) ∙ run-take (k - (i + 1)) (suc i) k l (omega arith) ∙ ap (λ (n : ℕ). take (k - (i + 1)) (drop n l)) (sym (add-one i))))
+    (sym (take-all (k - (i + 1)) r (omega arith)) ∙ run-take (k - (i + 1)) (suc i) k l (omega arith)
+    ∙ ap (λ (n : ℕ). take (k - (i + 1)) (drop n l)) (sym (add-one i))))
 
 -- what is kept of cycles that are read has as many steps as its counts are wide
 pub kept-steps : (bs : List Bool) (ns st : List ℕ) → widthSum ns ≤ length st → total stepCount (kept bs (cyclesFrom ns st)) ≡ widthSum (kept bs ns)
@@ -39,7 +40,9 @@ kept-steps [] ns st h = refl
 kept-steps (b ∷ bs) [] st h = refl
 kept-steps (b ∷ bs) (n ∷ ns) st h = go b (list-steps (n ∷ []) st (omega arith)) (kept-steps bs ns (drop (width n) st) (omega (arith, length-drop (width n) st)))
   where
-    go : (b : Bool) → total stepCount (cycleOf n st ∷ []) ≡ widthSum (n ∷ []) → total stepCount (kept bs (cyclesFrom ns (drop (width n) st))) ≡ widthSum (kept bs ns)
-        → total stepCount (cond b (kept bs (cyclesFrom ns (drop (width n) st))) (cycleOf n st ∷ kept bs (cyclesFrom ns (drop (width n) st)))) ≡ widthSum (cond b (kept bs ns) (n ∷ kept bs ns))
+    go : (b : Bool) → total stepCount (cycleOf n st ∷ []) ≡ widthSum (n ∷ [])
+        → total stepCount (kept bs (cyclesFrom ns (drop (width n) st))) ≡ widthSum (kept bs ns)
+        → total stepCount (cond b (kept bs (cyclesFrom ns (drop (width n) st))) (cycleOf n st ∷ kept bs (cyclesFrom ns (drop (width n) st))))
+        ≡ widthSum (cond b (kept bs ns) (n ∷ kept bs ns))
     go true e f = f
     go false e f = omega arith

@@ -50,7 +50,8 @@ losses-suc (k ∷ ks) (c ∷ cs) zero h g = omega arith
 losses-suc (k ∷ ks) (c ∷ cs) (suc i) h g = let e = losses-suc ks cs i (omega arith) (omega arith) in omega arith
 
 -- one row more
-pub losses-more : (ks cs : List ℕ) (i : ℕ) → i < length ks → i < length cs → (down w : ℕ) → down ≡ lossesIn (take i ks) (take i cs) → w ≡ lossIn (getD ks i 0) (getD cs i 0)
+pub losses-more : (ks cs : List ℕ) (i : ℕ) → i < length ks → i < length cs → (down w : ℕ) → down ≡ lossesIn (take i ks) (take i cs)
+    → w ≡ lossIn (getD ks i 0) (getD cs i 0)
     → down + w ≡ lossesIn (take (i + 1) ks) (take (i + 1) cs)
 losses-more ks cs i h g down w e f =
     ap₂ _+_ e f ∙ sym (losses-suc ks cs i h g) ∙ ap (λ (n : ℕ). lossesIn (take n ks) (take n cs)) (sym (add-one i))

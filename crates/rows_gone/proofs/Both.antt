@@ -29,7 +29,8 @@ one-or-other true false = refl
 one-or-other false true = refl
 one-or-other false false = refl
 
-pub kept-both : (cs : List LiveCell) → Rising (ids cs) → (i a j b n : ℕ) (dead : List Bool) → n ≡ length cs → n ≤ 256 → a ≡ rowOf i (ids cs) → a < n → b ≡ rowOf j (ids cs) → b < n
+pub kept-both : (cs : List LiveCell) → Rising (ids cs) → (i a j b n : ℕ) (dead : List Bool) → n ≡ length cs → n ≤ 256 → a ≡ rowOf i (ids cs) → a < n
+    → b ≡ rowOf j (ids cs) → b < n
     → dead ≡ set (set (replicate 256 false) a true) b true → kept (take n dead) cs ≡ keepIds (neither i j) cs
 kept-both cs r i a j b n dead en hn ea ha eb hb ed =
     let none = replicate 256 false in
@@ -43,7 +44,8 @@ kept-both cs r i a j b n dead en hn ea ha eb hb ed =
     ∙ ap (λ (fs : List Bool). getD fs k false) ed
     ∙ marked-at (set none a true) b k (omega arith)
     ∙ ap₂ _||_ (ap (λ (m : ℕ). eqb m k) eb ∙ row-only (ids cs) r j k (omega arith) (omega arith))
-    (marked-at none a k (omega arith) ∙ ap₂ _||_ (ap (λ (m : ℕ). eqb m k) ea ∙ row-only (ids cs) r i k (omega arith) (omega arith)) (getD-replicate 256 k false false (omega arith)))
+    (marked-at none a k (omega arith) ∙ ap₂ _||_ (ap (λ (m : ℕ). eqb m k) ea ∙ row-only (ids cs) r i k (omega arith) (omega arith))
+    (getD-replicate 256 k false false (omega arith)))
     ∙ one-or-other (eqb i (getD (ids cs) k 0)) (eqb j (getD (ids cs) k 0))
 
 -- a drawing whose cells have changed by f: its rows, and the sheet when some of them go
@@ -66,7 +68,8 @@ module _ (d : Drawing) (z : Sizes d) (w : T (soundDrawing d)) (f : ℕ → Figur
 
 -- a drawing whose cells have changed by f, and then two cells go
 pub dropped-both : (d : Drawing) → Sizes d → (i a j b : ℕ) → Pair d i a j b → (f : ℕ → Figure → Figure) (mid : Drawing) → Sizes mid → Fits mid
-    → sheetOf mid ≡ withEntries (sheetOf d) (reshape f (sheetOf d .cells)) → (dead : List Bool) → dead ≡ set (set (replicate 256 false) a true) b true → (out : Drawing)
+    → sheetOf mid ≡ withEntries (sheetOf d) (reshape f (sheetOf d .cells)) → (dead : List Bool) → dead ≡ set (set (replicate 256 false) a true) b true
+    → (out : Drawing)
     → sheetOf out ≡ withEntries (sheetOf mid) (kept (take (mid .count) dead) (sheetOf mid .cells)) → sheetOf out ≡ remade (neither i j) f (sheetOf d)
 dropped-both d z i a j b p f mid zm gm em dead ed out eo =
     let cs = sheetOf d .cells in

@@ -28,7 +28,8 @@ use Rattle.rows_new.specs.Appends.{remade}
 use Rattle.rows_new.proofs.Appended.{keep-reshape, appended-none}
 
 -- ---- flags that are true in the rows of the ids that p does not keep
-pub kept-by : (p : ℕ → Bool) (fs : List Bool) (cs : List LiveCell) → length cs ≤ length fs → ((k : ℕ) → k < length cs → getD fs k false ≡ not (p (getD (ids cs) k 0)))
+pub kept-by : (p : ℕ → Bool) (fs : List Bool) (cs : List LiveCell) → length cs ≤ length fs
+    → ((k : ℕ) → k < length cs → getD fs k false ≡ not (p (getD (ids cs) k 0)))
     → kept fs cs ≡ keepIds p cs
 kept-by p [] [] h e = refl
 kept-by p [] (c ∷ cs) h e = absurd (omega arith)
@@ -67,7 +68,8 @@ row-only l r i k h g = go (eqb (rowOf i l) k) refl
     go false e = sym (ne-eqb i (getD l k 0) (λ q. rising-apart l r (rowOf i l) k h g (eqb-false (rowOf i l) k e) (row-has i l h ∙ q)))
 
 -- ---- one dead row
-pub kept-others : (cs : List LiveCell) → Rising (ids cs) → (i row n : ℕ) (dead : List Bool) → n ≡ length cs → n ≤ 256 → row ≡ rowOf i (ids cs) → row < n → dead ≡ set (replicate 256 false) row true
+pub kept-others : (cs : List LiveCell) → Rising (ids cs) → (i row n : ℕ) (dead : List Bool) → n ≡ length cs → n ≤ 256 → row ≡ rowOf i (ids cs) → row < n
+    → dead ≡ set (replicate 256 false) row true
     → kept (take n dead) cs ≡ keepIds (others i) cs
 kept-others cs r i row n dead en hn er hr ed =
     let l = length-map cs (λ (c : LiveCell). c .id) in
@@ -85,7 +87,8 @@ kept-others cs r i row n dead en hn er hr ed =
     or-none false = refl
 
 -- ---- a drawing whose cells have changed by f, and then the cell i goes
-pub dropped-row : (d : Drawing) → Sizes d → T (soundDrawing d) → (i row : ℕ) → row ≡ rowOf i (ids (sheetOf d .cells)) → row < d .count → (f : ℕ → Figure → Figure) (mid : Drawing) → Sizes mid → Fits mid
+pub dropped-row : (d : Drawing) → Sizes d → T (soundDrawing d) → (i row : ℕ) → row ≡ rowOf i (ids (sheetOf d .cells)) → row < d .count
+    → (f : ℕ → Figure → Figure) (mid : Drawing) → Sizes mid → Fits mid
     → sheetOf mid ≡ withEntries (sheetOf d) (reshape f (sheetOf d .cells)) → (dead : List Bool) → dead ≡ set (replicate 256 false) row true → (out : Drawing)
     → sheetOf out ≡ withEntries (sheetOf mid) (kept (take (mid .count) dead) (sheetOf mid .cells)) → sheetOf out ≡ remade (others i) f (sheetOf d)
 dropped-row d z w i row er h f mid zm gm em dead ed out eo =
@@ -103,14 +106,16 @@ dropped-row d z w i row er h f mid zm gm em dead ed out eo =
     ∙ ap (withEntries (sheetOf d)) (kept-others ds r i row (mid .count) dead ml (gm .cells) q (omega arith) ed ∙ keep-reshape (others i) f cs)
 
 -- the same, where the row is found in an index
-module _ (d : Drawing) (z : Sizes d) (w : T (soundDrawing d)) (ix : Index) (x : Indexes d ix) (i row : ℕ) (er : row ≡ rowOf i (take (d .count) (ix .ids))) (l : isLive (cellAt (sheetOf d) i) ≡ true) where
+module _ (d : Drawing) (z : Sizes d) (w : T (soundDrawing d)) (ix : Index) (x : Indexes d ix) (i row : ℕ) (er : row ≡ rowOf i (take (d .count) (ix .ids)))
+    (l : isLive (cellAt (sheetOf d) i) ≡ true) where
   pub live-below : row < d .count
   live-below = ltb-true row (d .count) (ap (λ (n : ℕ). ltb n (d .count)) er ∙ live-row d z (sound-fits d w) ix x i ∙ l)
 
   pub row-among : row ≡ rowOf i (ids (sheetOf d .cells))
   row-among = er ∙ ap (rowOf i) (x .ids ∙ ids-same d z (sound-fits d w))
 
-  pub dropped : (f : ℕ → Figure → Figure) (mid : Drawing) → Sizes mid → Fits mid → sheetOf mid ≡ withEntries (sheetOf d) (reshape f (sheetOf d .cells)) → (dead : List Bool) → dead ≡ set (replicate 256 false) row true → (out : Drawing)
+  pub dropped : (f : ℕ → Figure → Figure) (mid : Drawing) → Sizes mid → Fits mid → sheetOf mid ≡ withEntries (sheetOf d) (reshape f (sheetOf d .cells))
+      → (dead : List Bool) → dead ≡ set (replicate 256 false) row true → (out : Drawing)
       → sheetOf out ≡ withEntries (sheetOf mid) (kept (take (mid .count) dead) (sheetOf mid .cells)) → sheetOf out ≡ remade (others i) f (sheetOf d)
   dropped = dropped-row d z w i row row-among live-below
 

@@ -64,7 +64,8 @@ module _ (is : List ℕ) (at : List Bool) where
   pub put-none : (used : ℕ) (xs ys : List ℕ) → LinksPut is at [] used xs ys used xs ys
   put-none used xs ys = record { count = omega arith; lefts = sym (append-nil (take used xs)); rights = sym (append-nil (take used ys)) }
 
-  pub put-more : (ts us : List Passage) (used : ℕ) (xs ys : List ℕ) (r : ℕ) (xs′ ys′ : List ℕ) (q : ℕ) (xs″ ys″ : List ℕ) → LinksPut is at ts used xs ys r xs′ ys′
+  pub put-more : (ts us : List Passage) (used : ℕ) (xs ys : List ℕ) (r : ℕ) (xs′ ys′ : List ℕ) (q : ℕ) (xs″ ys″ : List ℕ)
+      → LinksPut is at ts used xs ys r xs′ ys′
       → LinksPut is at us r xs′ ys′ q xs″ ys″ → LinksPut is at (ts ++ us) used xs ys q xs″ ys″
   put-more ts us used xs ys r xs′ ys′ q xs″ ys″ a b =
       let k = linkKept is at in
@@ -238,7 +239,8 @@ turns-more ks k = flat-append (λ (x : Cycle). passages (stepsOf x)) ks (k ∷ [
 pub cycles-turn : (is : List ℕ) (at : List Bool) (ns st : List ℕ) (j from c : ℕ) → j < length ns → from ≡ widthSum (take j ns) → c ≡ getD ns j 0
     → width c ≤ length (drop from st)
     → (used : ℕ) (xs ys : List ℕ) (k : ℕ) (xs′ ys′ : List ℕ) (r : ℕ) (xs″ ys″ : List ℕ)
-    → LinksPut is at (turnsOf (cyclesFrom (take j ns) st)) used xs ys k xs′ ys′ → LinksPut is at (passages (stepsOf (cycleOf c (drop from st)))) k xs′ ys′ r xs″ ys″
+    → LinksPut is at (turnsOf (cyclesFrom (take j ns) st)) used xs ys k xs′ ys′
+    → LinksPut is at (passages (stepsOf (cycleOf c (drop from st)))) k xs′ ys′ r xs″ ys″
     → LinksPut is at (turnsOf (cyclesFrom (take (j + 1) ns) st)) used xs ys r xs″ ys″ × (r ≤ k + width c)
 cycles-turn is at ns st j from c h f e w used xs ys k xs′ ys′ r xs″ ys″ p q =
     let ks = cyclesFrom (take j ns) st in

@@ -68,15 +68,18 @@ module _ {A : Type 0} where
       ap (λ (n : ℕ). take n (set out i v)) (add-one i) ∙ take-suc-set out i v h ∙ ap (λ (l : List A). l ++ (v ∷ [])) e ∙ sym g
 
 edge-suc : (i j : ℕ) (ks ss es : List ℕ) → j < length ks → j < length ss → j < length es
-    → edgeMarks i (take (suc j) ks) (take (suc j) ss) (take (suc j) es) ≡ edgeMarks i (take j ks) (take j ss) (take j es) ++ (endsThere i (getD ks j 0) (getD ss j 0) (getD es j 0) ∷ [])
+    → edgeMarks i (take (suc j) ks) (take (suc j) ss) (take (suc j) es) ≡ edgeMarks i (take j ks) (take j ss) (take j es)
+    ++ (endsThere i (getD ks j 0) (getD ss j 0) (getD es j 0) ∷ [])
 edge-suc i j [] ss es h g f = absurd (omega arith)
 edge-suc i j (k ∷ ks) [] es h g f = absurd (omega arith)
 edge-suc i j (k ∷ ks) (s ∷ ss) [] h g f = absurd (omega arith)
 edge-suc i zero (k ∷ ks) (s ∷ ss) (e ∷ es) h g f = refl
-edge-suc i (suc j) (k ∷ ks) (s ∷ ss) (e ∷ es) h g f = ap (λ (r : List Bool). endsThere i k s e ∷ r) (edge-suc i j ks ss es (omega arith) (omega arith) (omega arith))
+edge-suc i (suc j) (k ∷ ks) (s ∷ ss) (e ∷ es) h g f =
+    ap (λ (r : List Bool). endsThere i k s e ∷ r) (edge-suc i j ks ss es (omega arith) (omega arith) (omega arith))
 
 edge-more : (i j : ℕ) (ks ss es : List ℕ) → j < length ks → j < length ss → j < length es
-    → edgeMarks i (take (j + 1) ks) (take (j + 1) ss) (take (j + 1) es) ≡ edgeMarks i (take j ks) (take j ss) (take j es) ++ (endsThere i (getD ks j 0) (getD ss j 0) (getD es j 0) ∷ [])
+    → edgeMarks i (take (j + 1) ks) (take (j + 1) ss) (take (j + 1) es) ≡ edgeMarks i (take j ks) (take j ss) (take j es)
+    ++ (endsThere i (getD ks j 0) (getD ss j 0) (getD es j 0) ∷ [])
 edge-more i j ks ss es h g f = ap (λ (n : ℕ). edgeMarks i (take n ks) (take n ss) (take n es)) (add-one j) ∙ edge-suc i j ks ss es h g f
 
 -- the first i rows have the marks of their edges
@@ -95,23 +98,27 @@ edges-turn {id} {ks} {ss} {es} {i} {ms} m h hk hs he b e =
     }
 
 cell-suc : (ms : List Bool) (cs : List ℕ) (bs : List Bool) (j : ℕ) → j < length ms → j < length cs
-    → cellMarks (take (suc j) ms) (take (suc j) cs) bs ≡ cellMarks (take j ms) (take j cs) bs ++ ((getD ms j false || anyOf (take (getD cs j 0) (drop (sumOf (take j cs)) bs))) ∷ [])
+    → cellMarks (take (suc j) ms) (take (suc j) cs) bs ≡ cellMarks (take j ms) (take j cs) bs
+    ++ ((getD ms j false || anyOf (take (getD cs j 0) (drop (sumOf (take j cs)) bs))) ∷ [])
 cell-suc [] cs bs j h g = absurd (omega arith)
 cell-suc (m ∷ ms) [] bs j h g = absurd (omega arith)
 cell-suc (m ∷ ms) (c ∷ cs) bs zero h g = refl
 cell-suc (m ∷ ms) (c ∷ cs) bs (suc j) h g =
     ap (λ (r : List Bool). (m || anyOf (take c bs)) ∷ r)
     (cell-suc ms cs (drop c bs) j (omega arith) (omega arith)
-    ∙ ap (λ (l : List Bool). cellMarks (take j ms) (take j cs) (drop c bs) ++ ((getD ms j false || anyOf (take (getD cs j 0) l)) ∷ [])) (drop-drop (sumOf (take j cs)) c bs))
+    ∙ ap (λ (l : List Bool). cellMarks (take j ms) (take j cs) (drop c bs) ++ ((getD ms j false || anyOf (take (getD cs j 0) l)) ∷ []))
+    (drop-drop (sumOf (take j cs)) c bs))
 
 pub cell-more : (ms : List Bool) (cs : List ℕ) (bs : List Bool) (j : ℕ) → j < length ms → j < length cs → (from : ℕ) → from ≡ sumOf (take j cs)
-    → cellMarks (take (j + 1) ms) (take (j + 1) cs) bs ≡ cellMarks (take j ms) (take j cs) bs ++ ((getD ms j false || anyOf (take (getD cs j 0) (drop from bs))) ∷ [])
+    → cellMarks (take (j + 1) ms) (take (j + 1) cs) bs ≡ cellMarks (take j ms) (take j cs) bs
+    ++ ((getD ms j false || anyOf (take (getD cs j 0) (drop from bs))) ∷ [])
 cell-more ms cs bs j h g from e =
     ap (λ (n : ℕ). cellMarks (take n ms) (take n cs) bs) (add-one j) ∙ cell-suc ms cs bs j h g
     ∙ ap (λ (n : ℕ). cellMarks (take j ms) (take j cs) bs ++ ((getD ms j false || anyOf (take (getD cs j 0) (drop n bs))) ∷ [])) (sym e)
 
 -- ---- sums that run along
-module _ {A : Type 0} (f : A → ℕ) (l : List A) (n i : ℕ) (z : A) (h : n ≤ length l) (k : i < n) (at : ℕ) (e : at ≡ total f (take i l)) (w : ℕ) (g : w ≡ f (getD l i z)) where
+module _ {A : Type 0} (f : A → ℕ) (l : List A) (n i : ℕ) (z : A) (h : n ≤ length l) (k : i < n) (at : ℕ) (e : at ≡ total f (take i l)) (w : ℕ)
+    (g : w ≡ f (getD l i z)) where
   pub sum-on : at + w ≡ total f (take (i + 1) l)
   sum-on = ap₂ _+_ e g ∙ sym (sum-more f l i z (omega arith))
 

@@ -42,7 +42,8 @@ pub cell-done : (d res : Drawing) (bs : List Position) (s : Shape) → res ≡ w
 cell-done d res bs s e = ap (λ (q : Drawing). withCells q (d .next + 1) (d .count + 1) (set (q .cells) (d .count) (record { id = d .next; shape = s }))) e
 
 -- an edge's bends and its cell
-pub edge-grown : (d : Drawing) → Sizes d → (x : Figure) → CellRoom d x → figureCycles x ≡ [] → (r : Drawing) (s : Shape) → s ≡ shapeOf x → r ≡ withCell (withMoreBends d (figureBends x)) s
+pub edge-grown : (d : Drawing) → Sizes d → (x : Figure) → CellRoom d x → figureCycles x ≡ [] → (r : Drawing) (s : Shape) → s ≡ shapeOf x
+    → r ≡ withCell (withMoreBends d (figureBends x)) s
     → Grew d x r
 edge-grown d z x h e r s t f =
     let bs = figureBends x in
@@ -52,7 +53,8 @@ edge-grown d z x h e r s t f =
     (append-edge d z (h .fits) (h .cells) x (paste (d .bends) (bendTotal d) bs (length bs)) e
     (length-paste (d .bends) (bendTotal d) bs (length bs) (omega arith) (omega arith) ∙ z .bends)
     b
-    (take-paste (d .bends) (bendTotal d) bs (length bs) (omega arith) (omega arith) ∙ ap (λ (k : List Position). take (bendTotal d) (d .bends) ++ k) (take-length bs)))
+    (take-paste (d .bends) (bendTotal d) bs (length bs) (omega arith) (omega arith) ∙ ap (λ (k : List Position). take (bendTotal d) (d .bends) ++ k)
+    (take-length bs)))
 
 -- the k-th of the positions in bytes
 pub positions-get : (s : List ℕ) (at n k : ℕ) (z : Position) → k < n → getD (positionsAt s at n) k z ≡ positionAt s (at + 16 * k)

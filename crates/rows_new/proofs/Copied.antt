@@ -83,7 +83,8 @@ module _ (d : Drawing) (z : Sizes d) (f : Fits d) (row : ℕ) (h : row < d .coun
       let q = spread entryBends (drop (suc row) xs) in
       let t = drop (length (spread entryBends xs)) (d .bends) in
       ap (runAt (bendSum (take row (d .cells))) (length b))
-      (begins-split (stands d z f .bends) ∙ ap (λ (l : List Position). l ++ t) bends-split ∙ append-assoc p (b ++ q) t ∙ ap (λ (l : List Position). p ++ l) (append-assoc b q t))
+      (begins-split (stands d z f .bends) ∙ ap (λ (l : List Position). l ++ t) bends-split ∙ append-assoc p (b ++ q) t
+      ∙ ap (λ (l : List Position). p ++ l) (append-assoc b q t))
       ∙ ap (take (length b)) (drop-at p (b ++ (q ++ t)) (bendSum (take row (d .cells))) before-length)
       ∙ take-at b (q ++ t) (length b) refl
 
@@ -109,7 +110,8 @@ pub row-lookup : (cs : List LiveCell) (i : ℕ) (z : LiveCell) → rowOf i (ids 
 row-lookup [] i z h = absurd (omega arith)
 row-lookup (c ∷ cs) i z h = go (eqb (c .id) i) h (row-lookup cs i z)
   where
-    go : (b : Bool) → cond b 0 (suc (rowOf i (ids cs))) < suc (length cs) → (rowOf i (ids cs) < length cs → lookup cs i ≡ some (getD cs (rowOf i (ids cs)) z .figure))
+    go : (b : Bool) → cond b 0 (suc (rowOf i (ids cs))) < suc (length cs)
+        → (rowOf i (ids cs) < length cs → lookup cs i ≡ some (getD cs (rowOf i (ids cs)) z .figure))
         → someIf b (c .figure) (lookup cs i) ≡ some (getD (c ∷ cs) (cond b 0 (suc (rowOf i (ids cs)))) z .figure)
     go true u ih = refl
     go false u ih = ih (omega arith)
@@ -164,7 +166,8 @@ module _ (d : Drawing) (z : Sizes d) (row n : ℕ) (h : CopiesRoom d row n) wher
       let m = h .cells in
       let g = grown-sizes .bends in
       let fk : spread entryCycles (ys ++ new) ≡ spread entryCycles ys =
-      flat-append entryCycles ys new ∙ ap (λ (k : List Cycle). spread entryCycles ys ++ k) (copy-cycles (sheetOf d .next) x n (no-cycles x (h .plain))) ∙ append-nil (spread entryCycles ys)
+      flat-append entryCycles ys new ∙ ap (λ (k : List Cycle). spread entryCycles ys ++ k) (copy-cycles (sheetOf d .next) x n (no-cycles x (h .plain)))
+      ∙ append-nil (spread entryCycles ys)
       in
       let fb : spread entryBends (ys ++ new) ≡ spread entryBends ys ++ bs =
       flat-append entryBends ys new ∙ ap (λ (k : List Position). spread entryBends ys ++ k) (copy-bends (sheetOf d .next) x n)
@@ -173,14 +176,16 @@ module _ (d : Drawing) (z : Sizes d) (row n : ℕ) (h : CopiesRoom d row n) wher
         cells =
             take-paste (d .cells) (d .count) (copyCells (d .next) (shapeOf x) n) n (omega arith) (omega arith)
             ∙ ap₂ (λ (a b : List Cell). a ++ b) (s .cells)
-            (take-all n (copyCells (d .next) (shapeOf x) n) (omega arith) ∙ ap (λ (i : ℕ). copyCells i (shapeOf x) n) (sym (next-is d)) ∙ copy-heads (sheetOf d .next) x n)
+            (take-all n (copyCells (d .next) (shapeOf x) n) (omega arith) ∙ ap (λ (i : ℕ). copyCells i (shapeOf x) n) (sym (next-is d))
+            ∙ copy-heads (sheetOf d .next) x n)
             ∙ sym (map-append entryCell ys new);
         cycles = rw fk (s .cycles);
         steps = rw fk (s .steps);
         bends =
             rw fb
             (begins-more (grownBy .bends) bs (bendTotal d) (bend-total d ys s) (omega arith)
-            (take-paste (d .bends) (bendTotal d) bs (length bs) (omega arith) (omega arith) ∙ ap (λ (k : List Position). take (bendTotal d) (d .bends) ++ k) (take-length bs))
+            (take-paste (d .bends) (bendTotal d) bs (length bs) (omega arith) (omega arith) ∙ ap (λ (k : List Position). take (bendTotal d) (d .bends) ++ k)
+            (take-length bs))
             (s .bends));
         real = ap allReal fk ∙ s .real;
       }
@@ -193,7 +198,8 @@ module _ (d : Drawing) (z : Sizes d) (row n : ℕ) (h : CopiesRoom d row n) wher
       e
       ∙ ap₂ (λ (i j : ℕ). paste (d .bends) i (repeated n (runAt j k (d .bends))) (n * k)) p q
       ∙ ap (λ (m : ℕ). paste (d .bends) (bendTotal d) (repeated n (runAt (bendSum (take row (d .cells))) m (d .bends))) (n * m)) r
-      ∙ ap₂ (λ (b : List Position) (m : ℕ). paste (d .bends) (bendTotal d) (repeated n b) m) (row-bends d z (h .fits) row (h .row)) (sym (repeated-length n (figureBends x)))
+      ∙ ap₂ (λ (b : List Position) (m : ℕ). paste (d .bends) (bendTotal d) (repeated n b) m) (row-bends d z (h .fits) row (h .row))
+      (sym (repeated-length n (figureBends x)))
 
   -- the bends of the copies, and their cells
   pub copies-grown : (l : List Position) (s : Shape) (cs : List Cell)

@@ -36,7 +36,8 @@ module _ {A : Type 0} where
   repeated-at zero l j z h = let e = zero-mul (length l) in absurd (omega arith)
   repeated-at (suc n) l j z h = go (decLt j (length l)) (repeated-at n l)
     where
-      go : Dec (j < length l) → ((i : ℕ) (y : A) → i < n * length l → getD (repeated n l) i y ≡ getD l (i % length l) y) → getD (repeated (suc n) l) j z ≡ getD l (j % length l) z
+      go : Dec (j < length l) → ((i : ℕ) (y : A) → i < n * length l → getD (repeated n l) i y ≡ getD l (i % length l) y)
+          → getD (repeated (suc n) l) j z ≡ getD l (j % length l) z
       go (yes u) ih = List·getD-append l (repeated n l) z j u ∙ ap (λ (i : ℕ). getD l i z) (sym (mod-eq-of-lt u))
       go (no u) ih =
           let i : ℕ = j - length l in
@@ -69,7 +70,8 @@ paste-before l at s n i z h g =
     ∙ getD-take at l i z h
 
 -- a turn of the loop that puts the bends: the run is read where the copies go, before them
-pub bend-more : {A : Type 0} (l res : List A) (at n first k j : ℕ) (z : A) → res ≡ paste l at (repeated n (runAt first k l)) j → first + k ≤ at → at + n * k ≤ length l → j < n * k
+pub bend-more : {A : Type 0} (l res : List A) (at n first k j : ℕ) (z : A) → res ≡ paste l at (repeated n (runAt first k l)) j → first + k ≤ at
+    → at + n * k ≤ length l → j < n * k
     → set res (at + j) (getD res (first + j % k) z) ≡ paste l at (repeated n (runAt first k l)) (j + 1)
 bend-more {A} l res at n first k j z e h g t =
     let s = repeated n (runAt first k l) in
@@ -77,7 +79,8 @@ bend-more {A} l res at n first k j z e h g t =
     let m = repeated-run-length n first k l r in
     let p = mod-lt j (some-place n k j t) in
     ap₂ (λ (q : List A) (w : A). set q (at + j) w) e
-    (ap (λ (q : List A). getD q (first + j % k) z) e ∙ paste-before l at s j (first + j % k) z (omega arith) (omega arith) ∙ sym (repeated-run n first k l r j z t))
+    (ap (λ (q : List A). getD q (first + j % k) z) e ∙ paste-before l at s j (first + j % k) z (omega arith) (omega arith)
+    ∙ sym (repeated-run n first k l r j z t))
     ∙ paste-suc l at s j z (omega arith) (omega arith)
     ∙ ap (paste l at s) (sym (add-one j))
 
@@ -93,7 +96,8 @@ copies-at i s (suc n) (suc j) z h =
     copies-at (suc i) s n j z (omega arith) ∙ ap (λ (k : ℕ). record { id = k; shape = s }) e
 
 -- a turn of the loop that puts the cells
-pub cells-more : (cells res : List Cell) (at next : ℕ) (s : Shape) (n i id : ℕ) → res ≡ paste cells at (copyCells next s n) i → at + i < length cells → i < n → id ≡ next + i
+pub cells-more : (cells res : List Cell) (at next : ℕ) (s : Shape) (n i id : ℕ) → res ≡ paste cells at (copyCells next s n) i → at + i < length cells → i < n
+    → id ≡ next + i
     → set res (at + i) (record { id = id; shape = s }) ≡ paste cells at (copyCells next s n) (i + 1)
 cells-more cells res at next s n i id e h k g =
     let c : Cell = record { id = id; shape = s } in

@@ -89,10 +89,12 @@ module _ (d : Drawing) (counts : List ℕ) (n : ℕ) (steps : List ℕ) (m : ℕ
         })
         (subst (λ (l : List ℕ). cycleTotal d + length l ≤ 512) (sym numbers-are) (omega arith))
         (subst (λ (l : List ℕ). take (cycleTotal d + length l) cy ≡ take (cycleTotal d) (d .cycles) ++ l) (sym numbers-are)
-        (take-paste (d .cycles) (cycleTotal d) ns (length ns) (omega arith) (omega arith) ∙ ap (λ (l : List ℕ). take (cycleTotal d) (d .cycles) ++ l) (take-length ns)))
+        (take-paste (d .cycles) (cycleTotal d) ns (length ns) (omega arith) (omega arith) ∙ ap (λ (l : List ℕ). take (cycleTotal d) (d .cycles) ++ l)
+        (take-length ns)))
         (subst (λ (l : List ℕ). stepTotal d + length l ≤ 2048) (sym places-are) (omega arith))
         (subst (λ (l : List ℕ). take (stepTotal d + length l) sp ≡ take (stepTotal d) (d .steps) ++ l) (sym places-are)
-        (take-paste (d .steps) (stepTotal d) st (length st) (omega arith) (omega arith) ∙ ap (λ (l : List ℕ). take (stepTotal d) (d .steps) ++ l) (take-length st)))
+        (take-paste (d .steps) (stepTotal d) st (length st) (omega arith) (omega arith) ∙ ap (λ (l : List ℕ). take (stepTotal d) (d .steps) ++ l)
+        (take-length st)))
         (omega arith) (no-more (d .bends) (bendTotal d))
         (cycles-real ns steps wide))
 
@@ -102,7 +104,8 @@ held-width ks counts n steps m h =
     ap widthSum (h .lengths) ∙ width-sum ks (h .real) ∙ ap length (sym (h .places)) ∙ length-take-le m steps (h .placesRoom)
 
 -- what is asked where the arrays hold the cycles ks; the face's cycles are then ks, by `held-cycles`
-pub face-room : (d : Drawing) (ks : List Cycle) (counts : List ℕ) (n : ℕ) (steps : List ℕ) (m : ℕ) → Held ks counts n steps m → CellRoom d (face ks) → length counts ≡ 512 → length steps ≡ 2048
+pub face-room : (d : Drawing) (ks : List Cycle) (counts : List ℕ) (n : ℕ) (steps : List ℕ) (m : ℕ) → Held ks counts n steps m → CellRoom d (face ks)
+    → length counts ≡ 512 → length steps ≡ 2048
     → FaceRoom d counts n steps m
 face-room d ks counts n steps m h r p q =
     record {

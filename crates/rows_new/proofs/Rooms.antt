@@ -59,7 +59,8 @@ numbered-length i (x ∷ xs) = ap suc (numbered-length (suc i) xs)
 
 -- ---- room
 -- questions 7 and 8 of a result that is rebuilt
-pub room-rebuilt : (p : ℕ → Bool) (f : ℕ → Figure → Figure) (new : List Figure) (s : Sheet) → T (leb (rebuild p f new s .next) idsEnd) → T (ceilings (rebuild p f new s .cells))
+pub room-rebuilt : (p : ℕ → Bool) (f : ℕ → Figure → Figure) (new : List Figure) (s : Sheet) → T (leb (rebuild p f new s .next) idsEnd)
+    → T (ceilings (rebuild p f new s .cells))
     → RoomIn (remade p f s) new
 room-rebuilt p f new s h g = record { ids = h; sizes = g }
 

@@ -19,7 +19,8 @@ module _ {A : Type 0} where
   getD-reverse [] k z h = absurd (omega arith)
   getD-reverse (x ∷ l) k z h = ap (λ (q : List A). getD q k z) (reverseAux-eq l (x ∷ [])) ∙ go (decLt k (length l)) (getD-reverse l k z)
     where
-      go : Dec (k < length l) → (k < length l → getD (reverse l) k z ≡ getD l (length l - 1 - k) z) → getD (reverse l ++ (x ∷ [])) k z ≡ getD (x ∷ l) (suc (length l) - 1 - k) z
+      go : Dec (k < length l) → (k < length l → getD (reverse l) k z ≡ getD l (length l - 1 - k) z)
+          → getD (reverse l ++ (x ∷ [])) k z ≡ getD (x ∷ l) (suc (length l) - 1 - k) z
       go (yes u) ih =
           let n = length-reverse l in
           let e : suc (length l - 1 - k) ≡ suc (length l) - 1 - k = omega arith in
@@ -115,7 +116,9 @@ module _ (bs : List Position) (r : Runs) (h : InRange r) (size : length bs ≡ 2
           let n = first-length in
           List·getD-append (turn (r .turned) (runAt (r .first) (r .count) bs)) after z k (omega arith)
           ∙ turn-at (r .first) (r .count) bs (omega (arith, h .one)) (r .turned) k z u
-          ∙ ap (λ (b : Bool). getD bs (cond b (inRun (r .turned) (r .first) (r .count) k) (cond (ltb k (beforeSecond r)) 0 (inRun (r .turned2) (r .first2) (r .count2) (k - beforeSecond r)))) z) (sym (lt-ltb k (r .count) u))
+          ∙ ap (λ (b : Bool). getD bs
+          (cond b (inRun (r .turned) (r .first) (r .count) k)
+          (cond (ltb k (beforeSecond r)) 0 (inRun (r .turned2) (r .first2) (r .count2) (k - beforeSecond r)))) z) (sym (lt-ltb k (r .count) u))
           ∙ sym (other (r .middle) (r .at) (getD bs (runPlace r k) z) (omega arith))
       go (no u) =
           let n = first-length in
@@ -126,7 +129,9 @@ module _ (bs : List Position) (r : Runs) (h : InRange r) (size : length bs ≡ 2
           ∙ getD-append-add (turn (r .turned) (runAt (r .first) (r .count) bs)) after j z
           ∙ second-at (r .at) z (r .count) bs (r .turned2) (r .first2) (r .count2) (omega (arith, h .two)) (r .middle) j (omega arith)
           ∙ ap (λ (i : ℕ). runBend r i (getD bs (cond (ltb i (beforeSecond r)) 0 (inRun (r .turned2) (r .first2) (r .count2) (i - beforeSecond r))) z)) f
-          ∙ ap (λ (b : Bool). runBend r k (getD bs (cond b (inRun (r .turned) (r .first) (r .count) k) (cond (ltb k (beforeSecond r)) 0 (inRun (r .turned2) (r .first2) (r .count2) (k - beforeSecond r)))) z)) (sym (le-ltb k (r .count) (omega arith)))
+          ∙ ap (λ (b : Bool). runBend r k
+          (getD bs (cond b (inRun (r .turned) (r .first) (r .count) k)
+          (cond (ltb k (beforeSecond r)) 0 (inRun (r .turned2) (r .first2) (r .count2) (k - beforeSecond r)))) z)) (sym (le-ltb k (r .count) (omega arith)))
 
 -- ---- for those who make runs
 module _ {A : Type 0} where

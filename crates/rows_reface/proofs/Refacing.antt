@@ -31,7 +31,8 @@ module _ (d : Drawing) (z : Sizes d) (i a j b f : ℕ) (counts : List ℕ) (u : 
   -- the sheet that is left
   left-is : sheetOf mid ≡ withEntries (sheetOf d) (keepIds (neither i j) (sheetOf d .cells))
   left-is =
-      dropped-both d z i a j b (w .pair) asItIs d z (sound-fits d (w .pair .sound)) (ap (withEntries (sheetOf d)) (sym (reshaped-none (sheetOf d .cells)))) dead ed mid em
+      dropped-both d z i a j b (w .pair) asItIs d z (sound-fits d (w .pair .sound)) (ap (withEntries (sheetOf d)) (sym (reshaped-none (sheetOf d .cells)))) dead
+      ed mid em
       ∙ ap (withEntries (sheetOf d)) (reshaped-none (keepIds (neither i j) (sheetOf d .cells)))
 
   left-rises : Rising (ids (sheetOf mid .cells))
@@ -63,5 +64,6 @@ module _ (d : Drawing) (z : Sizes d) (i a j b f : ℕ) (counts : List ℕ) (u : 
   pub left-room : Roomy (recycled (sheetOf mid) f (built counts u steps))
   left-room = subst Roomy (sym left-with) (w .room)
 
-  pub refaced : (s : Sheet) → s ≡ recycled (sheetOf mid) f (built counts u steps) → s ≡ rebuild (neither i j) (replaced f (face (built counts u steps))) [] (sheetOf d)
+  pub refaced : (s : Sheet) → s ≡ recycled (sheetOf mid) f (built counts u steps)
+      → s ≡ rebuild (neither i j) (replaced f (face (built counts u steps))) [] (sheetOf d)
   refaced s e = e ∙ left-with

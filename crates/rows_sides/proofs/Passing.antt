@@ -16,7 +16,8 @@ use Rattle.rows_marks.proofs.Faces.{cycles-snoc}
 pub cycles-more : (ns : List ℕ) (j from c : ℕ) (st : List ℕ) → j < length ns → from ≡ widthSum (take j ns) → c ≡ getD ns j 0
     → cyclesFrom (take (j + 1) ns) st ≡ cyclesFrom (take j ns) st ++ (cycleOf c (drop from st) ∷ [])
 cycles-more ns j from c st h f e =
-    rw (add-one, take-suc ns j 0 h) (cycles-snoc (take j ns) (getD ns j 0) st ∙ ap₂ (λ (k n : ℕ). cyclesFrom (take j ns) st ++ (cycleOf k (drop n st) ∷ [])) (sym e) (sym f))
+    rw (add-one, take-suc ns j 0 h) (cycles-snoc (take j ns) (getD ns j 0) st ∙ ap₂ (λ (k n : ℕ). cyclesFrom (take j ns) st ++ (cycleOf k (drop n st) ∷ []))
+    (sym e) (sym f))
 
 pub from-more : (ns : List ℕ) (j from c : ℕ) → j < length ns → from ≡ widthSum (take j ns) → c ≡ getD ns j 0 → from + width c ≡ widthSum (take (j + 1) ns)
 from-more ns j from c h f e = ap₂ (λ (a k : ℕ). a + width k) f e ∙ sym (sum-more width ns j 0 h)

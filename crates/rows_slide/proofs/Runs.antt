@@ -175,7 +175,8 @@ module _ (flags : List Bool) (counts : List ℕ) (n : ℕ) (hn : n ≤ cellsMost
 
     pub stretch-turn : Turned 0 (take n flags) (take n counts) l₀ at to l (s .next) (s .gone) (s .stay)
     stretch-turn =
-        places-turn 0 (take n flags) (take n counts) both-first l₀ (omega arith) i at to l p (s .mid - i) (s .next - s .mid) (s .mid) (s .next) to-mid to-next next-in
+        places-turn 0 (take n flags) (take n counts) both-first l₀ (omega arith) i at to l p (s .mid - i) (s .next - s .mid) (s .mid)
+        (s .next) to-mid to-next next-in
         dead-run living-run (s .gone) (s .stay) gone-is stay-is
 
   pub stretch-end : {A : Type 0} (l₀ : List A) (most : ℕ) → total (placesOf 0) (take n counts) ≤ most → length l₀ ≡ most → (i at to : ℕ) (l : List A) → i ≡ n

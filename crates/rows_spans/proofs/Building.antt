@@ -46,7 +46,8 @@ cycle-same zero s t e = ap lone (sym (getD-take 1 s 0 0 (omega arith)) ∙ ap (�
 cycle-same (suc c) s t e = ap (λ (l : List ℕ). path (map halfedgeOf l)) e
 
 -- the arrays hold what is read from them
-pub held : (counts : List ℕ) (n : ℕ) (st : List ℕ) → n ≤ length counts → widthSum (take n counts) ≤ length st → Held (cyclesFrom (take n counts) st) counts n st (widthSum (take n counts))
+pub held : (counts : List ℕ) (n : ℕ) (st : List ℕ) → n ≤ length counts → widthSum (take n counts) ≤ length st
+    → Held (cyclesFrom (take n counts) st) counts n st (widthSum (take n counts))
 held counts n st h k =
     record {
       lengths = sym (numbers (take n counts) st k);
@@ -101,7 +102,8 @@ module _ (counts : List ℕ) (u : Used) (steps : List ℕ) (b : Building counts 
   built-set at s h = built-same (set steps at s) (length-set steps at s) (take-set-le (u .steps) steps at s h)
 
   -- a run copied to places that are not in use
-  pub built-paste : (at : ℕ) (src : List ℕ) (n : ℕ) → u .steps ≤ at → at + n ≤ length steps → n ≤ length src → Built (built counts u steps) counts u (paste steps at src n)
+  pub built-paste : (at : ℕ) (src : List ℕ) (n : ℕ) → u .steps ≤ at → at + n ≤ length steps → n ≤ length src
+      → Built (built counts u steps) counts u (paste steps at src n)
   built-paste at src n h k l =
       built-same (paste steps at src n) (length-paste steps at src n (omega arith) l)
       (sym (run-take (u .steps) 0 at (paste steps at src n) (omega arith)) ∙ ap (take (u .steps)) (paste-front steps at src n (omega arith) l)
@@ -127,7 +129,8 @@ module _ (counts : List ℕ) (u : Used) (steps : List ℕ) (b : Building counts 
             };
       }
 
-  pub pushed-set : (c : ℕ) (st : List ℕ) → u .cycles < length counts → u .steps + width c ≤ length steps → length st ≡ length steps → take (u .steps) st ≡ take (u .steps) steps
+  pub pushed-set : (c : ℕ) (st : List ℕ) → u .cycles < length counts → u .steps + width c ≤ length steps → length st ≡ length steps
+      → take (u .steps) st ≡ take (u .steps) steps
       → Built (built counts u steps ++ (cycleOf c (drop (u .steps) st) ∷ [])) (set counts (u .cycles) c) (moreCycle u (width c)) st
   pushed-set c st hc hs ls es =
       pushed c (set counts (u .cycles) c) st hc hs (length-set counts (u .cycles) c) ls
@@ -147,8 +150,10 @@ module _ (counts : List ℕ) (u : Used) (steps : List ℕ) (b : Building counts 
       → Built (built counts u steps ++ (path (map halfedgeOf (take m (drop (u .steps) steps))) ∷ [])) (set counts (u .cycles) m) (moreCycle u m) steps
   pushed-path m h hc hs =
       let w = width-some m h in
-      subst (λ (k : ℕ). Built (built counts u steps ++ (path (map halfedgeOf (take m (drop (u .steps) steps))) ∷ [])) (set counts (u .cycles) m) (moreCycle u k) steps) w
-      (subst (λ (k : Cycle). Built (built counts u steps ++ (k ∷ [])) (set counts (u .cycles) m) (moreCycle u (width m)) steps) (cycle-path m (drop (u .steps) steps) h)
+      subst (λ (k : ℕ). Built (built counts u steps ++ (path (map halfedgeOf (take m (drop (u .steps) steps))) ∷ [])) (set counts (u .cycles) m)
+      (moreCycle u k) steps) w
+      (subst (λ (k : Cycle). Built (built counts u steps ++ (k ∷ [])) (set counts (u .cycles) m) (moreCycle u (width m)) steps)
+      (cycle-path m (drop (u .steps) steps) h)
       (pushed-set m steps hc (omega arith) refl refl))
 
   -- a cycle copied from other places
@@ -179,7 +184,8 @@ module _ (counts : List ℕ) (u : Used) (steps : List ℕ) (b : Building counts 
   kept-room true e h g = absurd (false≢true (sym e))
   kept-room false e h g = (omega arith, omega arith)
 
-  pub copied : (skip : Bool) → skip ≡ false → u .cycles < length counts → u .steps + width c ≤ length steps → width c ≤ length src → (w at : ℕ) (st : List ℕ) → w ≡ width c → at ≡ u .steps + w
+  pub copied : (skip : Bool) → skip ≡ false → u .cycles < length counts → u .steps + width c ≤ length steps → width c ≤ length src → (w at : ℕ) (st : List ℕ)
+      → w ≡ width c → at ≡ u .steps + w
       → st ≡ paste steps (u .steps) src w
       → (record { cycles = u .cycles + 1; steps = at } ≡ after u skip c)
       × Built (built counts u steps ++ cond skip [] (cycleOf c src ∷ [])) (set counts (u .cycles) c) (record { cycles = u .cycles + 1; steps = at }) st
@@ -188,7 +194,8 @@ module _ (counts : List ℕ) (u : Used) (steps : List ℕ) (b : Building counts 
       let q : at ≡ u .steps + (width c + 0) = omega arith in
       let r : u .steps + width c ≡ at = omega arith in (
         (λ i. record { cycles = u .cycles + 1; steps = q i }),
-        subst₂ (λ (k : ℕ) (l : List ℕ). Built (built counts u steps ++ (cycleOf c src ∷ [])) (set counts (u .cycles) c) (record { cycles = u .cycles + 1; steps = k }) l) r
+        subst₂ (λ (k : ℕ) (l : List ℕ). Built (built counts u steps ++ (cycleOf c src ∷ [])) (set counts (u .cycles) c)
+            (record { cycles = u .cycles + 1; steps = k }) l) r
             (ap (paste steps (u .steps) src) (sym ew) ∙ sym es) (pushed-copy counts u steps b c src hc hs hl),
       )
 
@@ -197,20 +204,24 @@ module _ {A : Type 0} (ms : List Bool) (l : List A) (i k : ℕ) (h : i ≤ k) (h
   kept-split =
       let e : k ≡ i + (k - i) = omega arith in
       ap (λ (n : ℕ). kept (take n ms) (take n l)) e ∙ ap₂ kept (take-add i (k - i) ms) (take-add i (k - i) l)
-      ∙ kept-append (take i ms) (take (k - i) (drop i ms)) (take i l) (take (k - i) (drop i l)) (length-take-le i ms (omega arith) ∙ sym (length-take-le i l (omega arith)))
+      ∙ kept-append (take i ms) (take (k - i) (drop i ms)) (take i l) (take (k - i) (drop i l))
+      (length-take-le i ms (omega arith) ∙ sym (length-take-le i l (omega arith)))
 
   kept-fewer : length (kept (take i ms) (take i l)) ≤ length (kept (take k ms) (take k l))
   kept-fewer =
       let e = ap length kept-split ∙ length-append (kept (take i ms) (take i l)) (kept (take (k - i) (drop i ms)) (take (k - i) (drop i l))) in
       omega arith
 
-kept-narrower : (ms : List Bool) (l : List ℕ) (i k : ℕ) → i ≤ k → k ≤ length ms → k ≤ length l → widthSum (kept (take i ms) (take i l)) ≤ widthSum (kept (take k ms) (take k l))
+kept-narrower : (ms : List Bool) (l : List ℕ) (i k : ℕ) → i ≤ k → k ≤ length ms → k ≤ length l
+    → widthSum (kept (take i ms) (take i l)) ≤ widthSum (kept (take k ms) (take k l))
 kept-narrower ms l i k h hm hl =
-    let e = ap widthSum (kept-split ms l i k h hm hl) ∙ sum-append width (kept (take i ms) (take i l)) (kept (take (k - i) (drop i ms)) (take (k - i) (drop i l))) in
+    let e = ap widthSum (kept-split ms l i k h hm hl)
+    ∙ sum-append width (kept (take i ms) (take i l)) (kept (take (k - i) (drop i ms)) (take (k - i) (drop i l))) in
     omega arith
 
 -- of the first i cycles of cs, whose steps begin at a place of src, those that are not skipped follow the list that was there
-pub record Copying (cs src : List ℕ) (step : ℕ) (skip : List Bool) (counts₀ : List ℕ) (u₀ : Used) (steps₀ : List ℕ) (i at : ℕ) (counts : List ℕ) (u : Used) (steps : List ℕ) : Type 0 where
+pub record Copying (cs src : List ℕ) (step : ℕ) (skip : List Bool) (counts₀ : List ℕ) (u₀ : Used) (steps₀ : List ℕ) (i at : ℕ) (counts : List ℕ) (u : Used)
+    (steps : List ℕ) : Type 0 where
   pub at-is : at ≡ step + widthSum (take i cs)
   pub cycles-is : u .cycles ≡ u₀ .cycles + length (kept (take i skip) (take i cs))
   pub steps-is : u .steps ≡ u₀ .steps + widthSum (kept (take i skip) (take i cs))
@@ -218,7 +229,8 @@ pub record Copying (cs src : List ℕ) (step : ℕ) (skip : List Bool) (counts�
   pub steps-long : length steps ≡ length steps₀
   pub list : Built (built counts₀ u₀ steps₀ ++ kept (take i skip) (cyclesFrom (take i cs) (drop step src))) counts u steps
 
-pub copying-start : (cs src : List ℕ) (step : ℕ) (skip : List Bool) (counts : List ℕ) (u : Used) (steps : List ℕ) → Building counts u steps → Copying cs src step skip counts u steps 0 step counts u steps
+pub copying-start : (cs src : List ℕ) (step : ℕ) (skip : List Bool) (counts : List ℕ) (u : Used) (steps : List ℕ) → Building counts u steps
+    → Copying cs src step skip counts u steps 0 step counts u steps
 copying-start cs src step skip counts u steps b =
     record {
       at-is = omega arith;
@@ -229,8 +241,10 @@ copying-start cs src step skip counts u steps b =
       list = record { list = sym (append-nil (built counts u steps)); building = b };
     }
 
-module _ (cs src : List ℕ) (step : ℕ) (skip : List Bool) (counts₀ : List ℕ) (u₀ : Used) (steps₀ : List ℕ) (i k at : ℕ) (counts : List ℕ) (u : Used) (steps : List ℕ) (y : Bool)
-    (p : Copying cs src step skip counts₀ u₀ steps₀ i at counts u steps) (h : i < k) (hs : k ≤ length skip) (hc : k ≤ length cs) (c : ℕ) (ec : c ≡ getD cs i 0) where
+module _ (cs src : List ℕ) (step : ℕ) (skip : List Bool) (counts₀ : List ℕ) (u₀ : Used) (steps₀ : List ℕ) (i k at : ℕ) (counts : List ℕ) (u : Used)
+    (steps : List ℕ) (y : Bool)
+    (p : Copying cs src step skip counts₀ u₀ steps₀ i at counts u steps) (h : i < k) (hs : k ≤ length skip) (hc : k ≤ length cs) (c : ℕ)
+    (ec : c ≡ getD cs i 0) where
   abbrev out : Bool
   out = getD skip i y
 
@@ -263,7 +277,8 @@ module _ (cs src : List ℕ) (step : ℕ) (skip : List Bool) (counts₀ : List �
   pub copying-steps : u₀ .steps + widthSum (kept (take k skip) (take k cs)) ≤ length steps₀ → u .steps + widthSum (cond out [] (c ∷ [])) ≤ length steps
   copying-steps g = let l = p .steps-long in let e = steps-more in let t = kept-narrower skip cs (i + 1) k (omega arith) hs hc in omega arith
 
-  list-more : kept (take (i + 1) skip) (cyclesFrom (take (i + 1) cs) (drop step src)) ≡ kept (take i skip) (cyclesFrom (take i cs) (drop step src)) ++ cond out [] (cycleOf c (drop at src) ∷ [])
+  list-more : kept (take (i + 1) skip) (cyclesFrom (take (i + 1) cs) (drop step src)) ≡ kept (take i skip) (cyclesFrom (take i cs) (drop step src))
+      ++ cond out [] (cycleOf c (drop at src) ∷ [])
   list-more =
       let st = drop step src in
       let ks = cyclesFrom cs st in
@@ -290,7 +305,8 @@ module _ (cs src : List ℕ) (step : ℕ) (skip : List Bool) (counts₀ : List �
             record {
               list =
                   b .list ∙ ap (λ (l : List Cycle). l ++ cond out [] (cycleOf c (drop at src) ∷ [])) (p .list .list)
-                  ∙ append-assoc (built counts₀ u₀ steps₀) (kept (take i skip) (cyclesFrom (take i cs) (drop step src))) (cond out [] (cycleOf c (drop at src) ∷ []))
+                  ∙ append-assoc (built counts₀ u₀ steps₀) (kept (take i skip) (cyclesFrom (take i cs) (drop step src)))
+                  (cond out [] (cycleOf c (drop at src) ∷ []))
                   ∙ ap (λ (l : List Cycle). built counts₀ u₀ steps₀ ++ l) (sym list-more);
               building = b .building;
             };

@@ -73,7 +73,8 @@ pub row-has : (i : ℕ) (l : List ℕ) → rowOf i l < length l → getD l (rowO
 row-has i [] h = absurd (omega arith)
 row-has i (n ∷ l) h = go (eqb n i) refl h (row-has i l)
   where
-    go : (b : Bool) → eqb n i ≡ b → cond b 0 (suc (rowOf i l)) < suc (length l) → (rowOf i l < length l → getD l (rowOf i l) 0 ≡ i) → getD (n ∷ l) (cond b 0 (suc (rowOf i l))) 0 ≡ i
+    go : (b : Bool) → eqb n i ≡ b → cond b 0 (suc (rowOf i l)) < suc (length l) → (rowOf i l < length l → getD l (rowOf i l) 0 ≡ i)
+        → getD (n ∷ l) (cond b 0 (suc (rowOf i l))) 0 ≡ i
     go true e k f = eqb-true n i e
     go false e k f = f (omega arith)
 
@@ -82,7 +83,8 @@ real-parts : (ks ls : List Cycle) → allReal (ks ++ ls) ≡ true → (allReal k
 real-parts [] ls h = (refl, h)
 real-parts (k ∷ ks) ls h = go (real k) h (real-parts ks ls)
   where
-    go : (b : Bool) → (b && allReal (ks ++ ls)) ≡ true → (allReal (ks ++ ls) ≡ true → (allReal ks ≡ true) × (allReal ls ≡ true)) → ((b && allReal ks) ≡ true) × (allReal ls ≡ true)
+    go : (b : Bool) → (b && allReal (ks ++ ls)) ≡ true → (allReal (ks ++ ls) ≡ true → (allReal ks ≡ true) × (allReal ls ≡ true))
+        → ((b && allReal ks) ≡ true) × (allReal ls ≡ true)
     go true e f = f e
     go false e f = absurd (false≢true e)
 
@@ -129,7 +131,8 @@ own-kind (closedEdge bs) = refl
 own-kind (face ks) = refl
 
 -- ---- a cell between others: where its cycles, steps and bends stand
-module _ (d : Drawing) (z : Sizes d) (f : Fits d) (row : ℕ) (p : List Entry) (x : Entry) (q : List Entry) (e : sheetOf d .cells ≡ p ++ (x ∷ q)) (lp : length p ≡ row) where
+module _ (d : Drawing) (z : Sizes d) (f : Fits d) (row : ℕ) (p : List Entry) (x : Entry) (q : List Entry) (e : sheetOf d .cells ≡ p ++ (x ∷ q))
+    (lp : length p ≡ row) where
   -- the cycles of the cells before it
   abbrev a : List Cycle
   a = spread entryCycles p
@@ -188,7 +191,8 @@ module _ (d : Drawing) (z : Sizes d) (f : Fits d) (row : ℕ) (p : List Entry) (
   own-id = ap (λ (l : List ℕ). getD l row 0) (sym (ids-same d z f)) ∙ own-number (λ (k : Cell). k .id) 0
 
   spans-are : {B : Type 0} (g : Cell → ℕ) (h : Entry → List B) → ((ys : List Entry) → total g (map entryCell ys) ≡ length (spread h ys))
-      → spanOf 0 (map g (take (d .count) (d .cells))) (rowSpan (d .count) row) ≡ record { first = length (spread h p); count = length (h x); rest = length (spread h q) }
+      → spanOf 0 (map g (take (d .count) (d .cells))) (rowSpan (d .count) row)
+      ≡ record { first = length (spread h p); count = length (h x); rest = length (spread h q) }
   spans-are g h t =
       let k = map g (map entryCell q) in
       let sum : (ys : List Entry) → total (placesOf 0) (map g (map entryCell ys)) ≡ length (spread h ys) = λ ys. places-sum g (map entryCell ys) ∙ t ys in
@@ -196,7 +200,8 @@ module _ (d : Drawing) (z : Sizes d) (f : Fits d) (row : ℕ) (p : List Entry) (
       let v = sum (x ∷ []) ∙ ap length (append-nil (h x)) in
       let w = sum q in
       let lq = length-map (map entryCell q) g ∙ length-map q entryCell in
-      ap (λ (l : List ℕ). spanOf 0 l (rowSpan (d .count) row)) (numbers-stand g ∙ ap (λ (l : List ℕ). map g (map entryCell p) ++ (g (entryCell x) ∷ l)) (sym (append-nil k)))
+      ap (λ (l : List ℕ). spanOf 0 l (rowSpan (d .count) row))
+      (numbers-stand g ∙ ap (λ (l : List ℕ). map g (map entryCell p) ++ (g (entryCell x) ∷ l)) (sym (append-nil k)))
       ∙ span-parts 0 (map g (map entryCell p)) (g (entryCell x) ∷ []) k [] (rowSpan (d .count) row) (heads-before g) refl (omega (arith, lq, lives))
       ∙ (λ i. record { first = u i; count = v i; rest = w i })
 
@@ -238,12 +243,14 @@ module _ (d : Drawing) (z : Sizes d) (f : Fits d) (row : ℕ) (p : List Entry) (
       ∙ ap (λ (l : List ℕ). spread cycleWords a ++ l) (append-assoc (spread cycleWords b) (spread cycleWords c) after-steps)
 
   -- its cycles are read where they stand
-  pub own-list : cyclesFrom (take (cycleSpan d row .count) (drop (cycleSpan d row .first) (d .cycles))) (drop (stepSpan d row .first) (d .steps)) ≡ entryCycles x
+  pub own-list : cyclesFrom (take (cycleSpan d row .count) (drop (cycleSpan d row .first) (d .cycles))) (drop (stepSpan d row .first) (d .steps))
+      ≡ entryCycles x
   own-list =
       let t : List ℕ = spread cycleWords c ++ after-steps in
       ap₂ (λ (s u : Span). cyclesFrom (take (s .count) (drop (s .first) (d .cycles))) (drop (u .first) (d .steps))) cycle-span step-span
       ∙ ap₂ (λ (l m : List ℕ). cyclesFrom (take (length b) (drop (length a) l)) (drop (length (spread cycleWords a)) m)) cycles-split steps-split
-      ∙ ap₂ cyclesFrom (part-two (map numOf a) (map numOf b) (map numOf c ++ after-cycles) (length a) (length b) (length-map a numOf) (length-map b numOf) ∙ sym (append-nil (map numOf b)))
+      ∙ ap₂ cyclesFrom (part-two (map numOf a) (map numOf b) (map numOf c ++ after-cycles) (length a) (length b) (length-map a numOf) (length-map b numOf)
+      ∙ sym (append-nil (map numOf b)))
       (drop-at (spread cycleWords a) (spread cycleWords b ++ t) (length (spread cycleWords a)) refl)
       ∙ cycles-back b [] t (reals .1)
       ∙ append-nil b
@@ -253,13 +260,15 @@ module _ (d : Drawing) (z : Sizes d) (f : Fits d) (row : ℕ) (p : List Entry) (
   own-bend-list =
       let t = drop (length (spread entryBends p ++ (entryBends x ++ spread entryBends q))) (d .bends) in
       let g : d .bends ≡ spread entryBends p ++ (entryBends x ++ (spread entryBends q ++ t)) =
-      begins-split bends-stand ∙ append-assoc (spread entryBends p) (entryBends x ++ spread entryBends q) t ∙ ap (λ (l : List Position). spread entryBends p ++ l) (append-assoc (entryBends x) (spread entryBends q) t)
+      begins-split bends-stand ∙ append-assoc (spread entryBends p) (entryBends x ++ spread entryBends q) t
+      ∙ ap (λ (l : List Position). spread entryBends p ++ l) (append-assoc (entryBends x) (spread entryBends q) t)
       in
       ap₂ (λ (s : Span) (l : List Position). take (s .count) (drop (s .first) l)) bend-span g
       ∙ part-two (spread entryBends p) (entryBends x) (spread entryBends q ++ t) (length (spread entryBends p)) (length (entryBends x)) refl refl
 
   -- ---- the cell with other cycles
-  module _ (counts steps : List ℕ) (n m : ℕ) (w : Replaces d row counts n steps m) (r : Drawing) (zr : Sizes r) (ex : r .next ≡ d .next) (en : r .count ≡ d .count) (y : Cell)
+  module _ (counts steps : List ℕ) (n m : ℕ) (w : Replaces d row counts n steps m) (r : Drawing) (zr : Sizes r) (ex : r .next ≡ d .next)
+      (en : r .count ≡ d .count) (y : Cell)
       (ec : r .cells ≡ set (d .cells) row (record { id = getD (d .cells) row y .id; shape = Face n })) (eb : r .bends ≡ d .bends)
       (kc : Spliced (d .cycles) (cycleSpan d row) counts n (r .cycles)) (ks : Spliced (d .steps) (stepSpan d row) steps m (r .steps)) where
     abbrev new : List Cycle
@@ -275,7 +284,8 @@ module _ (d : Drawing) (z : Sizes d) (f : Fits d) (row : ℕ) (p : List Entry) (
 
     steps-fit : length (spread cycleWords a) + m + length (spread cycleWords c) ≤ 2048
     steps-fit =
-        let t = step-total d (sheetOf d .cells) (stands d z f) ∙ ap (λ (l : List Cycle). length (spread cycleWords l)) all-cycles ∙ ap length (three-parts cycleWords a b c)
+        let t = step-total d (sheetOf d .cells) (stands d z f) ∙ ap (λ (l : List Cycle). length (spread cycleWords l)) all-cycles
+        ∙ ap length (three-parts cycleWords a b c)
         ∙ length-append (spread cycleWords a) (spread cycleWords b ++ spread cycleWords c) in
         omega (arith, t, length-append (spread cycleWords b) (spread cycleWords c), ap (λ (s : Span). s .count) step-span, w .stepRoom)
 
@@ -294,7 +304,8 @@ module _ (d : Drawing) (z : Sizes d) (f : Fits d) (row : ℕ) (p : List Entry) (
     replaced-bends : spread entryBends (p ++ (put ∷ q)) ≡ spread entryBends p ++ (entryBends x ++ spread entryBends q)
     replaced-bends =
         three entryBends p put q
-        ∙ ap (λ (l : List Position). spread entryBends p ++ (l ++ spread entryBends q)) (sym (face-bends (x .figure) (sym (own-number (λ (k : Cell). kindOf (k .shape)) 0) ∙ w .face)))
+        ∙ ap (λ (l : List Position). spread entryBends p ++ (l ++ spread entryBends q))
+        (sym (face-bends (x .figure) (sym (own-number (λ (k : Cell). kindOf (k .shape)) 0) ∙ w .face)))
 
     replaced-stands : Stands r (p ++ (put ∷ q))
     replaced-stands =
@@ -305,17 +316,20 @@ module _ (d : Drawing) (z : Sizes d) (f : Fits d) (row : ℕ) (p : List Entry) (
           cells =
               ap₂ take en ec
               ∙ take-set-lt (d .count) (d .cells) row (record { id = getD (d .cells) row y .id; shape = Face n }) (omega (arith, lives))
-              ∙ ap₂ (λ (l : List Cell) (k : Cell). set l row k) heads-stand (ap₂ (λ (k : Cell) (t : ℕ). record { id = k .id; shape = Face t }) (own-cell y) (sym lk))
+              ∙ ap₂ (λ (l : List Cell) (k : Cell). set l row k) heads-stand
+              (ap₂ (λ (k : Cell) (t : ℕ). record { id = k .id; shape = Face t }) (own-cell y) (sym lk))
               ∙ set-at (map entryCell p) (entryCell x) (map entryCell q) (entryCell put) row (length-map p entryCell ∙ lp)
               ∙ sym (map-append entryCell p (put ∷ q));
           cycles =
               rw (replaced-cycles, map-parts numOf a new c)
               (spliced-begins (d .cycles) counts (r .cycles) (map numOf a) (map numOf b) (map numOf c) (map numOf new) (cycleSpan d row) n cycles-stand
-              (length-map a numOf ∙ ap (λ (s : Span). s .first) (sym sc)) (length-map b numOf ∙ ap (λ (s : Span). s .count) (sym sc)) (length-map c numOf ∙ ap (λ (s : Span). s .rest) (sym sc))
+              (length-map a numOf ∙ ap (λ (s : Span). s .first) (sym sc)) (length-map b numOf ∙ ap (λ (s : Span). s .count) (sym sc))
+              (length-map c numOf ∙ ap (λ (s : Span). s .rest) (sym sc))
               new-numbers (omega (arith, cycles-fit, zr .cycles, ap (λ (s : Span). s .first) sc, ap (λ (s : Span). s .rest) sc)) kc);
           steps =
               rw (replaced-cycles, three-parts cycleWords a new c)
-              (spliced-begins (d .steps) steps (r .steps) (spread cycleWords a) (spread cycleWords b) (spread cycleWords c) (spread cycleWords new) (stepSpan d row) m steps-stand
+              (spliced-begins (d .steps) steps (r .steps) (spread cycleWords a) (spread cycleWords b) (spread cycleWords c) (spread cycleWords new)
+              (stepSpan d row) m steps-stand
               (ap (λ (s : Span). s .first) (sym ss)) (ap (λ (s : Span). s .count) (sym ss)) (ap (λ (s : Span). s .rest) (sym ss))
               new-places (omega (arith, steps-fit, zr .steps, ap (λ (s : Span). s .first) ss, ap (λ (s : Span). s .rest) ss)) ks);
           bends = rw (eb, replaced-bends) bends-stand;
@@ -346,7 +360,8 @@ module _ (d : Drawing) (z : Sizes d) (f : Fits d) (row : ℕ) (h : row < d .coun
   ahead = length-take-le row (sheetOf d .cells) (let u = in-sheet in omega arith)
 
   -- the drawing with other cycles for its face in the row
-  pub replaced-is : (counts steps : List ℕ) (n m : ℕ) → Replaces d row counts n steps m → (r : Drawing) → Sizes r → r .next ≡ d .next → r .count ≡ d .count → (y : Cell)
+  pub replaced-is : (counts steps : List ℕ) (n m : ℕ) → Replaces d row counts n steps m → (r : Drawing) → Sizes r → r .next ≡ d .next → r .count ≡ d .count
+      → (y : Cell)
       → r .cells ≡ set (d .cells) row (record { id = getD (d .cells) row y .id; shape = Face n }) → r .bends ≡ d .bends
       → Spliced (d .cycles) (cycleSpan d row) counts n (r .cycles) → Spliced (d .steps) (stepSpan d row) steps m (r .steps)
       → (sheetOf r ≡ sheetWithRow (sheetOf d) row (face (cyclesFrom (take n counts) steps))) × Fits r
@@ -356,7 +371,8 @@ module _ (d : Drawing) (z : Sizes d) (f : Fits d) (row : ℕ) (h : row < d .coun
       let new : Entry = record { id = getD (idsOf (sheetOf d)) row 0; figure = face (cyclesFrom (take n counts) steps) } in (
         sheet-is r (sheetWithRow (sheetOf d) row (face (cyclesFrom (take n counts) steps))) (ex ∙ sym (next-is d))
             (t .0
-            ∙ ap (λ (i : ℕ). before ++ (record { id = i; figure = face (cyclesFrom (take n counts) steps) } ∷ after)) (sym (own-id d z f row before own after split ahead))
+            ∙ ap (λ (i : ℕ). before ++ (record { id = i; figure = face (cyclesFrom (take n counts) steps) } ∷ after))
+            (sym (own-id d z f row before own after split ahead))
             ∙ sym (set-split xs row new in-sheet)),
         t .1,
       )
@@ -365,30 +381,36 @@ module _ (d : Drawing) (z : Sizes d) (f : Fits d) (row : ℕ) (h : row < d .coun
   pub cycles-in-use : cycleSpan d row .first + cycleSpan d row .count + cycleSpan d row .rest ≡ cycleTotal d
   cycles-in-use =
       span-sum 0 (cycleCounts d) (rowSpan (d .count) row)
-      ∙ ap (total (placesOf 0)) (take-all (row + 1 + (d .count - (row + 1))) (cycleCounts d) (let l = length-map (take (d .count) (d .cells)) (λ (c : Cell). cycleCount (c .shape)) in let t = length-take (d .count) (d .cells) in omega arith))
+      ∙ ap (total (placesOf 0))
+      (take-all (row + 1 + (d .count - (row + 1))) (cycleCounts d) (let l = length-map (take (d .count) (d .cells)) (λ (c : Cell). cycleCount (c .shape)) in
+      let t = length-take (d .count) (d .cells) in omega arith))
       ∙ places-sum (λ (c : Cell). cycleCount (c .shape)) (take (d .count) (d .cells))
 
   pub steps-in-use : stepSpan d row .first + stepSpan d row .count + stepSpan d row .rest ≡ stepTotal d
   steps-in-use =
-      span-sum 1 (d .cycles) (cycleSpan d row) ∙ ap (λ (n : ℕ). total (placesOf 1) (take n (d .cycles))) cycles-in-use ∙ width-places (take (cycleTotal d) (d .cycles))
+      span-sum 1 (d .cycles) (cycleSpan d row) ∙ ap (λ (n : ℕ). total (placesOf 1) (take n (d .cycles))) cycles-in-use
+      ∙ width-places (take (cycleTotal d) (d .cycles))
 
   -- what the row's id i stands for, read from the arrays
   module _ (i : ℕ) (has : getD (idsOf (sheetOf d)) row 0 ≡ i) (rises : Rising (idsOf (sheetOf d))) where
     found : cellAt (sheetOf d) i ≡ some (own .figure)
     found = ap (cellAt (sheetOf d)) (sym has) ∙ lookup-row (sheetOf d .cells) row (record { id = 0; figure = face [] }) rises in-sheet
 
-    pub row-cycles : cells.cyclesOf (cellAt (sheetOf d) i) ≡ cyclesFrom (take (cycleSpan d row .count) (drop (cycleSpan d row .first) (d .cycles))) (drop (stepSpan d row .first) (d .steps))
+    pub row-cycles : cells.cyclesOf (cellAt (sheetOf d) i) ≡ cyclesFrom (take (cycleSpan d row .count) (drop (cycleSpan d row .first) (d .cycles)))
+        (drop (stepSpan d row .first) (d .steps))
     row-cycles = ap cells.cyclesOf found ∙ own-cycles (own .figure) ∙ sym (own-list d z f row before own after split ahead)
 
     pub row-bends : bendsOf (cellAt (sheetOf d) i) ≡ take (bendSpan d row .count) (drop (bendSpan d row .first) (d .bends))
     row-bends = ap bendsOf found ∙ own-bends (own .figure) ∙ sym (own-bend-list d z f row before own after split ahead)
 
     pub row-face : isFace (cellAt (sheetOf d) i) ≡ eqb (getD (kinds d) row 0) 3
-    row-face = ap isFace found ∙ own-kind (own .figure) ∙ ap (λ (n : ℕ). eqb n 3) (sym (own-number d z f row before own after split ahead (λ (c : Cell). kindOf (c .shape)) 0))
+    row-face = ap isFace found ∙ own-kind (own .figure)
+        ∙ ap (λ (n : ℕ). eqb n 3) (sym (own-number d z f row before own after split ahead (λ (c : Cell). kindOf (c .shape)) 0))
 
     -- another figure in the row is another figure of i
     pub row-replaced : (y : Figure) → sheetWithRow (sheetOf d) row y ≡ withEntries (sheetOf d) (reshape (replaced i y) (sheetOf d .cells))
-    row-replaced y = ap (withEntries (sheetOf d)) (set-row (sheetOf d .cells) row y rises in-sheet ∙ ap (λ (j : ℕ). reshape (replaced j y) (sheetOf d .cells)) has)
+    row-replaced y = ap (withEntries (sheetOf d))
+        (set-row (sheetOf d .cells) row y rises in-sheet ∙ ap (λ (j : ℕ). reshape (replaced j y) (sheetOf d .cells)) has)
 
 -- ---- what an index tells of a row
 module _ (d : Drawing) (z : Sizes d) (f : Fits d) (ix : Index) (t : Indexes d ix) where
@@ -404,7 +426,8 @@ module _ (d : Drawing) (z : Sizes d) (f : Fits d) (ix : Index) (t : Indexes d ix
   kind-read row h = sym (getD-take (d .count) (ix .kinds) row 0 h) ∙ ap (λ (l : List ℕ). getD l row 0) (t .kinds)
 
 -- ---- the spans that counts of cycles give, and the room for other cycles
-module _ (d : Drawing) (z : Sizes d) (row : ℕ) (at counts steps : List ℕ) (n m : ℕ) (e : take (d .count) at ≡ cycleCounts d) (w : Replaces d row counts n steps m) where
+module _ (d : Drawing) (z : Sizes d) (row : ℕ) (at counts steps : List ℕ) (n m : ℕ) (e : take (d .count) at ≡ cycleCounts d)
+    (w : Replaces d row counts n steps m) where
   pub counted-cycles : total (placesOf 0) (take (d .count) at) ≡ cycleTotal d
   counted-cycles = ap (total (placesOf 0)) e ∙ places-sum (λ (c : Cell). cycleCount (c .shape)) (take (d .count) (d .cells))
 

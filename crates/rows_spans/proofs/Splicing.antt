@@ -31,7 +31,8 @@ module _ {A : Type 0} where
   -- what stands before a pasted run, and the run itself
   pub paste-front : (l : List A) (at : ℕ) (s : List A) (n : ℕ) → at ≤ length l → n ≤ length s → take at (paste l at s n) ≡ take at l
   paste-front l at s n h k =
-      sym (run-take at 0 (at + n) (paste l at s n) (omega arith)) ∙ ap (take at) (take-paste l at s n h k) ∙ take-at (take at l) (take n s) at (length-take-le at l h)
+      sym (run-take at 0 (at + n) (paste l at s n) (omega arith)) ∙ ap (take at) (take-paste l at s n h k)
+      ∙ take-at (take at l) (take n s) at (length-take-le at l h)
 
   pub paste-run : (l : List A) (at : ℕ) (s : List A) (n : ℕ) → at ≤ length l → n ≤ length s → take n (drop at (paste l at s n)) ≡ take n s
   paste-run l at s n h k =
@@ -39,7 +40,8 @@ module _ {A : Type 0} where
       ∙ ap (take n) (drop-at (take at l) (take n s) at (length-take-le at l h)) ∙ take-all n (take n s) (omega (arith, length-take-le n s k))
 
   -- a run, and what was put down after it
-  run-more : (l out x : List A) (j m : ℕ) → j + m ≤ length l → take (j + m + length x) out ≡ take (j + m) l ++ x → take (m + length x) (drop j out) ≡ take m (drop j l) ++ x
+  run-more : (l out x : List A) (j m : ℕ) → j + m ≤ length l → take (j + m + length x) out ≡ take (j + m) l ++ x
+      → take (m + length x) (drop j out) ≡ take m (drop j l) ++ x
   run-more l out x j m h e =
       let k : j + (m + length x) ≡ j + m + length x = omega arith in
       let lm : length (take m (drop j l)) ≡ m = length-take-le m (drop j l) (omega (arith, length-drop j l)) in
@@ -55,7 +57,8 @@ module _ {A : Type 0} where
       ∙ run-more l (paste l (j + m) s n) (take n s) j m h (ap (λ (i : ℕ). take (j + m + i) (paste l (j + m) s n)) e ∙ take-paste l (j + m) s n h k)
 
   pub run-set : (l : List A) (j m : ℕ) (v : A) → j + m < length l → take (m + 1) (drop j (set l (j + m) v)) ≡ take m (drop j l) ++ (v ∷ [])
-  run-set l j m v h = run-more l (set l (j + m) v) (v ∷ []) j m (omega arith) (ap (λ (i : ℕ). take i (set l (j + m) v)) (add-one (j + m)) ∙ take-suc-set l (j + m) v h)
+  run-set l j m v h = run-more l (set l (j + m) v) (v ∷ []) j m (omega arith)
+      (ap (λ (i : ℕ). take i (set l (j + m) v)) (add-one (j + m)) ∙ take-suc-set l (j + m) v h)
 
 -- ---- the places that runs stand for
 module _ (z : ℕ) where
@@ -70,7 +73,8 @@ module _ (z : ℕ) where
   sum-split l i k = ap (total (placesOf z)) (take-add i k l) ∙ sum-append (placesOf z) (take i l) (take k (drop i l))
 
   -- all places are those before the run, of the run and after it
-  pub span-sum : (l : List ℕ) (s : Span) → spanOf z l s .first + spanOf z l s .count + spanOf z l s .rest ≡ total (placesOf z) (take (s .first + s .count + s .rest) l)
+  pub span-sum : (l : List ℕ) (s : Span) → spanOf z l s .first + spanOf z l s .count + spanOf z l s .rest
+      ≡ total (placesOf z) (take (s .first + s .count + s .rest) l)
   span-sum l s = sym (sum-split l (s .first + s .count) (s .rest) ∙ ap (λ (n : ℕ). n + spanOf z l s .rest) (sum-split l (s .first) (s .count)))
 
   pub span-parts : (a b c t : List ℕ) (s : Span) → length a ≡ s .first → length b ≡ s .count → length c ≡ s .rest
@@ -82,7 +86,8 @@ module _ (z : ℕ) where
       λ i. record { first = p i; count = q i; rest = r i }
 
 -- ---- three runs pasted one after the other
-module _ (old new out : List ℕ) (s : Span) (n : ℕ) (ho : s .first + s .count + s .rest ≤ length old) (hn : n ≤ length new) (h : s .first + n + s .rest ≤ length out) where
+module _ (old new out : List ℕ) (s : Span) (n : ℕ) (ho : s .first + s .count + s .rest ≤ length old) (hn : n ≤ length new)
+    (h : s .first + n + s .rest ≤ length out) where
   pub spliced : (a b : ℕ) (one two three : List ℕ) → a ≡ s .first → one ≡ paste out 0 old (s .first) → b ≡ a + n → two ≡ paste one a new n
       → three ≡ paste two b (drop (s .first + s .count) old) (s .rest) → Spliced old s new n three
   spliced a b one two three ea e₁ eb e₂ e₃ =
@@ -91,7 +96,8 @@ module _ (old new out : List ℕ) (s : Span) (n : ℕ) (ho : s .first + s .count
       let r : s .rest ≤ length (drop (s .first + s .count) old) = omega (arith, length-drop (s .first + s .count) old) in
       let ez : a ≡ 0 + s .first = omega arith in
       let f₁ : take a one ≡ take (s .first) old = ap₂ take ez e₁ ∙ take-paste out 0 old (s .first) (omega arith) (omega arith) in
-      let f₂ : take b two ≡ take (s .first) old ++ take n new = ap₂ take eb e₂ ∙ take-paste one a new n (omega arith) hn ∙ ap (λ (q : List ℕ). q ++ take n new) f₁ in
+      let f₂ : take b two ≡ take (s .first) old ++ take n new = ap₂ take eb e₂ ∙ take-paste one a new n (omega arith) hn
+      ∙ ap (λ (q : List ℕ). q ++ take n new) f₁ in
       let c : s .first + n + s .rest ≡ b + s .rest = omega arith in
       record {
         front =
@@ -101,7 +107,8 @@ module _ (old new out : List ℕ) (s : Span) (n : ℕ) (ho : s .first + s .count
       }
 
 -- what began with three parts begins with a new one in the place of the second
-pub spliced-begins : (old new out a b c x : List ℕ) (s : Span) (n : ℕ) → Begins old (a ++ (b ++ c)) → length a ≡ s .first → length b ≡ s .count → length c ≡ s .rest
+pub spliced-begins : (old new out a b c x : List ℕ) (s : Span) (n : ℕ) → Begins old (a ++ (b ++ c)) → length a ≡ s .first → length b ≡ s .count
+    → length c ≡ s .rest
     → take n new ≡ x → s .first + n + s .rest ≤ length out → Spliced old s new n out → Begins out (a ++ (x ++ c))
 spliced-begins old new out a b c x s n o e f g k h p =
     let t = drop (length (a ++ (b ++ c))) old in
@@ -110,5 +117,6 @@ spliced-begins old new out a b c x s n o e f g k h p =
     (p .front
     ∙ ap₂ (λ (u v : List ℕ). u ++ (take n new ++ v))
     (ap (take (s .first)) w ∙ take-at a (b ++ (c ++ t)) (s .first) e)
-    (ap (λ (q : List ℕ). take (s .rest) (drop (s .first + s .count) q)) w ∙ ap (take (s .rest)) (part-three a b (c ++ t) (s .first) (s .count) e f) ∙ take-at c t (s .rest) g)
+    (ap (λ (q : List ℕ). take (s .rest) (drop (s .first + s .count) q)) w ∙ ap (take (s .rest)) (part-three a b (c ++ t) (s .first) (s .count) e f)
+    ∙ take-at c t (s .rest) g)
     ∙ ap (λ (q : List ℕ). a ++ (q ++ c)) k)

@@ -121,8 +121,10 @@ module _ (steps : List ℕ) (at m : ℕ) (h : at + m ≤ length steps) where
         ∙ sym (drop-map halfedgeOf (distance (length own) s t) (rotated s own))
         ∙ ap₂ (λ (k : ℕ) (l : List Halfedge). drop (distance k s t) l) (l ∙ sym halves-length) (sym (rotated-is s))
 
-    pub near-is : (e : ℕ) → path (map halfedgeOf (arcOf steps at m s (distance m s t)) ++ one (halfedgeOf (2 * e + 1))) ≡ nearCycle e s t (cycleOf m (drop at steps))
+    pub near-is : (e : ℕ) → path (map halfedgeOf (arcOf steps at m s (distance m s t)) ++ one (halfedgeOf (2 * e + 1)))
+        ≡ nearCycle e s t (cycleOf m (drop at steps))
     near-is e = ap₂ (λ (a b : List Halfedge). path (a ++ b)) near-arc (against-read e)
 
-    pub far-is : (e : ℕ) → path (map halfedgeOf (arcOf steps at m t (m - distance m s t)) ++ one (halfedgeOf (2 * e))) ≡ farCycle e s t (cycleOf m (drop at steps))
+    pub far-is : (e : ℕ) → path (map halfedgeOf (arcOf steps at m t (m - distance m s t)) ++ one (halfedgeOf (2 * e)))
+        ≡ farCycle e s t (cycleOf m (drop at steps))
     far-is e = ap₂ (λ (a b : List Halfedge). path (a ++ b)) far-arc (along-read e)

@@ -44,20 +44,23 @@ module _ {steps : List ℕ} {p : Place} {s1 : ℕ} {q : Place} {s2 e : ℕ} (j :
   within2 = steps-within steps (j .stepsSize) q (j .end)
 
   pub length1 : length arc1 ≡ p .m
-  length1 = arc-length steps (p .at) (p .m) s1 (p .m) (j .stepsSize) (omega (arith, within1, j .stepsSize)) (corner-most (p .m) s1 (j .startCorner)) (omega arith)
+  length1 = arc-length steps (p .at) (p .m) s1 (p .m) (j .stepsSize) (omega (arith, within1, j .stepsSize)) (corner-most (p .m) s1 (j .startCorner))
+      (omega arith)
 
   pub length2 : length arc2 ≡ q .m
   length2 = arc-length steps (q .at) (q .m) s2 (q .m) (j .stepsSize) (omega (arith, within2, j .stepsSize)) (corner-most (q .m) s2 (j .endCorner)) (omega arith)
 
   -- the steps in memory are those of the cycle
-  pub joined-steps : map halfedgeOf (((arc1 ++ one (2 * e)) ++ arc2) ++ one (2 * e + 1)) ≡ rotated s1 (stepsOf (cycleAt steps p)) ++ (along e ∷ rotated s2 (stepsOf (cycleAt steps q)) ++ one (against e))
+  pub joined-steps : map halfedgeOf (((arc1 ++ one (2 * e)) ++ arc2) ++ one (2 * e + 1)) ≡ rotated s1 (stepsOf (cycleAt steps p))
+      ++ (along e ∷ rotated s2 (stepsOf (cycleAt steps q)) ++ one (against e))
   joined-steps =
       let a = arc1 ++ one (2 * e) in
       map-append halfedgeOf (a ++ arc2) (one (2 * e + 1))
       ∙ ap₂ (λ (x y : List Halfedge). x ++ y) (map-append halfedgeOf a arc2) (against-read e)
       ∙ append-assoc (map halfedgeOf a) (map halfedgeOf arc2) (one (against e))
       ∙ ap₂ (λ (x y : List Halfedge). x ++ (y ++ one (against e))) (map-append halfedgeOf arc1 (one (2 * e))) (whole-arc steps (q .at) (q .m) within2 s2)
-      ∙ ap₂ (λ (x y : List Halfedge). (x ++ y) ++ (rotated s2 (stepsOf (cycleAt steps q)) ++ one (against e))) (whole-arc steps (p .at) (p .m) within1 s1) (along-read e)
+      ∙ ap₂ (λ (x y : List Halfedge). (x ++ y) ++ (rotated s2 (stepsOf (cycleAt steps q)) ++ one (against e))) (whole-arc steps (p .at) (p .m) within1 s1)
+      (along-read e)
       ∙ append-assoc (rotated s1 (stepsOf (cycleAt steps p))) (one (along e)) (rotated s2 (stepsOf (cycleAt steps q)) ++ one (against e))
 
 -- ---- the list of the face
@@ -73,7 +76,8 @@ flagged-marks c h =
     }
   where
     go : (i : ℕ) → i < 512 → (b : Bool) → eqb i c ≡ b → getD (flagged c) i false ≡ (b || false)
-    go i hi true e = ap (λ (n : ℕ). getD (flagged c) n false) (eqb-true i c e) ∙ getD-set-same (replicate 512 false) c true false (omega (arith, length-replicate 512 false))
+    go i hi true e = ap (λ (n : ℕ). getD (flagged c) n false) (eqb-true i c e)
+        ∙ getD-set-same (replicate 512 false) c true false (omega (arith, length-replicate 512 false))
     go i hi false e = getD-set-other (replicate 512 false) c i true false (eqb-false i c e) ∙ getD-replicate 512 i false false hi
 
 module _ {cycles steps : List ℕ} {t : Spans} {c1 : ℕ} {p : Place} {s1 c2 : ℕ} {q : Place} {s2 e : ℕ} (r : Bridging cycles steps t c1 p s1 c2 q s2 e) where
@@ -101,7 +105,8 @@ module _ {cycles steps : List ℕ} {t : Spans} {c1 : ℕ} {p : Place} {s1 c2 : �
   bridge-kept =
       let l : length (set ks c1 both) ≡ t .cycles .count = length-set ks c1 both ∙ count-is in
       let k = r .start .within .inCycles in
-      ap (λ (n : ℕ). kept (take n (flagged c2)) (set ks c1 both)) (sym l) ∙ sym (without-kept (one c2) (flagged c2) (flagged-marks c2 second-below) (set ks c1 both) (omega arith))
+      ap (λ (n : ℕ). kept (take n (flagged c2)) (set ks c1 both)) (sym l)
+      ∙ sym (without-kept (one c2) (flagged c2) (flagged-marks c2 second-below) (set ks c1 both) (omega arith))
       ∙ ap₂ (λ (x y : Cycle). without (one c2) 0 (set ks c1 (bridgeCycle e s1 x s2 y)))
       (sym (cornered-cycle cycles steps t c1 p s1 (r .start))) (sym (cornered-cycle cycles steps t c2 q s2 (r .end)))
 
@@ -126,4 +131,11 @@ module _ {cycles steps : List ℕ} {t : Spans} {c1 : ℕ} {p : Place} {s1 c2 : �
       omega arith
 
   pub joining : Joining steps p s1 q s2 e
-  joining = record { stepsSize = r .start .within .stepsSize; start = room1; startCorner = r .start .corner; end = room2; endCorner = r .end .corner; few = r .few }
+  joining = record {
+    stepsSize = r .start .within .stepsSize;
+    start = room1;
+    startCorner = r .start .corner;
+    end = room2;
+    endCorner = r .end .corner;
+    few = r .few;
+  }

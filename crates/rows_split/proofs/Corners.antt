@@ -38,7 +38,8 @@ corner-width look (suc m) s st h x =
     omega arith
 
 -- the vertex of a corner, by the rows of an index
-corner-is : (d : Drawing) (ix : Index) → Looks d ix → (steps : List ℕ) (at s m : ℕ) → s < width m → cornerVertex ix (d .count) m steps at s ≡ corner (cellAt (sheetOf d)) (cycleOf m (drop at steps)) s
+corner-is : (d : Drawing) (ix : Index) → Looks d ix → (steps : List ℕ) (at s m : ℕ) → s < width m
+    → cornerVertex ix (d .count) m steps at s ≡ corner (cellAt (sheetOf d)) (cycleOf m (drop at steps)) s
 corner-is d ix l steps at s zero h = let n : at ≡ at + 0 = omega arith in ap (λ (k : ℕ). getD steps k 0) n ∙ sym (getD-drop at steps 0 0)
 corner-is d ix l steps at s (suc m) h =
     let x = getD steps (at + s) 0 in
@@ -59,7 +60,8 @@ module _ {d : Drawing} {ix : Index} {f : ℕ} {t : Spans} (z : Sizes d) (w : T (
     in-span : c < t .cycles .count
     in-span = let e = cycles-count in omega arith
 
-    pub place-asks : (length (d .cycles) ≡ 512) × ((t .cycles .first + c < 512) × (t .steps .first + widthSum (take c (drop (t .cycles .first) (d .cycles))) ≤ 2048))
+    pub place-asks : (length (d .cycles) ≡ 512) × ((t .cycles .first + c < 512)
+        × (t .steps .first + widthSum (take c (drop (t .cycles .first) (d .cycles))) ≤ 2048))
     place-asks =
         let i = in-span in
         let r = place-room (d .cycles) (d .steps) t (s .within) c i in
@@ -88,4 +90,5 @@ module _ {d : Drawing} {ix : Index} {f : ℕ} {t : Spans} (z : Sizes d) (w : T (
       vertex-asks = (rows-in d z w ix (n .index), (z .steps, (room-at, below-width)))
 
       pub vertex-is : (v : ℕ) → v ≡ cornerVertex ix (d .count) (p .m) (d .steps) (p .at) k → v ≡ corner (cellAt (sheetOf d)) (getD ks c noCycle) k
-      vertex-is v g = g ∙ corner-is d ix (looks d z ix (n .index) w) (d .steps) (p .at) k (p .m) below-width ∙ ap (λ (y : Cycle). corner (cellAt (sheetOf d)) y k) (sym own-at)
+      vertex-is v g = g ∙ corner-is d ix (looks d z ix (n .index) w) (d .steps) (p .at) k (p .m) below-width
+          ∙ ap (λ (y : Cycle). corner (cellAt (sheetOf d)) y k) (sym own-at)

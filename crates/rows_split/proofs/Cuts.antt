@@ -37,7 +37,8 @@ use Rattle.rows_split.proofs.Corners.{cycles-count, cornered}
 use Rattle.rows_split.proofs.Sizes.{sides-few, bridge-few}
 
 -- ---- what question 5 leaves
-module _ {d : Drawing} {ix : Index} {script : List ℕ} {f c1 s1 c2 s2 bends first moved place : ℕ} (g : Along d ix script f c1 s1 c2 s2 bends first moved place) where
+module _ {d : Drawing} {ix : Index} {script : List ℕ} {f c1 s1 c2 s2 bends first moved place : ℕ}
+    (g : Along d ix script f c1 s1 c2 s2 bends first moved place) where
   abbrev pub own : List Cycle
   own = cells.cyclesOf (cellAt (sheetOf d) f)
 
@@ -95,7 +96,8 @@ module _ {d : Drawing} {f : ℕ} {t : Spans} (s : Spanned d f t) where
       ∙ w .wide
 
 -- ---- what the room for the result leaves
-module _ {d : Drawing} {ix : Index} {f : ℕ} {t : Spans} (z : Sizes d) (n : Named d ix f) (s : Spanned d f t) (ks : List Cycle) (new : List Figure) (r : RoomIn (recycled (sheetOf d) f ks) new) where
+module _ {d : Drawing} {ix : Index} {f : ℕ} {t : Spans} (z : Sizes d) (n : Named d ix f) (s : Spanned d f t) (ks : List Cycle) (new : List Figure)
+    (r : RoomIn (recycled (sheetOf d) f ks) new) where
   cycles-most : length ks ≤ 512
   cycles-most =
       let a = spare-cycles d z ix f n ks (roomy (recycled (sheetOf d) f ks) new r) in
@@ -124,7 +126,8 @@ new-takes s x ls r =
     record { fewCounts = omega arith; fewSteps = omega arith; cycles = omega arith; steps = omega arith }
 
 -- ---- one cycle
-module _ {d : Drawing} {ix : Index} {script : List ℕ} {f c s1 s2 bends first moved place : ℕ} (z : Sizes d) (r : Halves d ix script f c s1 s2 bends first moved place) where
+module _ {d : Drawing} {ix : Index} {script : List ℕ} {f c s1 s2 bends first moved place : ℕ} (z : Sizes d)
+    (r : Halves d ix script f c s1 s2 bends first moved place) where
   abbrev oneCycle : Along d ix script f c s1 c s2 bends first moved place
   oneCycle = r .asked
 
@@ -154,7 +157,8 @@ module _ {d : Drawing} {ix : Index} {script : List ℕ} {f c s1 s2 bends first m
           start = cornered z (oneCycle .sound) (oneCycle .named) s c (in-first oneCycle) s1 (at-first oneCycle) e;
           end = cornered z (oneCycle .sound) (oneCycle .named) s c (in-first oneCycle) s2 (at-second oneCycle) e;
           stand = oneCycle .stand;
-          rise = ap (places 0 (ms oneCycle)) (cycles-count z (oneCycle .sound) (oneCycle .named) s) ∙ true-of (places 0 (ms oneCycle) (length (own oneCycle))) (m .0);
+          rise = ap (places 0 (ms oneCycle)) (cycles-count z (oneCycle .sound) (oneCycle .named) s) ∙ true-of (places 0 (ms oneCycle) (length (own oneCycle)))
+              (m .0);
           stays = not-of (holds c (ms oneCycle)) (m .1);
           few = next-in d (oneCycle .sound);
         }
@@ -172,7 +176,8 @@ module _ {d : Drawing} {ix : Index} {script : List ℕ} {f c s1 s2 bends first m
       ks = cyclesAt (d .cycles) (d .steps) t
 
       few : (length (nearSide (d .next) c s1 s2 (ms oneCycle) ks) + length (farSide (d .next) c s1 s2 (ms oneCycle) ks) ≤ length ks + 1)
-          × (total stepCount (nearSide (d .next) c s1 s2 (ms oneCycle) ks) + total stepCount (farSide (d .next) c s1 s2 (ms oneCycle) ks) ≤ total stepCount ks + 2)
+          × (total stepCount (nearSide (d .next) c s1 s2 (ms oneCycle) ks) + total stepCount (farSide (d .next) c s1 s2 (ms oneCycle) ks) ≤ total stepCount ks
+          + 2)
       few =
           let y = moves oneCycle in
           sides-few ks (d .next) c (subst (λ (l : List Cycle). c < length l) (sym (s .list)) (in-first oneCycle)) s1 s2 (ms oneCycle)
@@ -195,7 +200,8 @@ module _ {d : Drawing} {ix : Index} {script : List ℕ} {f c s1 s2 bends first m
           record { fewCounts = hn; fewSteps = hm; cycles = omega arith; steps = omega arith }
 
 -- ---- two cycles
-module _ {d : Drawing} {ix : Index} {script : List ℕ} {f c1 s1 c2 s2 bends first moved place : ℕ} (z : Sizes d) (r : Bridged d ix script f c1 s1 c2 s2 bends first moved place) where
+module _ {d : Drawing} {ix : Index} {script : List ℕ} {f c1 s1 c2 s2 bends first moved place : ℕ} (z : Sizes d)
+    (r : Bridged d ix script f c1 s1 c2 s2 bends first moved place) where
   abbrev twoCycles : Along d ix script f c1 s1 c2 s2 bends first moved place
   twoCycles = r .asked
 
@@ -221,7 +227,8 @@ module _ {d : Drawing} {ix : Index} {script : List ℕ} {f c1 s1 c2 s2 bends fir
     pub joint-takes : RoomFor 512 2048 (bridge (d .next) c1 s1 c2 s2 (cyclesAt (d .cycles) (d .steps) t))
     joint-takes = subst (RoomFor 512 2048) (sym joint-list) (list-takes z (twoCycles .named) s joint (span ∷ []) (r .room))
 
-    pub joint-few : {n m : ℕ} → n ≤ 512 → m ≤ 2048 → t .cycles .count < n → t .steps .count + 2 ≤ m → RoomFor n m (bridge (d .next) c1 s1 c2 s2 (cyclesAt (d .cycles) (d .steps) t))
+    pub joint-few : {n m : ℕ} → n ≤ 512 → m ≤ 2048 → t .cycles .count < n → t .steps .count + 2 ≤ m
+        → RoomFor n m (bridge (d .next) c1 s1 c2 s2 (cyclesAt (d .cycles) (d .steps) t))
     joint-few hn hm hc hs =
         let ks = cyclesAt (d .cycles) (d .steps) t in
         let l = at-length (d .cycles) (d .steps) t (s .within) in

@@ -22,7 +22,8 @@ use Rattle.rows_split.specs.Along.{nearSide, farSide}
 use Rattle.rows_split.specs.Parts.{cycleAt, nearCycle, farCycle, SplitParting}
 use Rattle.rows_split.proofs.Places.{cornered-cycle}
 
-module _ {cycles steps : List ℕ} {t : Spans} {script : List ℕ} {moved place c : ℕ} {p : Place} {s1 s2 e : ℕ} (r : SplitParting cycles steps t script moved place c p s1 s2 e) where
+module _ {cycles steps : List ℕ} {t : Spans} {script : List ℕ} {moved place c : ℕ} {p : Place} {s1 s2 e : ℕ}
+    (r : SplitParting cycles steps t script moved place c p s1 s2 e) where
   abbrev ms : List ℕ
   ms = numbersRead script place moved
 
@@ -53,14 +54,17 @@ module _ {cycles steps : List ℕ} {t : Spans} {script : List ℕ} {moved place 
         ap (λ (n : ℕ). kept (take n flags) x) (sym l) ∙ sym (without-kept ms flags m x (omega arith))
         ∙ ap (λ (y : Cycle). without ms 0 (set ks c (nearCycle e s1 s2 y))) (sym own-is)
 
-    pub near-room : {n k : ℕ} → RoomFor n k (nearSide e c s1 s2 ms ks) → RoomFor n k (kept (take (t .cycles .count) flags) (set ks c (nearCycle e s1 s2 (cycleAt steps p))))
+    pub near-room : {n k : ℕ} → RoomFor n k (nearSide e c s1 s2 ms ks)
+        → RoomFor n k (kept (take (t .cycles .count) flags) (set ks c (nearCycle e s1 s2 (cycleAt steps p))))
     near-room {n} {k} f = subst (RoomFor n k) (sym near-kept) f
 
     module _ {stays : List Bool} (g : stays ≡ map not flags) where
       pub far-kept : farCycle e s1 s2 (cycleAt steps p) ∷ kept (take (t .cycles .count) stays) ks ≡ farSide e c s1 s2 ms ks
       far-kept =
           ap₂ (λ (y : Cycle) (l : List Cycle). farCycle e s1 s2 y ∷ l) (sym own-is)
-          (ap₂ (λ (n : ℕ) (l : List Bool). kept (take n l) ks) (sym count-is) g ∙ sym (chosen-kept ms flags m ks few noCycle (ap (places 0 ms) count-is ∙ r .rise)))
+          (ap₂ (λ (n : ℕ) (l : List Bool). kept (take n l) ks) (sym count-is) g
+          ∙ sym (chosen-kept ms flags m ks few noCycle (ap (places 0 ms) count-is ∙ r .rise)))
 
-      pub far-room : {n k : ℕ} → RoomFor n k (farSide e c s1 s2 ms ks) → RoomFor n k (farCycle e s1 s2 (cycleAt steps p) ∷ kept (take (t .cycles .count) stays) ks)
+      pub far-room : {n k : ℕ} → RoomFor n k (farSide e c s1 s2 ms ks)
+          → RoomFor n k (farCycle e s1 s2 (cycleAt steps p) ∷ kept (take (t .cycles .count) stays) ks)
       far-room {n} {k} f = subst (RoomFor n k) (sym far-kept) f

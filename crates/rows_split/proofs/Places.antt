@@ -29,7 +29,8 @@ use Rattle.rows_split.specs.Parts.{placeOf, cycleAt, farCycle, Cornered}
 use Rattle.rows_split.proofs.Arcs.{corner-most, halves-length, far-is}
 
 -- ---- a list of cycles says how much of the arrays it takes
-pub built-size : {ks : List Cycle} {counts : List ℕ} {u : Used} {steps : List ℕ} → Built ks counts u steps → (u .cycles ≡ length ks) × (u .steps ≡ total stepCount ks)
+pub built-size : {ks : List Cycle} {counts : List ℕ} {u : Used} {steps : List ℕ} → Built ks counts u steps
+    → (u .cycles ≡ length ks) × (u .steps ≡ total stepCount ks)
 built-size {ks} {counts} {u} {steps} b =
     let g = b .building in
     let w = g .width in
@@ -45,7 +46,8 @@ kept-count (b ∷ bs) [] st = refl
 kept-count (b ∷ bs) (n ∷ ns) st = go b (kept-count bs ns (drop (width n) st))
   where
     go : (b : Bool) → length (kept bs (cyclesFrom ns (drop (width n) st))) ≡ length (kept bs ns)
-        → length (cond b (kept bs (cyclesFrom ns (drop (width n) st))) (cycleOf n st ∷ kept bs (cyclesFrom ns (drop (width n) st)))) ≡ length (cond b (kept bs ns) (n ∷ kept bs ns))
+        → length (cond b (kept bs (cyclesFrom ns (drop (width n) st))) (cycleOf n st ∷ kept bs (cyclesFrom ns (drop (width n) st))))
+        ≡ length (cond b (kept bs ns) (n ∷ kept bs ns))
     go true e = e
     go false e = ap suc e
 
@@ -89,12 +91,21 @@ module _ (steps : List ℕ) (z : length steps ≡ 2048) (p : Place) (r : p .at +
     pub between-asks : (p .m ≤ 2048) × ((s ≤ p .m) × (t ≤ p .m))
     between-asks = let w = steps-within in (omega arith, (corner-most (p .m) s hs, corner-most (p .m) t ht))
 
-    pub arc-asks : (len : ℕ) → len ≤ p .m → (counts : List ℕ) (u : Used) (out : List ℕ) → 0 < length counts → len < length out → Building counts u out → u ≡ record { cycles = 0; steps = 0 } → ArcRoom steps (p .at) (p .m) s len counts u out
+    pub arc-asks : (len : ℕ) → len ≤ p .m → (counts : List ℕ) (u : Used) (out : List ℕ) → 0 < length counts → len < length out → Building counts u out
+        → u ≡ record { cycles = 0; steps = 0 } → ArcRoom steps (p .at) (p .m) s len counts u out
     arc-asks len hl counts u out hc hm b e =
         let w = steps-within in
         let uc = ap (λ (q : Used). q .cycles) e in
         let us = ap (λ (q : Used). q .steps) e in
-        record { building = b; stepsSize = z; cycle = omega arith; start = corner-most (p .m) s hs; least = hl; cycleRoom = omega arith; stepRoom = omega arith }
+        record {
+          building = b;
+          stepsSize = z;
+          cycle = omega arith;
+          start = corner-most (p .m) s hs;
+          least = hl;
+          cycleRoom = omega arith;
+          stepRoom = omega arith;
+        }
 
     -- how many steps the far side's cycle has
     pub far-steps : (e : ℕ) → stepCount (farCycle e s t (cycleAt steps p)) ≡ p .m - distance (p .m) s t + 1
@@ -107,8 +118,10 @@ module _ (steps : List ℕ) (z : length steps ≡ 2048) (p : Place) (r : p .at +
         let r = length-rotated s hs in
         omega arith
 
-    module _ (e : ℕ) {counts₀ counts : List ℕ} {u₀ u : Used} {out₀ out : List ℕ} (b₀ : Built [] counts₀ u₀ out₀) (len : ℕ) (el : len ≡ distance (p .m) s t) where
-      pub far-built : Built (built counts₀ u₀ out₀ ++ one (path (map halfedgeOf (arcOf steps (p .at) (p .m) t (p .m - len)) ++ one (halfedgeOf (2 * e))))) counts u out → Built (one (farCycle e s t (cycleAt steps p))) counts u out
+    module _ (e : ℕ) {counts₀ counts : List ℕ} {u₀ u : Used} {out₀ out : List ℕ} (b₀ : Built [] counts₀ u₀ out₀) (len : ℕ)
+        (el : len ≡ distance (p .m) s t) where
+      pub far-built : Built (built counts₀ u₀ out₀ ++ one (path (map halfedgeOf (arcOf steps (p .at) (p .m) t (p .m - len)) ++ one (halfedgeOf (2 * e)))))
+          counts u out → Built (one (farCycle e s t (cycleAt steps p))) counts u out
       far-built b =
           built-as
           (ap (λ (n : ℕ). one (path (map halfedgeOf (arcOf steps (p .at) (p .m) t (p .m - n)) ++ one (halfedgeOf (2 * e))))) el
@@ -124,7 +137,8 @@ module _ (cycles steps : List ℕ) (t : Spans) (c : ℕ) (p : Place) (s : ℕ) (
   cornered-cycle = place-cycle cycles steps t (k .within) c (k .cycle) ∙ ap (cycleAt steps) (sym (k .place))
 
 -- ---- a cycle, and then those of the spans that are kept
-module _ (cycles steps : List ℕ) (t : Spans) (w : Within cycles steps t) (flags : List Bool) (fs : t .cycles .count ≤ length flags) (x : Cycle) {counts : List ℕ} {u : Used} {out : List ℕ}
+module _ (cycles steps : List ℕ) (t : Spans) (w : Within cycles steps t) (flags : List Bool) (fs : t .cycles .count ≤ length flags)
+    (x : Cycle) {counts : List ℕ} {u : Used} {out : List ℕ}
     (hc : length (x ∷ kept (take (t .cycles .count) flags) (cyclesAt cycles steps t)) ≤ length counts)
     (hs : total stepCount (x ∷ kept (take (t .cycles .count) flags) (cyclesAt cycles steps t)) ≤ length out) (b : Built (one x) counts u out) where
   pub kept-asks : CopyRoom cycles steps (t .cycles .first) (t .cycles .count) (t .steps .first) flags counts u out

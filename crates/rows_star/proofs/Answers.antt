@@ -29,11 +29,13 @@ module _ (is ks ss es cs ns st : List ℕ) (i : ℕ) (buffer : List ℕ) (r : �
   pub row-found : r < length is → (ms : List Bool) → ms ≡ starMarks is ks ss es cs ns st i → filled (picked ms is) buffer ≡ starIn is ks ss es cs ns st i buffer
   row-found h ms g =
       ap (λ (m : List Bool). filled (picked m is) buffer) g
-      ∙ sym (ap (λ (b : Bool). cond b (filled (picked (starMarks is ks ss es cs ns st i) is) buffer) (unfilled 4 buffer)) (lt-ltb (rowOf i is) (length is) (omega arith)))
+      ∙ sym (ap (λ (b : Bool). cond b (filled (picked (starMarks is ks ss es cs ns st i) is) buffer) (unfilled 4 buffer))
+      (lt-ltb (rowOf i is) (length is) (omega arith)))
 
   pub row-missing : length is ≤ r → unfilled 4 buffer ≡ starIn is ks ss es cs ns st i buffer
   row-missing h =
-      sym (ap (λ (b : Bool). cond b (filled (picked (starMarks is ks ss es cs ns st i) is) buffer) (unfilled 4 buffer)) (le-ltb (rowOf i is) (length is) (omega arith)))
+      sym (ap (λ (b : Bool). cond b (filled (picked (starMarks is ks ss es cs ns st i) is) buffer) (unfilled 4 buffer))
+      (le-ltb (rowOf i is) (length is) (omega arith)))
 
 -- an id with a row is live
 live-row : (xs : List LiveCell) (i : ℕ) → ltb (rowOf i (idRow xs)) (length (idRow xs)) ≡ isLive (lookup xs i)
@@ -61,13 +63,16 @@ module _ (d : Drawing) (z : Sizes d) (t : Index) (x : Indexes d t) (s : T (sound
   is-live : (i : ℕ) → ltb (rowOf i (take (d .count) (t .ids))) (length (take (d .count) (t .ids))) ≡ isLive (cellAt (sheetOf d) i)
   is-live i = ap (λ (l : List ℕ). ltb (rowOf i l) (length l)) (ids-are d z (sound-fits d s) t x) ∙ live-row (sheetOf d .cells) i
 
-  star-called : (i : ℕ) (buffer : List ℕ) → cond (isLive (cellAt (sheetOf d) i)) (filled (star (sheetOf d .cells) i) buffer) (unfilled 4 buffer) ≡ starCall (sheetOf d) i buffer
+  star-called : (i : ℕ) (buffer : List ℕ) → cond (isLive (cellAt (sheetOf d) i)) (filled (star (sheetOf d .cells) i) buffer) (unfilled 4 buffer)
+      ≡ starCall (sheetOf d) i buffer
   unfolding starCall
   star-called i buffer =
-      sym (ap (λ (b : Bool). cond b (cond (isLive (cellAt (sheetOf d) i)) (filled (star (sheetOf d .cells) i) buffer) (unfilled 4 buffer)) (unfilled 1 buffer)) sheet-sound)
+      sym (ap (λ (b : Bool). cond b (cond (isLive (cellAt (sheetOf d) i)) (filled (star (sheetOf d .cells) i) buffer) (unfilled 4 buffer)) (unfilled 1 buffer))
+      sheet-sound)
 
   pub star-answer : (i : ℕ) (buffer : List ℕ)
-      → starIn (take (d .count) (t .ids)) (take (d .count) (t .kinds)) (take (d .count) (t .starts)) (take (d .count) (t .ends)) (take (d .count) (t .cycles)) (d .cycles) (d .steps) i buffer ≡ starOf d i buffer
+      → starIn (take (d .count) (t .ids)) (take (d .count) (t .kinds)) (take (d .count) (t .starts)) (take (d .count) (t .ends)) (take (d .count) (t .cycles))
+      (d .cycles) (d .steps) i buffer ≡ starOf d i buffer
   star-answer i buffer =
       ap₂ (λ (b : Bool) (l : List ℕ). cond b (filled l buffer) (unfilled 4 buffer)) (is-live i) (star-meant d z (sound-fits d s) t x i)
       ∙ star-called i buffer

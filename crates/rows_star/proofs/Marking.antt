@@ -90,7 +90,8 @@ module _ {A : Type 0} where
     pub count : k ≡ total bit (take i ms)
     pub whole : out ≡ picked (take i ms) (take i xs) ++ drop k out₀
 
-  module _ (ms : List Bool) (xs out₀ : List A) (i k : ℕ) (out : List A) (y : Bool) (z : A) (hm : i < length ms) (hx : i < length xs) (p : Picking ms xs out₀ i k out) where
+  module _ (ms : List Bool) (xs out₀ : List A) (i k : ℕ) (out : List A) (y : Bool) (z : A) (hm : i < length ms) (hx : i < length xs)
+      (p : Picking ms xs out₀ i k out) where
     front-length : length (picked (take i ms) (take i xs)) ≡ k
     front-length =
         picked-length (take i ms) (take i xs) (length-take-le i ms (omega arith) ∙ sym (length-take-le i xs (omega arith))) ∙ sym (p .count)
@@ -104,11 +105,13 @@ module _ {A : Type 0} where
         ap (λ (l : List A). set l k (getD xs i z)) (p .whole ∙ ap (λ (l : List A). picked (take i ms) (take i xs) ++ l) (drop-cons out₀ k z (omega arith)))
         ∙ set-at (picked (take i ms) (take i xs)) (getD out₀ k z) (drop (suc k) out₀) (getD xs i z) k front-length
         ∙ sym (append-snoc (picked (take i ms) (take i xs)) (getD xs i z) (drop (suc k) out₀))
-        ∙ ap₂ (λ (l : List A) (n : ℕ). l ++ drop n out₀) (sym (grown ∙ ap (λ (b : Bool). picked (take i ms) (take i xs) ++ consIf b (getD xs i z) []) e)) (sym (add-one k))
+        ∙ ap₂ (λ (l : List A) (n : ℕ). l ++ drop n out₀) (sym (grown ∙ ap (λ (b : Bool). picked (take i ms) (take i xs) ++ consIf b (getD xs i z) []) e))
+        (sym (add-one k))
     put false e h =
         let q : k ≡ k + 0 = omega arith in
         p .whole
-        ∙ ap₂ (λ (l : List A) (n : ℕ). l ++ drop n out₀) (sym (grown ∙ ap (λ (b : Bool). picked (take i ms) (take i xs) ++ consIf b (getD xs i z) []) e ∙ append-nil (picked (take i ms) (take i xs)))) q
+        ∙ ap₂ (λ (l : List A) (n : ℕ). l ++ drop n out₀)
+        (sym (grown ∙ ap (λ (b : Bool). picked (take i ms) (take i xs) ++ consIf b (getD xs i z) []) e ∙ append-nil (picked (take i ms) (take i xs)))) q
 
     pub picking-turn : (b : Bool) → getD ms i y ≡ b → (w : ℕ) → w ≡ bit b → k + w ≤ length out₀ → (out′ : List A) → out′ ≡ cond b (set out k (getD xs i z)) out
         → Picking ms xs out₀ (i + 1) (k + w) out′
@@ -127,11 +130,13 @@ module _ (xs buffer : List ℕ) (k : ℕ) (e : k ≡ length xs) where
   pub filled-room : k ≤ length buffer → (out : List ℕ) → out ≡ xs ++ drop k buffer → record { number = 0; count = k; buffer = out } ≡ filled xs buffer
   filled-room h out g =
       (λ j. record { number = 0; count = e j; buffer = (g ∙ ap (λ (n : ℕ). xs ++ drop n buffer) e) j })
-      ∙ sym (ap (λ (b : Bool). cond b (record { number = 0; count = length xs; buffer = xs ++ drop (length xs) buffer }) (record { number = 9; count = length xs; buffer = buffer }))
+      ∙ sym (ap (λ (b : Bool). cond b (record { number = 0; count = length xs; buffer = xs ++ drop (length xs) buffer })
+      (record { number = 9; count = length xs; buffer = buffer }))
       (le-leb (length xs) (length buffer) (omega arith)))
 
   pub filled-short : length buffer < k → record { number = 9; count = k; buffer = buffer } ≡ filled xs buffer
   filled-short h =
       (λ j. record { number = 9; count = e j; buffer = buffer })
-      ∙ sym (ap (λ (b : Bool). cond b (record { number = 0; count = length xs; buffer = xs ++ drop (length xs) buffer }) (record { number = 9; count = length xs; buffer = buffer }))
+      ∙ sym (ap (λ (b : Bool). cond b (record { number = 0; count = length xs; buffer = xs ++ drop (length xs) buffer })
+      (record { number = 9; count = length xs; buffer = buffer }))
       (lt-leb (length xs) (length buffer) (omega arith)))

@@ -102,14 +102,16 @@ module _ (i : ℕ) where
   count-length (closedEdge bs) = refl
   count-length (face ks) = refl
 
-  cells-row : (q : Cycle → Bool) (xs : List LiveCell) → cellMarks (map ending xs) (cycleRow xs) (map q (spread entryCycles xs)) ≡ map (λ (x : LiveCell). ending x || any q (entryCycles x)) xs
+  cells-row : (q : Cycle → Bool) (xs : List LiveCell) → cellMarks (map ending xs) (cycleRow xs) (map q (spread entryCycles xs))
+      ≡ map (λ (x : LiveCell). ending x || any q (entryCycles x)) xs
   cells-row q [] = refl
   cells-row q (x ∷ xs) =
       let a = map q (entryCycles x) in
       let b = map q (spread entryCycles xs) in
       let n : length (map q (entryCycles x)) ≡ cycleCount (shapeOf (x .figure)) = length-map (entryCycles x) q ∙ sym (count-length (x .figure)) in
       ap (cellMarks (map ending (x ∷ xs)) (cycleRow (x ∷ xs))) (map-append q (entryCycles x) (spread entryCycles xs))
-      ∙ ap₂ (λ (u v : List Bool). (ending x || anyOf u) ∷ cellMarks (map ending xs) (cycleRow xs) v) (take-at a b (cycleCount (shapeOf (x .figure))) n) (drop-at a b (cycleCount (shapeOf (x .figure))) n)
+      ∙ ap₂ (λ (u v : List Bool). (ending x || anyOf u) ∷ cellMarks (map ending xs) (cycleRow xs) v) (take-at a b (cycleCount (shapeOf (x .figure))) n)
+      (drop-at a b (cycleCount (shapeOf (x .figure))) n)
       ∙ ap₂ (λ (y : Bool) (ys : List Bool). (ending x || y) ∷ ys) (any-of q (entryCycles x)) (cells-row q xs)
 
   -- the marks of cells whose cycles are those of the pools
@@ -120,7 +122,8 @@ module _ (i : ℕ) where
       ap₂ (λ (ms : List Bool) (ks : List Cycle). cellMarks ms (cycleRow xs) (map (cycleHolds (idRow xs) ms i) ks)) (edge-row xs) (sym e)
       ∙ ap (cellMarks (map ending xs) (cycleRow xs)) (map-same (cycleHolds (idRow xs) (map ending xs) i) (onCycle xs) (cycle-row xs) (spread entryCycles xs))
       ∙ cells-row (onCycle xs) xs
-      ∙ map-same (λ (x : LiveCell). ending x || any (onCycle xs) (entryCycles x)) (λ (c : LiveCell). bounds (lookup xs) i (c .figure)) (λ x. cell-row xs (x .figure)) xs
+      ∙ map-same (λ (x : LiveCell). ending x || any (onCycle xs) (entryCycles x)) (λ (c : LiveCell). bounds (lookup xs) i (c .figure))
+      (λ x. cell-row xs (x .figure)) xs
 
 -- ---- of a drawing
 module _ (d : Drawing) (z : Sizes d) (f : Fits d) (t : Index) (x : Indexes d t) where
@@ -143,18 +146,23 @@ module _ (d : Drawing) (z : Sizes d) (f : Fits d) (t : Index) (x : Indexes d t) 
 
   -- a cell is marked if its boundary holds i
   pub marks-meant : (i : ℕ)
-      → starMarks (take (d .count) (t .ids)) (take (d .count) (t .kinds)) (take (d .count) (t .starts)) (take (d .count) (t .ends)) (take (d .count) (t .cycles)) (d .cycles) (d .steps) i
+      → starMarks (take (d .count) (t .ids)) (take (d .count) (t .kinds)) (take (d .count) (t .starts)) (take (d .count) (t .ends))
+      (take (d .count) (t .cycles)) (d .cycles) (d .steps) i
       ≡ map (λ (c : LiveCell). bounds (cellAt (sheetOf d)) i (c .figure)) (sheetOf d .cells)
   marks-meant i =
-      ap₂ (λ (a b : List ℕ). starMarks a b (take (d .count) (t .starts)) (take (d .count) (t .ends)) (take (d .count) (t .cycles)) (d .cycles) (d .steps) i) (ids-are d z f t x) (kinds-are d z f t x)
-      ∙ ap₂ (λ (a b : List ℕ). starMarks (idRow (sheetOf d .cells)) (kindRow (sheetOf d .cells)) a b (take (d .count) (t .cycles)) (d .cycles) (d .steps) i) (starts-are d z f t x) (ends-are d z f t x)
-      ∙ ap (λ (a : List ℕ). starMarks (idRow (sheetOf d .cells)) (kindRow (sheetOf d .cells)) (startRow (sheetOf d .cells)) (endRow (sheetOf d .cells)) a (d .cycles) (d .steps) i) (cycles-are d z f t x)
+      ap₂ (λ (a b : List ℕ). starMarks a b (take (d .count) (t .starts)) (take (d .count) (t .ends)) (take (d .count) (t .cycles)) (d .cycles) (d .steps) i)
+      (ids-are d z f t x) (kinds-are d z f t x)
+      ∙ ap₂ (λ (a b : List ℕ). starMarks (idRow (sheetOf d .cells)) (kindRow (sheetOf d .cells)) a b (take (d .count) (t .cycles)) (d .cycles) (d .steps) i)
+      (starts-are d z f t x) (ends-are d z f t x)
+      ∙ ap (λ (a : List ℕ). starMarks (idRow (sheetOf d .cells)) (kindRow (sheetOf d .cells)) (startRow (sheetOf d .cells)) (endRow (sheetOf d .cells)) a
+      (d .cycles) (d .steps) i) (cycles-are d z f t x)
       ∙ stars-row i (sheetOf d .cells) (d .cycles) (d .steps)
       (used-cycles d z f ∙ ap (λ (n : ℕ). cyclesFrom (take n (d .cycles)) (d .steps)) (sym (counts-sum d t x) ∙ ap sumOf (cycles-are d z f t x)))
 
   -- the ids of the marked rows are the star
   pub star-meant : (i : ℕ)
-      → picked (starMarks (take (d .count) (t .ids)) (take (d .count) (t .kinds)) (take (d .count) (t .starts)) (take (d .count) (t .ends)) (take (d .count) (t .cycles)) (d .cycles) (d .steps) i) (take (d .count) (t .ids))
+      → picked (starMarks (take (d .count) (t .ids)) (take (d .count) (t .kinds)) (take (d .count) (t .starts)) (take (d .count) (t .ends))
+      (take (d .count) (t .cycles)) (d .cycles) (d .steps) i) (take (d .count) (t .ids))
       ≡ star (sheetOf d .cells) i
   star-meant i =
       ap₂ (λ (a : List Bool) (b : List ℕ). picked a b) (marks-meant i) (ids-are d z f t x ∙ id-row (sheetOf d .cells))

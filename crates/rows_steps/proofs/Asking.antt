@@ -76,7 +76,8 @@ module _ (i : ℕ) where
   row-id [] t = absurd t
   row-id (x ∷ xs) t = go (eqb (x .id) i) refl t (row-id xs)
     where
-      go : (b : Bool) → eqb (x .id) i ≡ b → T (isVertex (someIf b (x .figure) (lookup xs i))) → (T (isVertex (lookup xs i)) → getD (ids xs) (rowOf i (ids xs)) 0 ≡ i)
+      go : (b : Bool) → eqb (x .id) i ≡ b → T (isVertex (someIf b (x .figure) (lookup xs i)))
+          → (T (isVertex (lookup xs i)) → getD (ids xs) (rowOf i (ids xs)) 0 ≡ i)
           → getD (x .id ∷ ids xs) (cond b 0 (suc (rowOf i (ids xs)))) 0 ≡ i
       go true e u ih = eqb-true (x .id) i e
       go false e u ih = ih u
@@ -84,7 +85,8 @@ module _ (i : ℕ) where
   -- what set_position asks
   pub vertex-row : (d : Drawing) → Sizes d → Fits d → T (isVertex (lookup (sheetOf d .cells) i)) → getD (kindsOf d) (rowOf i (ids (sheetOf d .cells))) 4 ≡ 0
   vertex-row d z f t =
-      subst (λ (cs : List Cell). getD (map (λ (c : Cell). kindOf (c .shape)) cs) (rowOf i (ids (sheetOf d .cells))) 4 ≡ 0) (sym (stands d z f .cells)) (row-kind (sheetOf d .cells) t)
+      subst (λ (cs : List Cell). getD (map (λ (c : Cell). kindOf (c .shape)) cs) (rowOf i (ids (sheetOf d .cells))) 4 ≡ 0) (sym (stands d z f .cells))
+      (row-kind (sheetOf d .cells) t)
 
   -- and what it gives
   pub vertex-moved : (lo : ℕ) (cs : List LiveCell) (hi : ℕ) (p : Position) → T (rising lo (ids cs) hi) → T (isVertex (lookup cs i))

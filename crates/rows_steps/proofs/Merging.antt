@@ -24,14 +24,16 @@ use Rattle.rows_steps.proofs.Rewired.{rewired-cycles, were-real, stay-r
 use Rattle.rows_steps.proofs.Swaps.{held-steps, held-swapped, one-for, none-then-one, one-few, none-few}
 
 module _ (d : Drawing) (z : Sizes d) (f : Fits d) where
-  pub real-with : (σ : Halfedge → List Halfedge) → ((h : Halfedge) → 1 ≤ length (σ h)) → allReal (spread entryCycles (reshape (rewired sameVertex σ) (sheetOf d .cells))) ≡ true
+  pub real-with : (σ : Halfedge → List Halfedge) → ((h : Halfedge) → 1 ≤ length (σ h))
+      → allReal (spread entryCycles (reshape (rewired sameVertex σ) (sheetOf d .cells))) ≡ true
   real-with σ some =
       ap allReal (rewired-cycles sameVertex σ (sheetOf d .cells)) ∙ stay-real sameVertex σ some (spread entryCycles (sheetOf d .cells)) (stands d z f .real)
 
   steps-fit : length (spread cycleWords (spread entryCycles (sheetOf d .cells))) ≤ 2048
   steps-fit = omega (arith, begins-length (stands d z f .steps), z .steps)
 
-  pub room-with : (σ : Halfedge → List Halfedge) → ((h : Halfedge) → length (σ h) ≤ 1) → over stepsHeld (reshape (rewired sameVertex σ) (sheetOf d .cells)) ≤ 2048
+  pub room-with : (σ : Halfedge → List Halfedge) → ((h : Halfedge) → length (σ h) ≤ 1)
+      → over stepsHeld (reshape (rewired sameVertex σ) (sheetOf d .cells)) ≤ 2048
   room-with σ few =
       let xs = sheetOf d .cells in
       let e : length (spread cycleWords (spread entryCycles (reshape (rewired sameVertex σ) xs))) ≡ length (spread cycleWords (map _ (spread entryCycles xs))) =
@@ -56,9 +58,16 @@ module _ (d : Drawing) (z : Sizes d) (f : Fits d) where
       first-room =
           let ks = spread entryCycles (sheetOf d .cells) in
           subst (λ (s : Swap). length (allSteps s (take (cycleTotal d) (d .cycles)) (d .steps)) ≤ 2048) (sym et)
-          (omega (arith, ap length (held-steps (noneFor b) ks (d .cycles) (cycleTotal d) (d .steps) (stepTotal d) (drawing-held d z f)), steps-less sameVertex (swapHalf (noneFor b)) (none-few b) ks, steps-fit))
+          (omega (
+            arith,
+            ap length (held-steps (noneFor b) ks (d .cycles) (cycleTotal d) (d .steps) (stepTotal d)
+                (drawing-held d z f)),
+            steps-less sameVertex (swapHalf (noneFor b)) (none-few b) ks,
+            steps-fit,
+          ))
 
-      module _ (r : allReal (spread entryCycles (reshape (rewired sameVertex (inOne a b n)) (sheetOf d .cells))) ≡ true) (cy st : List ℕ) (ec : length cy ≡ 512) (es : length st ≡ 2048)
+      module _ (r : allReal (spread entryCycles (reshape (rewired sameVertex (inOne a b n)) (sheetOf d .cells))) ≡ true) (cy st : List ℕ) (ec : length cy ≡ 512)
+          (es : length st ≡ 2048)
           (w : Swapped t (take (cycleTotal d) (d .cycles)) (d .steps) cy st) where
         final-real : allReal merged ≡ true
         final-real = sym (ap allReal merged-cycles) ∙ r
@@ -68,7 +77,8 @@ module _ (d : Drawing) (z : Sizes d) (f : Fits d) where
 
         pub without-held : Held without cy (cycleTotal d) st (length (spread cycleWords without))
         without-held =
-            held-swapped (noneFor b) (spread entryCycles (sheetOf d .cells)) (d .cycles) (cycleTotal d) (d .steps) (stepTotal d) (drawing-held d z f) cy st (ec ∙ sym (z .cycles))
+            held-swapped (noneFor b) (spread entryCycles (sheetOf d .cells)) (d .cycles) (cycleTotal d) (d .steps) (stepTotal d) (drawing-held d z f) cy st
+            (ec ∙ sym (z .cycles))
             (omega (arith, without-room)) (were-real sameVertex (swapHalf (oneFor a n false)) without final-real)
             (subst (λ (s : Swap). Swapped s (take (cycleTotal d) (d .cycles)) (d .steps) cy st) et w)
 
@@ -81,9 +91,16 @@ module _ (d : Drawing) (z : Sizes d) (f : Fits d) where
         pub second-room : length (allSteps u (take (cycleTotal d) cy) st) ≤ 2048
         second-room =
             subst (λ (s : Swap). length (allSteps s (take (cycleTotal d) cy) st) ≤ 2048) (sym eu)
-            (omega (arith, ap length (held-steps (oneFor a n false) without cy (cycleTotal d) st (length (spread cycleWords without)) without-held), merged-room))
+            (omega (
+              arith,
+              ap length (held-steps (oneFor a n false) without cy (cycleTotal d) st
+                  (length (spread cycleWords without)) without-held),
+              merged-room,
+            ))
 
-        pub merged-held : (cy′ st′ : List ℕ) → length cy′ ≡ 512 → length st′ ≡ 2048 → Swapped u (take (cycleTotal d) cy) st cy′ st′ → Held merged cy′ (cycleTotal d) st′ (length (spread cycleWords merged))
+        pub merged-held : (cy′ st′ : List ℕ) → length cy′ ≡ 512 → length st′ ≡ 2048 → Swapped u (take (cycleTotal d) cy) st cy′ st′
+            → Held merged cy′ (cycleTotal d) st′ (length (spread cycleWords merged))
         merged-held cy′ st′ gc gs v =
-            held-swapped (oneFor a n false) without cy (cycleTotal d) st (length (spread cycleWords without)) without-held cy′ st′ (gc ∙ sym ec) (omega (arith, merged-room)) final-real
+            held-swapped (oneFor a n false) without cy (cycleTotal d) st (length (spread cycleWords without)) without-held cy′ st′ (gc ∙ sym ec)
+            (omega (arith, merged-room)) final-real
             (subst (λ (s : Swap). Swapped s (take (cycleTotal d) cy) st cy′ st′) eu v)

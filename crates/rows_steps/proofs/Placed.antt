@@ -31,10 +31,13 @@ use Rattle.rows_steps.proofs.Renamed.{noCell}
 use Rattle.rows_steps.proofs.Rewired.{changed-is}
 
 -- ---- other cells over the same arrays
-same-pools : (d r : Drawing) → Sizes d → Fits d → Sizes r → r ≡ withCells d (d .next) (d .count) (r .cells) → (xs : List LiveCell) → take (d .count) (r .cells) ≡ map entryCell xs
-    → spread entryCycles xs ≡ spread entryCycles (sheetOf d .cells) → spread entryBends xs ≡ spread entryBends (sheetOf d .cells) → (sheetOf r ≡ withEntries (sheetOf d) xs) × Fits r
+same-pools : (d r : Drawing) → Sizes d → Fits d → Sizes r → r ≡ withCells d (d .next) (d .count) (r .cells) → (xs : List LiveCell)
+    → take (d .count) (r .cells) ≡ map entryCell xs
+    → spread entryCycles xs ≡ spread entryCycles (sheetOf d .cells) → spread entryBends xs ≡ spread entryBends (sheetOf d .cells)
+    → (sheetOf r ≡ withEntries (sheetOf d) xs) × Fits r
 same-pools d r z f zr e xs ec hk hb =
-    changed-is d r z f zr (ap (λ (q : Drawing). q .next) e) (ap (λ (q : Drawing). q .count) e) (ap (λ (q : Drawing). q .bends) e) xs ec hb (cycleTotal d) (stepTotal d)
+    changed-is d r z f zr (ap (λ (q : Drawing). q .next) e) (ap (λ (q : Drawing). q .count) e) (ap (λ (q : Drawing). q .bends) e) xs ec hb (cycleTotal d)
+    (stepTotal d)
     (subst (λ (q : Drawing). Held (spread entryCycles xs) (q .cycles) (cycleTotal d) (q .steps) (stepTotal d)) (sym e)
     (subst (λ (ks : List Cycle). Held ks (d .cycles) (cycleTotal d) (d .steps) (stepTotal d)) (sym hk) (drawing-held d z f)))
 
@@ -60,7 +63,8 @@ module _ (starts ends : List ℕ) where
 
   ended-heads : (i : ℕ) (xs : List LiveCell) → endedCells starts ends i (map entryCell xs) ≡ map entryCell (reEnded starts ends i xs)
   ended-heads i [] = refl
-  ended-heads i (x ∷ xs) = ap₂ (λ (s : Shape) (q : List Cell). record { id = x .id; shape = s } ∷ q) (figure-shape (getD starts i 0) (getD ends i 0) (x .figure)) (ended-heads (suc i) xs)
+  ended-heads i (x ∷ xs) = ap₂ (λ (s : Shape) (q : List Cell). record { id = x .id; shape = s } ∷ q)
+      (figure-shape (getD starts i 0) (getD ends i 0) (x .figure)) (ended-heads (suc i) xs)
 
   ended-cycles : (i : ℕ) (xs : List LiveCell) → spread entryCycles (reEnded starts ends i xs) ≡ spread entryCycles xs
   ended-cycles i [] = refl
@@ -70,11 +74,13 @@ module _ (starts ends : List ℕ) where
   ended-bends i [] = refl
   ended-bends i (x ∷ xs) = ap₂ (λ (p q : List Position). p ++ q) (figure-bends (getD starts i 0) (getD ends i 0) (x .figure)) (ended-bends (suc i) xs)
 
-  pub ended-is : (d r : Drawing) → Sizes d → Fits d → Sizes r → r ≡ withCells d (d .next) (d .count) (r .cells) → take (d .count) (r .cells) ≡ endedCells starts ends 0 (take (d .count) (d .cells))
+  pub ended-is : (d r : Drawing) → Sizes d → Fits d → Sizes r → r ≡ withCells d (d .next) (d .count) (r .cells)
+      → take (d .count) (r .cells) ≡ endedCells starts ends 0 (take (d .count) (d .cells))
       → (sheetOf r ≡ withEntries (sheetOf d) (reEnded starts ends 0 (sheetOf d .cells))) × Fits r
   ended-is d r z f zr e g =
       let xs = sheetOf d .cells in
-      same-pools d r z f zr e (reEnded starts ends 0 xs) (g ∙ ap (endedCells starts ends 0) (stands d z f .cells) ∙ ended-heads 0 xs) (ended-cycles 0 xs) (ended-bends 0 xs)
+      same-pools d r z f zr e (reEnded starts ends 0 xs) (g ∙ ap (endedCells starts ends 0) (stands d z f .cells) ∙ ended-heads 0 xs) (ended-cycles 0 xs)
+      (ended-bends 0 xs)
 
   -- one row more
   abbrev cell-of : ℕ → Cell → Cell
@@ -90,14 +96,17 @@ module _ (starts ends : List ℕ) where
   pub record Ending (cs : List Cell) (i : ℕ) (out : List Cell) : Type 0 where
     pub front : take i out ≡ endedCells starts ends 0 (take i cs)
 
-  pub ending-turn : (cs : List Cell) (i : ℕ) (out : List Cell) (t : Shape) → i < length cs → i < length out → t ≡ endedShape (getD starts i 0) (getD ends i 0) (getD cs i noCell .shape)
+  pub ending-turn : (cs : List Cell) (i : ℕ) (out : List Cell) (t : Shape) → i < length cs → i < length out
+      → t ≡ endedShape (getD starts i 0) (getD ends i 0) (getD cs i noCell .shape)
       → Ending cs i out → Ending cs (i + 1) (set out i (record { id = getD cs i noCell .id; shape = t }))
   ending-turn cs i out t h k e p =
       record {
         front =
             ap (λ (n : ℕ). take n (set out i (record { id = getD cs i noCell .id; shape = t }))) (add-one i) ∙ take-suc-set out i _ k
             ∙ ap₂ (λ (x : List Cell) (s : Shape). x ++ (record { id = getD cs i noCell .id; shape = s } ∷ [])) (p .front) e
-            ∙ sym (rw (add-one, take-suc cs i noCell h) (ended-snoc 0 (take i cs) (getD cs i noCell) ∙ ap (λ (n : ℕ). endedCells starts ends 0 (take i cs) ++ (cell-of n (getD cs i noCell) ∷ [])) (row i (length-take-le i cs (omega arith)))));
+            ∙ sym (rw (add-one, take-suc cs i noCell h)
+            (ended-snoc 0 (take i cs) (getD cs i noCell) ∙ ap (λ (n : ℕ). endedCells starts ends 0 (take i cs) ++ (cell-of n (getD cs i noCell) ∷ []))
+            (row i (length-take-le i cs (omega arith)))));
       }
     where
       row : (n : ℕ) {m : ℕ} → m ≡ n → 0 + m ≡ n
@@ -113,7 +122,8 @@ module _ (f g : ℕ → ℕ → ℕ) (starts ends : List ℕ) where
   abbrev pub RowOk : ℕ → LiveCell → Type 0
   RowOk i c = endedFigure (getD starts i 0) (getD ends i 0) (c .figure) ≡ endsBy f g (c .id) (c .figure)
 
-  pub row-ok : (i : ℕ) (c : LiveCell) → ((a b : ℕ) (bs : List Position) → c .figure ≡ openEdge a b bs → (getD starts i 0 ≡ f (c .id) a) × (getD ends i 0 ≡ g (c .id) b)) → RowOk i c
+  pub row-ok : (i : ℕ) (c : LiveCell) → ((a b : ℕ) (bs : List Position) → c .figure ≡ openEdge a b bs
+      → (getD starts i 0 ≡ f (c .id) a) × (getD ends i 0 ≡ g (c .id) b)) → RowOk i c
   row-ok i c h = go (c .figure) refl
     where
       go : (x : Figure) → c .figure ≡ x → endedFigure (getD starts i 0) (getD ends i 0) x ≡ endsBy f g (c .id) x
@@ -165,17 +175,20 @@ module _ (p : Position) where
   abbrev kinds : List LiveCell → List ℕ
   kinds xs = map (λ (c : Cell). kindOf (c .shape)) (map entryCell xs)
 
-  moved-cycles : (xs : List LiveCell) (row i : ℕ) → getD (kinds xs) row 4 ≡ 0 → spread entryCycles (set xs row (record { id = i; figure = vertex p })) ≡ spread entryCycles xs
+  moved-cycles : (xs : List LiveCell) (row i : ℕ) → getD (kinds xs) row 4 ≡ 0
+      → spread entryCycles (set xs row (record { id = i; figure = vertex p })) ≡ spread entryCycles xs
   moved-cycles [] row i e = refl
   moved-cycles (x ∷ xs) zero i e = ap (λ (q : List Cycle). q ++ spread entryCycles xs) (sym (vertex-shape (x .figure) e .0))
   moved-cycles (x ∷ xs) (suc row) i e = ap (λ (q : List Cycle). entryCycles x ++ q) (moved-cycles xs row i e)
 
-  moved-bends : (xs : List LiveCell) (row i : ℕ) → getD (kinds xs) row 4 ≡ 0 → spread entryBends (set xs row (record { id = i; figure = vertex p })) ≡ spread entryBends xs
+  moved-bends : (xs : List LiveCell) (row i : ℕ) → getD (kinds xs) row 4 ≡ 0
+      → spread entryBends (set xs row (record { id = i; figure = vertex p })) ≡ spread entryBends xs
   moved-bends [] row i e = refl
   moved-bends (x ∷ xs) zero i e = ap (λ (q : List Position). q ++ spread entryBends xs) (sym (vertex-shape (x .figure) e .1))
   moved-bends (x ∷ xs) (suc row) i e = ap (λ (q : List Position). entryBends x ++ q) (moved-bends xs row i e)
 
-  moved-heads : (xs : List LiveCell) (row i : ℕ) → set (map entryCell xs) row (record { id = i; shape = Vertex p }) ≡ map entryCell (set xs row (record { id = i; figure = vertex p }))
+  moved-heads : (xs : List LiveCell) (row i : ℕ) → set (map entryCell xs) row (record { id = i; shape = Vertex p })
+      ≡ map entryCell (set xs row (record { id = i; figure = vertex p }))
   moved-heads [] row i = refl
   moved-heads (x ∷ xs) zero i = refl
   moved-heads (x ∷ xs) (suc row) i = ap (λ (q : List Cell). entryCell x ∷ q) (moved-heads xs row i)
@@ -202,7 +215,8 @@ module _ (p : Position) where
       same-pools d (withCells d (d .next) (d .count) (set (d .cells) row (record { id = getD (d .cells) row noCell .id; shape = Vertex p }))) z f
       (record { cells = length-set (d .cells) row _ ∙ z .cells; cycles = z .cycles; steps = z .steps; bends = z .bends }) refl
       (set xs row (record { id = i; figure = vertex p }))
-      (take-set-lt (d .count) (d .cells) row _ h ∙ ap₂ (λ (cs : List Cell) (j : ℕ). set cs row (record { id = j; shape = Vertex p })) (s .cells) q ∙ moved-heads xs row i)
+      (take-set-lt (d .count) (d .cells) row _ h ∙ ap₂ (λ (cs : List Cell) (j : ℕ). set cs row (record { id = j; shape = Vertex p })) (s .cells) q
+      ∙ moved-heads xs row i)
       (moved-cycles xs row i k) (moved-bends xs row i k)
 
 -- ---- one cell replaced, where ids rise
@@ -216,7 +230,8 @@ module _ (y : Figure) where
   none-replaced i lo (c ∷ cs) hi t h =
       let b = both (ltb lo (c .id)) (rising (c .id) (ids cs) hi) t in
       let l = ltb→lt lo (c .id) (b .0) in
-      ap₂ (λ (x : Bool) (q : List LiveCell). record { id = c .id; figure = cond x y (c .figure) } ∷ q) (sym (ne-eqb i (c .id) (omega arith))) (none-replaced i (c .id) cs hi (b .1) (omega arith))
+      ap₂ (λ (x : Bool) (q : List LiveCell). record { id = c .id; figure = cond x y (c .figure) } ∷ q) (sym (ne-eqb i (c .id) (omega arith)))
+      (none-replaced i (c .id) cs hi (b .1) (omega arith))
 
   rising-row : (lo : ℕ) (ns : List ℕ) (hi row : ℕ) → T (rising lo ns hi) → row < length ns → lo < getD ns row 0
   rising-row lo [] hi row t h = absurd (omega arith)
@@ -233,8 +248,10 @@ module _ (y : Figure) where
   row-replaced lo [] hi row t h = absurd (omega arith)
   row-replaced lo (c ∷ cs) hi zero t h =
       let b = both (ltb lo (c .id)) (rising (c .id) (ids cs) hi) t in
-      ap₂ (λ (x : Bool) (q : List LiveCell). record { id = c .id; figure = cond x y (c .figure) } ∷ q) (sym (eq-eqb (c .id) (c .id) refl)) (none-replaced (c .id) (c .id) cs hi (b .1) (omega arith))
+      ap₂ (λ (x : Bool) (q : List LiveCell). record { id = c .id; figure = cond x y (c .figure) } ∷ q) (sym (eq-eqb (c .id) (c .id) refl))
+      (none-replaced (c .id) (c .id) cs hi (b .1) (omega arith))
   row-replaced lo (c ∷ cs) hi (suc row) t h =
       let b = both (ltb lo (c .id)) (rising (c .id) (ids cs) hi) t in
       let g = rising-row (c .id) (ids cs) hi row (b .1) (omega (arith, length-map cs (λ (x : LiveCell). x .id))) in
-      ap₂ (λ (x : Bool) (q : List LiveCell). record { id = c .id; figure = cond x y (c .figure) } ∷ q) (sym (ne-eqb (getD (ids cs) row 0) (c .id) (omega arith))) (row-replaced (c .id) cs hi row (b .1) (omega arith))
+      ap₂ (λ (x : Bool) (q : List LiveCell). record { id = c .id; figure = cond x y (c .figure) } ∷ q)
+      (sym (ne-eqb (getD (ids cs) row 0) (c .id) (omega arith))) (row-replaced (c .id) cs hi row (b .1) (omega arith))

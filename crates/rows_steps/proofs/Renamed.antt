@@ -40,13 +40,15 @@ module _ (r : ℕ → ℕ) where
   same [] = refl
   same (n ∷ l) = ap (λ (q : List ℕ). n ∷ q) (same l)
 
-  lone-steps : (ks : List Cycle) → allReal ks ≡ true → zipped (renamePlace r) (lonePlaces (map numOf ks)) (spread cycleWords ks) ≡ spread cycleWords (map (rewiredCycle r one) ks)
+  lone-steps : (ks : List Cycle) → allReal ks ≡ true → zipped (renamePlace r) (lonePlaces (map numOf ks)) (spread cycleWords ks)
+      ≡ spread cycleWords (map (rewiredCycle r one) ks)
   lone-steps [] h = refl
   lone-steps (lone v ∷ ks) h = ap (λ (q : List ℕ). r v ∷ q) (lone-steps ks h)
   lone-steps (path [] ∷ ks) h = absurd (false≢true h)
   lone-steps (path (x ∷ hs) ∷ ks) h =
       let rs = lonePlaces (map numOf ks) in
-      ap (λ (m : Bool). zipped (renamePlace r) (replicate (suc (length hs)) m ++ rs) (map word (x ∷ hs) ++ spread cycleWords ks)) (ne-eqb (suc (length hs)) 0 (omega arith))
+      ap (λ (m : Bool). zipped (renamePlace r) (replicate (suc (length hs)) m ++ rs) (map word (x ∷ hs) ++ spread cycleWords ks))
+      (ne-eqb (suc (length hs)) 0 (omega arith))
       ∙ ap (λ (n : ℕ). zipped (renamePlace r) (replicate (suc n) false ++ rs) (map word (x ∷ hs) ++ spread cycleWords ks)) (sym (length-map hs word))
       ∙ zip-run (renamePlace r) false (map word (x ∷ hs)) (spread cycleWords ks) rs
       ∙ ap₂ (λ (p q : List ℕ). p ++ q) (same (map word (x ∷ hs)) ∙ ap (map word) (sym (spread-one (x ∷ hs)))) (lone-steps ks h)

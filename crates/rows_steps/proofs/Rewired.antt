@@ -55,7 +55,8 @@ module _ (r : ℕ → ℕ) (σ : Halfedge → List Halfedge) where
   pub rewired-cycles : (xs : List Entry) → spread entryCycles (reshape (rewired r σ) xs) ≡ map (rewiredCycle r σ) (spread entryCycles xs)
   rewired-cycles [] = refl
   rewired-cycles (x ∷ xs) =
-      ap₂ (λ (p q : List Cycle). p ++ q) (figure-cycles (x .id) (x .figure)) (rewired-cycles xs) ∙ sym (map-append (rewiredCycle r σ) (entryCycles x) (spread entryCycles xs))
+      ap₂ (λ (p q : List Cycle). p ++ q) (figure-cycles (x .id) (x .figure)) (rewired-cycles xs)
+      ∙ sym (map-append (rewiredCycle r σ) (entryCycles x) (spread entryCycles xs))
 
   pub rewired-bends : (xs : List Entry) → spread entryBends (reshape (rewired r σ) xs) ≡ spread entryBends xs
   rewired-bends [] = refl
@@ -114,7 +115,13 @@ module _ (r : ℕ → ℕ) (σ : Halfedge → List Halfedge) where
     steps-less [] = omega arith
     steps-less (k ∷ ks) =
         let e = steps-less ks in
-        omega (arith, cycle-less k, length-append (cycleWords k) (spread cycleWords ks), length-append (cycleWords (rewiredCycle r σ k)) (spread cycleWords (map (rewiredCycle r σ) ks)))
+        omega (
+          arith,
+          cycle-less k,
+          length-append (cycleWords k) (spread cycleWords ks),
+          length-append (cycleWords (rewiredCycle r σ k)) (spread cycleWords
+              (map (rewiredCycle r σ) ks)),
+        )
 
 -- two replacements, one after the other, are one
 module _ (σ τ ρ : Halfedge → List Halfedge) (e : (h : Halfedge) → spread τ (σ h) ≡ ρ h) where
@@ -137,7 +144,8 @@ figure-steps (face ks) = all-places ks
 pub steps-held : (xs : List Entry) → length (spread cycleWords (spread entryCycles xs)) ≡ over stepsHeld xs
 steps-held [] = refl
 steps-held (x ∷ xs) =
-    ap length (flat-append cycleWords (entryCycles x) (spread entryCycles xs)) ∙ length-append (spread cycleWords (entryCycles x)) (spread cycleWords (spread entryCycles xs))
+    ap length (flat-append cycleWords (entryCycles x) (spread entryCycles xs))
+    ∙ length-append (spread cycleWords (entryCycles x)) (spread cycleWords (spread entryCycles xs))
     ∙ ap₂ _+_ (figure-steps (x .figure)) (steps-held xs)
 
 -- ---- held cycles take as many places as their numbers say
@@ -145,8 +153,10 @@ pub held-width : (ks : List Cycle) (cy : List ℕ) (n : ℕ) (st : List ℕ) (m 
 held-width ks cy n st m h = ap widthSum (h .lengths) ∙ width-sum ks (h .real) ∙ sym (ap length (h .places)) ∙ length-take-le m st (h .placesRoom)
 
 -- ---- a drawing with other cells, whose bends are those of d
-module _ (d r : Drawing) (z : Sizes d) (f : Fits d) (zr : Sizes r) (ex : r .next ≡ d .next) (en : r .count ≡ d .count) (eb : r .bends ≡ d .bends) (xs : List Entry)
-    (ec : take (d .count) (r .cells) ≡ map entryCell xs) (hb : spread entryBends xs ≡ spread entryBends (sheetOf d .cells)) (n m : ℕ) (hk : Held (spread entryCycles xs) (r .cycles) n (r .steps) m) where
+module _ (d r : Drawing) (z : Sizes d) (f : Fits d) (zr : Sizes r) (ex : r .next ≡ d .next) (en : r .count ≡ d .count) (eb : r .bends ≡ d .bends)
+    (xs : List Entry)
+    (ec : take (d .count) (r .cells) ≡ map entryCell xs) (hb : spread entryBends xs ≡ spread entryBends (sheetOf d .cells)) (n m : ℕ)
+    (hk : Held (spread entryCycles xs) (r .cycles) n (r .steps) m) where
   changed-stands : Stands r xs
   changed-stands =
       record {

@@ -34,7 +34,8 @@ module _ (t : Swap) (ks : List Cycle) (cy : List ℕ) (n : ℕ) (st : List ℕ) 
   held-numbers = ap₂ (allNumbers t) (h .lengths) split ∙ swapped-numbers t ks (drop m st) (h .real)
 
   -- arrays that hold cycles, swapped, hold the swapped cycles
-  pub held-swapped : (cy′ st′ : List ℕ) → length cy′ ≡ length cy → length (spread cycleWords (map (swapCycle t) ks)) ≤ length st′ → allReal (map (swapCycle t) ks) ≡ true
+  pub held-swapped : (cy′ st′ : List ℕ) → length cy′ ≡ length cy → length (spread cycleWords (map (swapCycle t) ks)) ≤ length st′
+      → allReal (map (swapCycle t) ks) ≡ true
       → Swapped t (take n cy) st cy′ st′ → Held (map (swapCycle t) ks) cy′ n st′ (length (spread cycleWords (map (swapCycle t) ks)))
   held-swapped cy′ st′ e l r w =
       record {
@@ -76,7 +77,8 @@ one-for e a flip =
     ∙ go h (eqb e (h .edge)) (h .backward) flip)
   where
     go : (h : Halfedge) (x y f : Bool)
-        → cond x (cond y (record { edge = a; backward = not f } ∷ []) (record { edge = a; backward = f } ∷ [])) (one h) ≡ one (cond x (record { edge = a; backward = cond f (not y) y }) h)
+        → cond x (cond y (record { edge = a; backward = not f } ∷ []) (record { edge = a; backward = f } ∷ [])) (one h)
+        ≡ one (cond x (record { edge = a; backward = cond f (not y) y }) h)
     go h true true true = refl
     go h true true false = refl
     go h true false true = refl
@@ -100,7 +102,8 @@ none-for b h = swap-is (noneFor b) b refl refl [] [] refl refl h ∙ go (eqb b (
 pub none-then-one : (a b n : ℕ) (h : Halfedge) → spread (swapHalf (oneFor a n false)) (swapHalf (noneFor b) h) ≡ inOne a b n h
 none-then-one a b n h = ap₂ (λ (σ : Halfedge → List Halfedge) (l : List Halfedge). spread σ l) (one-for a n false) (none-for b h) ∙ go (eqb b (h .edge))
   where
-    go : (x : Bool) → spread (inPlaceOf a n false) (cond x [] (one h)) ≡ cond x [] (one (cond (eqb a (h .edge)) (record { edge = n; backward = h .backward }) h))
+    go : (x : Bool) → spread (inPlaceOf a n false) (cond x [] (one h))
+        ≡ cond x [] (one (cond (eqb a (h .edge)) (record { edge = n; backward = h .backward }) h))
     go true = refl
     go false = refl
 

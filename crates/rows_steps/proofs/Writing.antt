@@ -25,7 +25,12 @@ pub wrote-none : (l : List ℕ) (at : ℕ) → Wrote l at [] l
 wrote-none l at = record { size = refl; front = no-more l at; back = refl }
 
 pub wrote-one : (l : List ℕ) (at v : ℕ) → at < length l → Wrote l at (v ∷ []) (set l at v)
-wrote-one l at v h = record { size = length-set l at v; front = ap (λ (n : ℕ). take n (set l at v)) (add-one at) ∙ take-suc-set l at v h; back = drop-set-lt (at + 1) l at v (omega arith) }
+wrote-one l at v h = record {
+  size = length-set l at v;
+  front = ap (λ (n : ℕ). take n (set l at v)) (add-one at) ∙ take-suc-set l at v h;
+  back = drop-set-lt (at
+      + 1) l at v (omega arith);
+}
 
 pub wrote-then : (l m n xs ys : List ℕ) (at : ℕ) → Wrote l at xs m → Wrote m (at + length xs) ys n → Wrote l at (xs ++ ys) n
 wrote-then l m n xs ys at p q =
@@ -34,7 +39,8 @@ wrote-then l m n xs ys at p q =
       size = q .size ∙ p .size;
       front = ap (λ (k : ℕ). take k n) e ∙ q .front ∙ ap (λ (r : List ℕ). r ++ ys) (p .front) ∙ append-assoc (take at l) xs ys;
       back =
-          ap (λ (k : ℕ). drop k n) e ∙ q .back ∙ sym (drop-drop (length ys) (at + length xs) m) ∙ ap (drop (length ys)) (p .back) ∙ drop-drop (length ys) (at + length xs) l
+          ap (λ (k : ℕ). drop k n) e ∙ q .back ∙ sym (drop-drop (length ys) (at + length xs) m) ∙ ap (drop (length ys)) (p .back)
+          ∙ drop-drop (length ys) (at + length xs) l
           ∙ ap (λ (k : ℕ). drop k l) (sym e);
     }
 
@@ -55,12 +61,18 @@ module _ (t : Swap) (s : ℕ) where
 
 module _ (f : ℕ → List ℕ) (l : List ℕ) where
   pub flat-more : (i : ℕ) → i < length l → spread f (take (i + 1) l) ≡ spread f (take i l) ++ f (getD l i 0)
-  flat-more i h = rw (add-one, take-suc l i 0 h) (flat-append f (take i l) (getD l i 0 ∷ []) ∙ ap (λ (r : List ℕ). spread f (take i l) ++ r) (append-nil (f (getD l i 0))))
+  flat-more i h = rw (add-one, take-suc l i 0 h)
+      (flat-append f (take i l) (getD l i 0 ∷ []) ∙ ap (λ (r : List ℕ). spread f (take i l) ++ r) (append-nil (f (getD l i 0))))
 
   pub flat-le : (i n : ℕ) → i ≤ n → length (spread f (take i l)) ≤ length (spread f (take n l))
   flat-le i n h =
       let e : n ≡ i + (n - i) = omega arith in
-      rw e (rw (take-add i (n - i) l, flat-append f (take i l) (take (n - i) (drop i l)), length-append (spread f (take i l)) (spread f (take (n - i) (drop i l)))) (omega arith))
+      rw e (rw (
+        take-add i (n - i) l,
+        flat-append f (take i l) (take (n - i) (drop i l)),
+        length-append (spread f (take i l)) (spread f
+            (take (n - i) (drop i l))),
+      ) (omega arith))
 
 pub width-some : (c : ℕ) → (c ≡ 0 → ⊥) → width c ≡ c
 width-some zero h = absurd (h refl)
@@ -72,14 +84,17 @@ module _ (t : Swap) where
       ap (λ (n : ℕ). swapSteps t c (take n l)) (width-some c h)
       ∙ ap (λ (b : Bool). cond b (take c l) (spread (swapWord t) (take c l))) (ne-eqb c 0 h)
 
-  pub all-steps-snoc : (xs : List ℕ) (c : ℕ) (st : List ℕ) → allSteps t (xs ++ (c ∷ [])) st ≡ allSteps t xs st ++ swapSteps t c (take (width c) (drop (widthSum xs) st))
+  pub all-steps-snoc : (xs : List ℕ) (c : ℕ) (st : List ℕ) → allSteps t (xs ++ (c ∷ [])) st ≡ allSteps t xs st
+      ++ swapSteps t c (take (width c) (drop (widthSum xs) st))
   all-steps-snoc [] c st = append-nil (swapSteps t c (take (width c) st))
   all-steps-snoc (x ∷ xs) c st =
       ap (λ (r : List ℕ). swapSteps t x (take (width x) st) ++ r) (all-steps-snoc xs c (drop (width x) st)
       ∙ ap (λ (q : List ℕ). allSteps t xs (drop (width x) st) ++ swapSteps t c (take (width c) q)) (drop-drop (widthSum xs) (width x) st))
-      ∙ sym (append-assoc (swapSteps t x (take (width x) st)) (allSteps t xs (drop (width x) st)) (swapSteps t c (take (width c) (drop (width x + widthSum xs) st))))
+      ∙ sym (append-assoc (swapSteps t x (take (width x) st)) (allSteps t xs (drop (width x) st))
+      (swapSteps t c (take (width c) (drop (width x + widthSum xs) st))))
 
-  pub all-numbers-snoc : (xs : List ℕ) (c : ℕ) (st : List ℕ) → allNumbers t (xs ++ (c ∷ [])) st ≡ allNumbers t xs st ++ (swapNumber t c (take (width c) (drop (widthSum xs) st)) ∷ [])
+  pub all-numbers-snoc : (xs : List ℕ) (c : ℕ) (st : List ℕ)
+      → allNumbers t (xs ++ (c ∷ [])) st ≡ allNumbers t xs st ++ (swapNumber t c (take (width c) (drop (widthSum xs) st)) ∷ [])
   all-numbers-snoc [] c st = refl
   all-numbers-snoc (x ∷ xs) c st =
       ap (λ (r : List ℕ). swapNumber t x (take (width x) st) ∷ r) (all-numbers-snoc xs c (drop (width x) st)
@@ -116,7 +131,8 @@ swapping-start t ns st out = record { from-is = refl; at-is = refl; cycles-size 
 
 module _ (t : Swap) (ns st out₀ : List ℕ) (i from at : ℕ) (cy out : List ℕ) (p : Swapping t ns st out₀ i from at cy out) (h : i < length ns) where
   pub unread : getD cy i 0 ≡ getD ns i 0
-  unread = ap (λ (n : ℕ). getD cy n 0) (omega arith) ∙ sym (getD-drop i cy 0 0) ∙ ap (λ (q : List ℕ). getD q 0 0) (p .rest) ∙ getD-drop i ns 0 0 ∙ ap (λ (n : ℕ). getD ns n 0) (omega arith)
+  unread = ap (λ (n : ℕ). getD cy n 0) (omega arith) ∙ sym (getD-drop i cy 0 0) ∙ ap (λ (q : List ℕ). getD q 0 0) (p .rest) ∙ getD-drop i ns 0 0
+      ∙ ap (λ (n : ℕ). getD ns n 0) (omega arith)
 
   run : ℕ → List ℕ
   run c = take (width c) (drop from st)
@@ -155,7 +171,8 @@ module _ (t : Swap) (ns st out₀ : List ℕ) (i from at : ℕ) (cy out : List �
       number zero u = refl
       number (suc n) u =
           let f : eqb (suc n) 0 ≡ false = ne-eqb (suc n) 0 (omega arith) in
-          ap (λ (b : Bool). cond b 0 w) f ∙ u ∙ ap (λ (b : Bool). length (cond b (take (suc n) (drop from st)) (spread (swapWord t) (take (suc n) (drop from st))))) f
+          ap (λ (b : Bool). cond b 0 w) f ∙ u ∙ ap
+          (λ (b : Bool). length (cond b (take (suc n) (drop from st)) (spread (swapWord t) (take (suc n) (drop from st))))) f
           ∙ sym (ap (λ (b : Bool). cond b 0 (length (spread (swapWord t) (take (suc n) (drop from st))))) f)
 
 -- cycles put into arrays and swapped there are the swapped cycles
@@ -180,7 +197,8 @@ module _ (t : Swap) where
   cycle-steps (lone v) h = refl
   cycle-steps (path []) h = absurd (false≢true h)
   cycle-steps (path (x ∷ hs)) h =
-      ap (λ (b : Bool). cond b (map word (x ∷ hs)) (spread (swapWord t) (map word (x ∷ hs)))) (ne-eqb (suc (length hs)) 0 (omega arith)) ∙ sym (swap-words (x ∷ hs))
+      ap (λ (b : Bool). cond b (map word (x ∷ hs)) (spread (swapWord t) (map word (x ∷ hs)))) (ne-eqb (suc (length hs)) 0 (omega arith))
+      ∙ sym (swap-words (x ∷ hs))
 
   cycle-number : (k : Cycle) → real k ≡ true → swapNumber t (numOf k) (cycleWords k) ≡ numOf (swapCycle t k)
   cycle-number (lone v) h = refl
@@ -189,21 +207,25 @@ module _ (t : Swap) where
       ap (λ (b : Bool). cond b 0 (length (spread (swapWord t) (map word (x ∷ hs))))) (ne-eqb (suc (length hs)) 0 (omega arith))
       ∙ ap length (sym (swap-words (x ∷ hs))) ∙ length-map (spread (swapHalf t) (x ∷ hs)) word
 
-  pub swapped-steps : (ks : List Cycle) (r : List ℕ) → allReal ks ≡ true → allSteps t (map numOf ks) (spread cycleWords ks ++ r) ≡ spread cycleWords (map (swapCycle t) ks)
+  pub swapped-steps : (ks : List Cycle) (r : List ℕ) → allReal ks ≡ true
+      → allSteps t (map numOf ks) (spread cycleWords ks ++ r) ≡ spread cycleWords (map (swapCycle t) ks)
   swapped-steps [] r h = refl
   swapped-steps (k ∷ ks) r h =
       let b = both-true (real k) (allReal ks) h in
       let q : List ℕ = spread cycleWords ks ++ r in
-      ap (λ (l : List ℕ). swapSteps t (numOf k) (take (width (numOf k)) l) ++ allSteps t (map numOf ks) (drop (width (numOf k)) l)) (append-assoc (cycleWords k) (spread cycleWords ks) r)
+      ap (λ (l : List ℕ). swapSteps t (numOf k) (take (width (numOf k)) l) ++ allSteps t (map numOf ks) (drop (width (numOf k)) l))
+      (append-assoc (cycleWords k) (spread cycleWords ks) r)
       ∙ ap₂ (λ (x y : List ℕ). swapSteps t (numOf k) x ++ allSteps t (map numOf ks) y) (cycle-front k q (b .0)) (cycle-rest k q (b .0))
       ∙ ap₂ (λ (x y : List ℕ). x ++ y) (cycle-steps k (b .0)) (swapped-steps ks r (b .1))
 
-  pub swapped-numbers : (ks : List Cycle) (r : List ℕ) → allReal ks ≡ true → allNumbers t (map numOf ks) (spread cycleWords ks ++ r) ≡ map numOf (map (swapCycle t) ks)
+  pub swapped-numbers : (ks : List Cycle) (r : List ℕ) → allReal ks ≡ true
+      → allNumbers t (map numOf ks) (spread cycleWords ks ++ r) ≡ map numOf (map (swapCycle t) ks)
   swapped-numbers [] r h = refl
   swapped-numbers (k ∷ ks) r h =
       let b = both-true (real k) (allReal ks) h in
       let q : List ℕ = spread cycleWords ks ++ r in
-      ap (λ (l : List ℕ). swapNumber t (numOf k) (take (width (numOf k)) l) ∷ allNumbers t (map numOf ks) (drop (width (numOf k)) l)) (append-assoc (cycleWords k) (spread cycleWords ks) r)
+      ap (λ (l : List ℕ). swapNumber t (numOf k) (take (width (numOf k)) l) ∷ allNumbers t (map numOf ks) (drop (width (numOf k)) l))
+      (append-assoc (cycleWords k) (spread cycleWords ks) r)
       ∙ ap₂ (λ (x y : List ℕ). swapNumber t (numOf k) x ∷ allNumbers t (map numOf ks) y) (cycle-front k q (b .0)) (cycle-rest k q (b .0))
       ∙ ap₂ (λ (x : ℕ) (y : List ℕ). x ∷ y) (cycle-number k (b .0)) (swapped-numbers ks r (b .1))
 
@@ -214,16 +236,20 @@ module _ (f : ℕ → List ℕ) (src : List ℕ) (from i n : ℕ) (h : from + n 
       let g : i < length (drop from src) = omega (arith, length-drop from src) in
       flat-more f (drop from src) i g ∙ ap (λ (s : ℕ). spread f (take i (drop from src)) ++ f s) (getD-drop from src i 0)
 
-  pub run-length : (w : ℕ) → w ≡ length (spread f (take i (drop from src))) → w + length (f (getD src (from + i) 0)) ≡ length (spread f (take (i + 1) (drop from src)))
-  run-length w e = ap (λ (m : ℕ). m + length (f (getD src (from + i) 0))) e ∙ sym (length-append (spread f (take i (drop from src))) (f (getD src (from + i) 0))) ∙ ap length (sym run-flat)
+  pub run-length : (w : ℕ) → w ≡ length (spread f (take i (drop from src)))
+      → w + length (f (getD src (from + i) 0)) ≡ length (spread f (take (i + 1) (drop from src)))
+  run-length w e = ap (λ (m : ℕ). m + length (f (getD src (from + i) 0))) e
+      ∙ sym (length-append (spread f (take i (drop from src))) (f (getD src (from + i) 0))) ∙ ap length (sym run-flat)
 
   pub run-le : (w : ℕ) → w ≡ length (spread f (take i (drop from src))) → w + length (f (getD src (from + i) 0)) ≤ length (spread f (take n (drop from src)))
   run-le w e = let g = flat-le f (drop from src) (i + 1) n (omega arith) in omega (arith, run-length w e)
 
-pub steps-lone : (t : Swap) (c : ℕ) (src : List ℕ) (from : ℕ) → c ≡ 0 → from < length src → swapSteps t c (take (width c) (drop from src)) ≡ getD src from 0 ∷ []
+pub steps-lone : (t : Swap) (c : ℕ) (src : List ℕ) (from : ℕ) → c ≡ 0 → from < length src
+    → swapSteps t c (take (width c) (drop from src)) ≡ getD src from 0 ∷ []
 steps-lone t c src from e h = ap (λ (k : ℕ). swapSteps t k (take (width k) (drop from src))) e ∙ ap (take 1) (drop-cons src from 0 h)
 
-module _ (t : Swap) (ns st out₀ : List ℕ) (i n from at : ℕ) (cy out : List ℕ) (p : Swapping t ns st out₀ i from at cy out) (h : n ≤ length ns) (k : i < n) (c : ℕ) (e : c ≡ getD cy i 0) where
+module _ (t : Swap) (ns st out₀ : List ℕ) (i n from at : ℕ) (cy out : List ℕ) (p : Swapping t ns st out₀ i from at cy out) (h : n ≤ length ns) (k : i < n)
+    (c : ℕ) (e : c ≡ getD cy i 0) where
   pub width-within : from + width c ≤ widthSum (take n ns)
   width-within =
       let g : i < length ns = omega arith in
@@ -234,5 +260,6 @@ module _ (t : Swap) (ns st out₀ : List ℕ) (i n from at : ℕ) (cy out : List
   steps-within =
       let g : i < length ns = omega arith in
       let m = all-steps-le t ns (i + 1) n st (omega arith) in
-      let u = ap length (more-steps t ns st out₀ i from at cy out p g c e) ∙ length-append (allSteps t (take i ns) st) (swapSteps t c (take (width c) (drop from st))) in
+      let u = ap length (more-steps t ns st out₀ i from at cy out p g c e)
+      ∙ length-append (allSteps t (take i ns) st) (swapSteps t c (take (width c) (drop from st))) in
       omega (arith, u, p .at-is)

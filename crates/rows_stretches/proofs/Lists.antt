@@ -20,7 +20,8 @@ use Rattle.rows_spans.specs.Building.{Built, built, RoomFor}
 use Rattle.rows_corners.proofs.Lists.{built-then}
 use Rattle.rows_stretches.specs.declared.Stretch.{Stretch}
 use Rattle.rows_stretches.specs.declared.Place.{Place}
-use Rattle.rows_stretches.specs.Paths.{stretchOf, InCycle, listAt, stepsAt, allBut, between, noSteps, Lies, Besides, followingIn, mergedList, Merging, partedList, Parting, ringedList, Ringing}
+use Rattle.rows_stretches.specs.Paths.{stretchOf, InCycle, listAt, stepsAt, allBut, between, noSteps, Lies, Besides, followingIn, mergedList, Merging}
+use Rattle.rows_stretches.specs.Paths.{partedList, Parting, ringedList, Ringing}
 use Rattle.rows_stretches.proofs.Paths.{few-front}
 use Rattle.rows_stretches.proofs.Places.{cycle-in}
 
@@ -44,7 +45,8 @@ rotated-but : {A : Type 0} (l : List A) (n : ℕ) → n < length l → take (len
 rotated-but {A} l n h =
     let d = length-drop (suc n) l in
     let e : length l - 1 ≡ length (drop (suc n) l) + n = omega arith in
-    ap (λ (k : ℕ). take k (rotated (suc n) l)) e ∙ take-append-add (drop (suc n) l) (take (suc n) l) n ∙ ap (λ (r : List A). drop (suc n) l ++ r) (take-take n (suc n) l (omega arith))
+    ap (λ (k : ℕ). take k (rotated (suc n) l)) e ∙ take-append-add (drop (suc n) l) (take (suc n) l) n
+    ∙ ap (λ (r : List A). drop (suc n) l ++ r) (take-take n (suc n) l (omega arith))
 
 distance-least : (n s t : ℕ) → s ≤ n → t < n → distance n s t ≤ n
 distance-least n s t h k = go (leb s t) refl
@@ -59,7 +61,8 @@ module _ (cycles steps : List ℕ) (p : Place) (l : Lies cycles steps p) where
   run = take (p .count) (drop (p .at) steps)
 
   run-length : length run ≡ p .count
-  run-length = let i = cycle-in cycles steps p l in length-take-le (p .count) (drop (p .at) steps) (omega (arith, length-drop (p .at) steps, l .within .stepsSize))
+  run-length = let i = cycle-in cycles steps p l in
+      length-take-le (p .count) (drop (p .at) steps) (omega (arith, length-drop (p .at) steps, l .within .stepsSize))
 
   pub steps-length : length (stepsAt steps p) ≡ p .count
   steps-length = length-map run halfedgeOf ∙ run-length
@@ -99,14 +102,16 @@ few-after {ks} {counts} {u} {out} b xs {n} {m} f lc ls =
     subst₂ (λ (i j : ℕ). RoomFor i j (built counts u out ++ xs)) (sym lc) (sym ls) (subst (λ (l : List Cycle). RoomFor n m (l ++ xs)) (sym (b .list)) f)
 
 -- ---- two faces become one
-module _ (cycles steps : List ℕ) (p : Place) (s : ℕ) (q : Place) (t v : ℕ) (m : Merging cycles steps p s q t v) (a b : Stretch) (ea : a ≡ allBut p s) (eb : b ≡ allBut q t) where
+module _ (cycles steps : List ℕ) (p : Place) (s : ℕ) (q : Place) (t v : ℕ) (m : Merging cycles steps p s q t v) (a b : Stretch) (ea : a ≡ allBut p s)
+    (eb : b ≡ allBut q t) where
   abbrev pub others-of : List Cycle
   others-of = without (one (q .cycle)) 0 (listAt cycles steps q)
 
   pub merged-is : set (listAt cycles steps p) (p .cycle) (pathOr v (stretchOf steps a ++ stretchOf steps b)) ++ others-of ≡ mergedList cycles steps p s q t v
   merged-is =
       ap₂ (λ (x y : List Halfedge). set (listAt cycles steps p) (p .cycle) (pathOr v (x ++ y)) ++ others-of)
-      (ap (stretchOf steps) ea ∙ all-but-is cycles steps p (m .first) s (m .here)) (ap (stretchOf steps) eb ∙ all-but-is cycles steps q (m .second) t (m .there))
+      (ap (stretchOf steps) ea ∙ all-but-is cycles steps p (m .first) s (m .here))
+      (ap (stretchOf steps) eb ∙ all-but-is cycles steps q (m .second) t (m .there))
 
   pub merged-room : {i j : ℕ} → RoomFor i j (mergedList cycles steps p s q t v)
       → RoomFor i j (set (listAt cycles steps p) (p .cycle) (pathOr v (stretchOf steps a ++ stretchOf steps b)) ++ others-of)
@@ -119,7 +124,8 @@ module _ (cycles steps : List ℕ) (p : Place) (s : ℕ) (q : Place) (t v : ℕ)
   second-in = subst InCycle (sym eb) (all-but-in cycles steps q (m .second) t (m .there))
 
 -- ---- a cycle becomes two
-module _ (cycles steps : List ℕ) (p : Place) (s t v w : ℕ) (m : Parting cycles steps p s t v w) (a b : Stretch) (ea : a ≡ between p s t) (eb : b ≡ between p t s) where
+module _ (cycles steps : List ℕ) (p : Place) (s t v w : ℕ) (m : Parting cycles steps p s t v w) (a b : Stretch) (ea : a ≡ between p s t)
+    (eb : b ≡ between p t s) where
   abbrev none : Stretch
   none = noSteps p
 
@@ -162,5 +168,6 @@ module _ (cycles steps : List ℕ) (p q : Place) (m : Ringing cycles steps p q) 
     pub ringed-second : length counts′ ≡ length counts → length out′ ≡ length out → Besides cycles steps q counts′ u′ out′
     ringed-second lc ls = record { lies = m .second; building = r .building; room = few-after (built-then first-of n r) second-of f lc ls }
 
-    pub ringed-built : {counts″ : List ℕ} {u″ : Used} {out″ : List ℕ} → Built (built counts′ u′ out′ ++ second-of) counts″ u″ out″ → Built (ringedList cycles steps p q) counts″ u″ out″
+    pub ringed-built : {counts″ : List ℕ} {u″ : Used} {out″ : List ℕ} → Built (built counts′ u′ out′ ++ second-of) counts″ u″ out″
+        → Built (ringedList cycles steps p q) counts″ u″ out″
     ringed-built {counts″} {u″} {out″} x = built-then second-of (built-then first-of n r) x

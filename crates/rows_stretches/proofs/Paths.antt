@@ -71,7 +71,8 @@ pasted-two {out} {mid} {st} {xs} {ys} {at} p q =
     }
 
 -- a run pasted after the places in use is a cycle more
-pasted-built : {counts : List ℕ} {u : Used} {out xs st counts′ : List ℕ} → Building counts u out → Pasted out (u .steps) xs st → Closes counts u (length xs) counts′
+pasted-built : {counts : List ℕ} {u : Used} {out xs st counts′ : List ℕ} → Building counts u out → Pasted out (u .steps) xs st
+    → Closes counts u (length xs) counts′
     → u .steps + length xs ≤ length out → Built (built counts u out ++ one (path (map halfedgeOf xs))) counts′ (moreCycle u (length xs)) st
 pasted-built {counts} {u} {out} {xs} {st} {counts′} b p c room =
     let j = u .steps in
@@ -135,7 +136,8 @@ module _ (steps : List ℕ) (a b : Stretch) (v : ℕ) (counts : List ℕ) (u : U
   pub lone-asks : Building counts u out × ((u .cycles < length counts) × (u .steps < length out))
   lone-asks = (w .building, (path-room .0, path-room .1 .0))
 
-  pub lone-built : (m : ℕ) → m ≡ a .len + b .len → m ≡ 0 → {counts′ st : List ℕ} {u′ : Used} → Built (built counts u out ++ (lone v ∷ [])) counts′ u′ st → Built (built counts u out ++ one (pathOr v both-runs)) counts′ u′ st
+  pub lone-built : (m : ℕ) → m ≡ a .len + b .len → m ≡ 0 → {counts′ st : List ℕ} {u′ : Used} → Built (built counts u out ++ (lone v ∷ [])) counts′ u′ st
+      → Built (built counts u out ++ one (pathOr v both-runs)) counts′ u′ st
   lone-built m em e {counts′} {st} {u′} r =
       let l = runs-length in
       built-as (ap (λ (k : Cycle). built counts u out ++ one k) (sym (path-none v both-runs (omega arith)))) r
@@ -154,7 +156,8 @@ module _ (steps : List ℕ) (a b : Stretch) (v : ℕ) (counts : List ℕ) (u : U
         let i = w .second in
         record { stepsSize = w .stepsSize; cycle = i .cycle; start = i .start; least = i .least; room = omega arith }
 
-    pub path-built : (m : ℕ) → m ≡ a .len + b .len → (m ≡ 0 → ⊥) → {st counts′ : List ℕ} {u′ : Used} → Pasted mid end two-run st → Closes counts u m counts′ → u′ ≡ moreCycle u m
+    pub path-built : (m : ℕ) → m ≡ a .len + b .len → (m ≡ 0 → ⊥) → {st counts′ : List ℕ} {u′ : Used} → Pasted mid end two-run st → Closes counts u m counts′
+        → u′ ≡ moreCycle u m
         → Built (built counts u out ++ one (pathOr v both-runs)) counts′ u′ st
     path-built m em e {st} {counts′} {u′} q c eu =
         let l = runs-length in
@@ -164,7 +167,8 @@ module _ (steps : List ℕ) (a b : Stretch) (v : ℕ) (counts : List ℕ) (u : U
         let n : m ≡ length (one-run ++ two-run) = omega arith in
         let at : end ≡ u .steps + length one-run = omega arith in
         let r : Built (built counts u out ++ one (path (map halfedgeOf (one-run ++ two-run)))) counts′ (moreCycle u (length (one-run ++ two-run))) st =
-        pasted-built (w .building) (pasted-two p (subst (λ (k : ℕ). Pasted mid k two-run st) at q)) (subst (λ (k : ℕ). Closes counts u k counts′) n c) (let f = path-room .1 .1 in omega arith)
+        pasted-built (w .building) (pasted-two p (subst (λ (k : ℕ). Pasted mid k two-run st) at q)) (subst (λ (k : ℕ). Closes counts u k counts′) n c)
+        (let f = path-room .1 .1 in omega arith)
         in
         built-as (ap (λ (k : Cycle). built counts u out ++ one k) (ap path (sym runs-are) ∙ sym (path-some v both-runs (λ q. e (omega arith)))))
         (subst (λ (t : Used). Built (built counts u out ++ one (path (map halfedgeOf (one-run ++ two-run)))) counts′ t st) (sym (eu ∙ ap (moreCycle u) n)) r)

@@ -23,7 +23,8 @@ module _ (cycles steps : List ℕ) (p : Place) (l : Lies cycles steps p) where
 
   counts-length : length counts-in ≡ p .spans .cycles .count
   counts-length =
-      length-take-le (p .spans .cycles .count) (drop (p .spans .cycles .first) cycles) (omega (arith, length-drop (p .spans .cycles .first) cycles, l .within .inCycles, l .within .cyclesSize))
+      length-take-le (p .spans .cycles .count) (drop (p .spans .cycles .first) cycles)
+      (omega (arith, length-drop (p .spans .cycles .first) cycles, l .within .inCycles, l .within .cyclesSize))
 
   pub list-length : length (listAt cycles steps p) ≡ p .spans .cycles .count
   list-length = at-length cycles steps (p .spans) (l .within)

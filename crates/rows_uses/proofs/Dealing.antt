@@ -28,5 +28,6 @@ module _ (uses : Cycle → ℕ) where
   uses-by (c ∷ cs) = ap₂ _+_ (ap (total uses) (figure-in (c .figure))) (uses-by cs) ∙ sym (sum-append uses (entryCycles c) (spread entryCycles cs))
 
 -- how often a drawing's cells use a cell is counted in its arrays
-pub uses-held : (d : Drawing) → Sizes d → Fits d → (uses : Cycle → ℕ) → usesBy uses (sheetOf d .cells) ≡ total uses (cyclesFrom (take (cycleTotal d) (d .cycles)) (d .steps))
+pub uses-held : (d : Drawing) → Sizes d → Fits d → (uses : Cycle → ℕ)
+    → usesBy uses (sheetOf d .cells) ≡ total uses (cyclesFrom (take (cycleTotal d) (d .cycles)) (d .steps))
 uses-held d z g uses = uses-by uses (sheetOf d .cells) ∙ ap (total uses) (used-cycles d z g)

@@ -207,7 +207,8 @@ kinds-take = (
 decode-shorter : (b : List ℕ) (c : Command) (t : List ℕ) → decode b ≡ got c t → length t < length b
 unfolding decode
 decode-shorter [] c t e = absurd (subst (λ (r : Read Command). Unread r) e tt)
-decode-shorter (k ∷ s) c t e = let h : length t ≤ length s = subst (Within (length s)) e (one-takes reads.kinds kinds-take k (length s) s (omega arith)) in omega arith
+decode-shorter (k ∷ s) c t e = let h : length t ≤ length s = subst (Within (length s)) e (one-takes reads.kinds kinds-take k (length s) s (omega arith)) in
+    omega arith
 
 -- ---- a run
 rest-shorter : (s : Sheet) (b : List ℕ) → T (sound s) → eqb (command s b .number) 2 ≡ false → length (rest s b) < length b

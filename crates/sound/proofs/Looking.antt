@@ -34,7 +34,8 @@ module _ (n : ℕ) (is ks ss es bs : List ℕ) (i : ℕ) (h : i < n) where
       ap₂ (λ (k a : ℕ). edgeGood (take n is) (take n ks) k a (getD (take n es) i 0) (getD (take n bs) i 0)) (getD-take n ks i 0 h) (getD-take n ss i 0 h)
       ∙ ap₂ (λ (b m : ℕ). edgeGood (take n is) (take n ks) (getD ks i 0) (getD ss i 0) b m) (getD-take n es i 0 h) (getD-take n bs i 0 h)
 
-  row-kind : (k : ℕ) → getD ks i 0 ≡ k → rowGood (rowsOf n is ks ss es) (take n bs) i ≡ edgeGood (take n is) (take n ks) k (getD ss i 0) (getD es i 0) (getD bs i 0)
+  row-kind : (k : ℕ) → getD ks i 0 ≡ k → rowGood (rowsOf n is ks ss es) (take n bs) i ≡ edgeGood (take n is) (take n ks) k (getD ss i 0) (getD es i 0)
+      (getD bs i 0)
   row-kind k e = row-test ∙ ap (λ (x : ℕ). edgeGood (take n is) (take n ks) x (getD ss i 0) (getD es i 0) (getD bs i 0)) e
 
   module _ (e : getD ks i 0 ≡ 1) (a : Bool) (ea : a ≡ isVertexIn (take n is) (take n ks) (getD ss i 0)) where
@@ -50,7 +51,8 @@ module _ (n : ℕ) (is ks ss es bs : List ℕ) (i : ℕ) (h : i < n) where
   pub row-other : (getD ks i 0 ≡ 1 → ⊥) → (getD ks i 0 ≡ 2 → ⊥) → true ≡ rowGood (rowsOf n is ks ss es) (take n bs) i
   row-other e f =
       sym (row-test
-      ∙ ap₂ (λ (x y : Bool). cond x (isVertexIn (take n is) (take n ks) (getD ss i 0) && isVertexIn (take n is) (take n ks) (getD es i 0)) (cond y (not (eqb (getD bs i 0) 0)) true))
+      ∙ ap₂ (λ (x y : Bool). cond x (isVertexIn (take n is) (take n ks) (getD ss i 0) && isVertexIn (take n is) (take n ks) (getD es i 0))
+      (cond y (not (eqb (getD bs i 0) 0)) true))
       (ne-eqb (getD ks i 0) 1 e) (ne-eqb (getD ks i 0) 2 f))
 
 -- ---- a step of the edge in a row

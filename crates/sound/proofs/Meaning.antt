@@ -21,7 +21,8 @@ use Rattle.store.specs.Index.{Rising, Indexes, rowOf, kindOf, shapeStart, shape
 use Rattle.store.proofs.Stands.{stands, count-is, ids-same}
 use Rattle.sound.specs.Soundness.{sumsFit, fitsIn, soundSheet, soundDrawing}
 use Rattle.sound.specs.Looks.{indexValue, Looks}
-use Rattle.sound.proofs.Parts.{is-vertex, is-open, is-closed, is-face, idRow, kindRow, startRow, endRow, bendRow, cycleRow, kind-row, start-row, end-row, bend-row, cycle-row}
+use Rattle.sound.proofs.Parts.{is-vertex, is-open, is-closed, is-face, idRow, kindRow, startRow, endRow, bendRow, cycleRow, kind-row, start-row, end-row}
+use Rattle.sound.proofs.Parts.{bend-row, cycle-row}
 
 -- ---- the drawing fits, and its sheet is sound
 pub fits-is : (d : Drawing) → T (fitsIn d) → Fits d
@@ -136,7 +137,8 @@ module _ (d : Drawing) (z : Sizes d) (f : Fits d) (ix : Index) (x : Indexes d ix
       ∙ row-live (sheetOf d .cells) i
 
   -- and the cell is the one in that row
-  pub found-row : (i r : ℕ) → r ≡ rowOf i (take (d .count) (ix .ids)) → r < d .count → (y : LiveCell) → cellAt (sheetOf d) i ≡ some (getD (sheetOf d .cells) r y .figure)
+  pub found-row : (i r : ℕ) → r ≡ rowOf i (take (d .count) (ix .ids)) → r < d .count → (y : LiveCell)
+      → cellAt (sheetOf d) i ≡ some (getD (sheetOf d .cells) r y .figure)
   found-row i r e h y =
       let n = count-is d (sheetOf d .cells) (stands d z f) z (f .cells) in
       let g : r ≡ rowOf i (idRow (sheetOf d .cells)) = e ∙ ap (rowOf i) (ids-are d z f ix x) in

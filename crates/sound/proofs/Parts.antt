@@ -12,7 +12,8 @@ use Rattle.number.specs.Readers.{spread}
 use Rattle.coordinate.specs.declared.Position.{Position}
 use Rattle.coordinate.specs.Bounds.{within}
 use Rattle.complex.specs.Lists.{all, isEmpty}
-use Rattle.complex.specs.Cells.{Figure, vertex, openEdge, closedEdge, face, LiveCell, lookup, someIf, isVertex, isOpen, isClosed, isFace, startOf, endOf, bendsOf, cyclesOf}
+use Rattle.complex.specs.Cells.{Figure, vertex, openEdge, closedEdge, face, LiveCell, lookup, someIf, isVertex, isOpen, isClosed, isFace, startOf, endOf}
+use Rattle.complex.specs.Cells.{bendsOf, cyclesOf}
 use Rattle.complex.specs.Sound.{cycleOk, figureOk, figuresOk}
 use Rattle.store.specs.declared.Shape.{Shape}
 use Rattle.store.specs.declared.Cell.{Cell}
@@ -61,12 +62,14 @@ module _ {A B : Type 0} where
 
 -- ---- lookups in the rows of the cells
 module _ (g : Option Figure → ℕ) (f : Shape → ℕ) (z : ℕ) (e : g none ≡ z) (h : (s : Figure) → g (some s) ≡ f (shapeOf s)) where
-  lookup-row : (xs : List LiveCell) (i : ℕ) → valueAt z (map (λ (c : Cell). c .id) (map entryCell xs)) (map (λ (c : Cell). f (c .shape)) (map entryCell xs)) i ≡ g (lookup xs i)
+  lookup-row : (xs : List LiveCell) (i : ℕ) → valueAt z (map (λ (c : Cell). c .id) (map entryCell xs)) (map (λ (c : Cell). f (c .shape)) (map entryCell xs)) i
+      ≡ g (lookup xs i)
   lookup-row [] i = sym e
   lookup-row (x ∷ xs) i = go (eqb (x .id) i) (lookup-row xs i)
     where
       go : (b : Bool) → valueAt z (map (λ (c : Cell). c .id) (map entryCell xs)) (map (λ (c : Cell). f (c .shape)) (map entryCell xs)) i ≡ g (lookup xs i)
-          → getD (f (shapeOf (x .figure)) ∷ map (λ (c : Cell). f (c .shape)) (map entryCell xs)) (cond b 0 (suc (rowOf i (map (λ (c : Cell). c .id) (map entryCell xs))))) z ≡ g (someIf b (x .figure) (lookup xs i))
+          → getD (f (shapeOf (x .figure)) ∷ map (λ (c : Cell). f (c .shape)) (map entryCell xs))
+          (cond b 0 (suc (rowOf i (map (λ (c : Cell). c .id) (map entryCell xs))))) z ≡ g (someIf b (x .figure) (lookup xs i))
       go true k = sym (h (x .figure))
       go false k = k
 
@@ -159,12 +162,17 @@ module _ (xs : List LiveCell) where
 
   -- the parts of a sheet's soundness, as they are tested
   pub figures-parts : figuresOk xs
-      ≡ (all cellPlaced (map entryCell xs) && all cellEdge (map entryCell xs)) && (all within (spread entryBends xs) && all (cycleOk (lookup xs)) (spread entryCycles xs))
+      ≡ (all cellPlaced (map entryCell xs) && all cellEdge (map entryCell xs))
+      && (all within (spread entryBends xs) && all (cycleOk (lookup xs)) (spread entryCycles xs))
   figures-parts =
       let look = lookup xs in
       all-same (λ (x : LiveCell). figureOk look (x .figure))
-      (λ (x : LiveCell). (cellPlaced (entryCell x) && cellEdge (entryCell x)) && (all within (entryBends x) && all (cycleOk look) (entryCycles x))) (λ x. figure-parts (x .figure)) xs
-      ∙ all-and (λ (x : LiveCell). cellPlaced (entryCell x) && cellEdge (entryCell x)) (λ (x : LiveCell). all within (entryBends x) && all (cycleOk look) (entryCycles x)) xs
+      (λ (x : LiveCell). (cellPlaced (entryCell x) && cellEdge (entryCell x)) && (all within (entryBends x) && all (cycleOk look) (entryCycles x)))
+      (λ x. figure-parts (x .figure)) xs
+      ∙ all-and (λ (x : LiveCell). cellPlaced (entryCell x) && cellEdge (entryCell x))
+      (λ (x : LiveCell). all within (entryBends x) && all (cycleOk look) (entryCycles x)) xs
       ∙ ap₂ _&&_
-      (all-and (λ (x : LiveCell). cellPlaced (entryCell x)) (λ (x : LiveCell). cellEdge (entryCell x)) xs ∙ ap₂ _&&_ (all-map cellPlaced entryCell xs) (all-map cellEdge entryCell xs))
-      (all-and (λ (x : LiveCell). all within (entryBends x)) (λ (x : LiveCell). all (cycleOk look) (entryCycles x)) xs ∙ ap₂ _&&_ (all-flat within entryBends xs) (all-flat (cycleOk look) entryCycles xs))
+      (all-and (λ (x : LiveCell). cellPlaced (entryCell x)) (λ (x : LiveCell). cellEdge (entryCell x)) xs
+      ∙ ap₂ _&&_ (all-map cellPlaced entryCell xs) (all-map cellEdge entryCell xs))
+      (all-and (λ (x : LiveCell). all within (entryBends x)) (λ (x : LiveCell). all (cycleOk look) (entryCycles x)) xs
+      ∙ ap₂ _&&_ (all-flat within entryBends xs) (all-flat (cycleOk look) entryCycles xs))

@@ -12,14 +12,17 @@ use Rattle.complex.specs.Cells.{LiveCell, lookup, isOpen, same, tailOf, headOf}
 use Rattle.complex.specs.Sound.{leads, joins, cycleOk}
 use Rattle.store.specs.View.{halfedgeOf, width, cycleOf, cyclesFrom}
 use Rattle.sound.specs.Rows.{Rows, tailIn, headIn, leadsIn, joinsIn, cycleGood, cyclesGood}
-use Rattle.sound.proofs.Parts.{and-assoc, all-same, all-map, is-open, is-closed, idRow, kindRow, startRow, endRow, kind-row, start-row, end-row, vertex-row}
+use Rattle.sound.proofs.Parts.{and-assoc, all-same, all-map, is-open, is-closed, idRow, kindRow, startRow, endRow, kind-row, start-row, end-row}
+use Rattle.sound.proofs.Parts.{vertex-row}
 
 same-step : (s t : ℕ) (x p q : Bool) → eqb (s / 2) (t / 2) ≡ x → eqb (s % 2) 1 ≡ p → eqb (t % 2) 1 ≡ q → eqb s t ≡ x && Bool·beq p q
 same-step s t false p q e f g = ne-eqb s t (λ u. eqb-false (s / 2) (t / 2) e (ap (λ (n : ℕ). n / 2) u))
-same-step s t true true true e f g = let a = eqb-true (s / 2) (t / 2) e in let b = eqb-true (s % 2) 1 f in let c = eqb-true (t % 2) 1 g in eq-eqb s t (omega arith)
+same-step s t true true true e f g = let a = eqb-true (s / 2) (t / 2) e in let b = eqb-true (s % 2) 1 f in let c = eqb-true (t % 2) 1 g in
+    eq-eqb s t (omega arith)
 same-step s t true true false e f g = ne-eqb s t (λ u. eqb-false (t % 2) 1 g (ap (λ (n : ℕ). n % 2) (sym u) ∙ eqb-true (s % 2) 1 f))
 same-step s t true false true e f g = ne-eqb s t (λ u. eqb-false (s % 2) 1 f (ap (λ (n : ℕ). n % 2) u ∙ eqb-true (t % 2) 1 g))
-same-step s t true false false e f g = let a = eqb-true (s / 2) (t / 2) e in let b = eqb-false (s % 2) 1 f in let c = eqb-false (t % 2) 1 g in eq-eqb s t (omega arith)
+same-step s t true false false e f g = let a = eqb-true (s / 2) (t / 2) e in let b = eqb-false (s % 2) 1 f in let c = eqb-false (t % 2) 1 g in
+    eq-eqb s t (omega arith)
 
 module _ (xs : List LiveCell) where
   abbrev pub cellRows : Rows
@@ -48,7 +51,8 @@ module _ (xs : List LiveCell) where
       (leads-row (tailIn cellRows s) (s ∷ st) (tailIn cellRows s)
       ∙ ap (λ (x : ℕ). leads look x (map halfedgeOf (s ∷ st)) x) (tail-row s))
       (ap₂ _&&_ (ap (λ (n : ℕ). eqb n 2) (kind-row xs (s / 2)) ∙ is-closed (look (s / 2)))
-      (all-same (eqb s) (λ (t : ℕ). same (halfedgeOf s) (halfedgeOf t)) (λ t. same-step s t (eqb (s / 2) (t / 2)) (eqb (s % 2) 1) (eqb (t % 2) 1) refl refl refl) st
+      (all-same (eqb s) (λ (t : ℕ). same (halfedgeOf s) (halfedgeOf t))
+      (λ t. same-step s t (eqb (s / 2) (t / 2)) (eqb (s % 2) 1) (eqb (t % 2) 1) refl refl refl) st
       ∙ all-map (same (halfedgeOf s)) halfedgeOf st))
 
   cycle-right : (n : ℕ) (st : List ℕ) → cycleGood cellRows n st ≡ cycleOk (lookup xs) (cycleOf n st)

@@ -77,7 +77,8 @@ shifted p i (suc m) = ap (λ (b : Bool). p (suc i) && b) (shifted p (suc i) m)
 -- a test of the numbers in each row is a test of each element
 module _ {A : Type 0} (q : ℕ → ℕ → ℕ → ℕ → Bool) (f g h k : A → ℕ) where
   pub all-rows : (xs : List A)
-      → allFrom (λ (i : ℕ). q (getD (map f xs) i 0) (getD (map g xs) i 0) (getD (map h xs) i 0) (getD (map k xs) i 0)) 0 (length xs) ≡ all (λ (x : A). q (f x) (g x) (h x) (k x)) xs
+      → allFrom (λ (i : ℕ). q (getD (map f xs) i 0) (getD (map g xs) i 0) (getD (map h xs) i 0) (getD (map k xs) i 0)) 0 (length xs)
+      ≡ all (λ (x : A). q (f x) (g x) (h x) (k x)) xs
   all-rows [] = refl
   all-rows (x ∷ xs) =
       ap (λ (b : Bool). q (f x) (g x) (h x) (k x) && b)

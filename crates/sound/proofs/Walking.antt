@@ -27,7 +27,8 @@ module _ (t : Rows) (l : List ℕ) (from m u w : ℕ) where
     pub rest : leadsIn t u (take m (drop from l)) w ≡ leadsIn t at (drop i (take m (drop from l))) w
 
   module _ (h : from + m ≤ length l) (at i : ℕ) (k : i < m) (x : Leading at i) where
-    next : leadsIn t u (take m (drop from l)) w ≡ goesOn t at (getD l (from + i) 0) && leadsIn t (headIn t (getD l (from + i) 0)) (drop (i + 1) (take m (drop from l))) w
+    next : leadsIn t u (take m (drop from l)) w ≡ goesOn t at (getD l (from + i) 0)
+        && leadsIn t (headIn t (getD l (from + i) 0)) (drop (i + 1) (take m (drop from l))) w
     next =
         x .rest
         ∙ ap (λ (y : List ℕ). leadsIn t at y w) (left-cons (drop from l) m i 0 (room l from m h) k)
@@ -47,7 +48,8 @@ module _ (t : Rows) (l : List ℕ) (from m u w : ℕ) where
 first-step : (st : List ℕ) (from m : ℕ) → 1 ≤ m → from + m ≤ length st → take m (drop from st) ≡ getD st from 0 ∷ take (m - 1) (drop (from + 1) st)
 first-step st from m h g =
     let e : m ≡ suc (m - 1) = omega arith in
-    ap₂ (λ (n : ℕ) (l : List ℕ). take n l) e (drop-cons st from 0 (omega arith)) ∙ ap (λ (n : ℕ). getD st from 0 ∷ take (m - 1) (drop n st)) (sym (add-one from))
+    ap₂ (λ (n : ℕ) (l : List ℕ). take n l) e (drop-cons st from 0 (omega arith)) ∙ ap (λ (n : ℕ). getD st from 0 ∷ take (m - 1) (drop n st))
+    (sym (add-one from))
 
 -- the first step's edge is in row r, whose kind is k
 module _ (t : Rows) (st : List ℕ) (from m : ℕ) (h : 1 ≤ m) (g : from + m ≤ length st) (k : ℕ) (ek : getD (t .kinds) (rowIn t (getD st from 0)) 4 ≡ k) where
@@ -71,17 +73,20 @@ module _ (t : Rows) (st : List ℕ) (from m : ℕ) (h : 1 ≤ m) (g : from + m �
       → r ≡ leadsIn t u (take (m - 1) (drop (from + 1) st)) w → r ≡ joinsIn t (take m (drop from st))
   path-open e u w eu ew r er =
       er ∙ ap₂ (λ (x y : ℕ). leadsIn t x (take (m - 1) (drop (from + 1) st)) y) eu ew
-      ∙ sym (joined ∙ ap (λ (x : ℕ). (eqb x 1 && leadsIn t (headIn t (getD st from 0)) (take (m - 1) (drop (from + 1) st)) (tailIn t (getD st from 0))) || (eqb x 2 && all (eqb (getD st from 0)) (take (m - 1) (drop (from + 1) st)))) e
+      ∙ sym (joined ∙ ap (λ (x : ℕ). (eqb x 1 && leadsIn t (headIn t (getD st from 0)) (take (m - 1) (drop (from + 1) st)) (tailIn t (getD st from 0)))
+      || (eqb x 2 && all (eqb (getD st from 0)) (take (m - 1) (drop (from + 1) st)))) e
       ∙ or-none (leadsIn t (headIn t (getD st from 0)) (take (m - 1) (drop (from + 1) st)) (tailIn t (getD st from 0))))
 
   pub path-closed : k ≡ 2 → (r : Bool) → r ≡ all (eqb (getD st from 0)) (take (m - 1) (drop (from + 1) st)) → r ≡ joinsIn t (take m (drop from st))
   path-closed e r er =
       er
-      ∙ sym (joined ∙ ap (λ (x : ℕ). (eqb x 1 && leadsIn t (headIn t (getD st from 0)) (take (m - 1) (drop (from + 1) st)) (tailIn t (getD st from 0))) || (eqb x 2 && all (eqb (getD st from 0)) (take (m - 1) (drop (from + 1) st)))) e)
+      ∙ sym (joined ∙ ap (λ (x : ℕ). (eqb x 1 && leadsIn t (headIn t (getD st from 0)) (take (m - 1) (drop (from + 1) st)) (tailIn t (getD st from 0)))
+      || (eqb x 2 && all (eqb (getD st from 0)) (take (m - 1) (drop (from + 1) st)))) e)
 
   pub path-none : (k ≡ 1 → ⊥) → (k ≡ 2 → ⊥) → false ≡ joinsIn t (take m (drop from st))
   path-none e f =
-      sym (joined ∙ ap₂ (λ (x y : Bool). (x && leadsIn t (headIn t (getD st from 0)) (take (m - 1) (drop (from + 1) st)) (tailIn t (getD st from 0))) || (y && all (eqb (getD st from 0)) (take (m - 1) (drop (from + 1) st))))
+      sym (joined ∙ ap₂ (λ (x y : Bool). (x && leadsIn t (headIn t (getD st from 0)) (take (m - 1) (drop (from + 1) st)) (tailIn t (getD st from 0)))
+      || (y && all (eqb (getD st from 0)) (take (m - 1) (drop (from + 1) st))))
       (ne-eqb k 1 e) (ne-eqb k 2 f))
 
 pub width-some : (c : ℕ) → (c ≡ 0 → ⊥) → width c ≡ c

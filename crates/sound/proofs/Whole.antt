@@ -77,7 +77,8 @@ module _ (d : Drawing) (z : Sizes d) (f : Fits d) (ix : Index) (x : Indexes d ix
       let e : d .count ≡ length (map entryCell xs) = sym (length-take-le (d .count) (d .cells) (omega (arith, z .cells, f .cells))) ∙ ap length cells-are in
       ap₂ (λ (t : Rows) (b : List ℕ). allFrom (rowGood t b) 0 (d .count)) rows-are (bends-are d z f ix x)
       ∙ ap (allFrom (rowGood (cellRows xs) (bendRow xs)) 0) e
-      ∙ all-rows (edgeGood (idRow xs) (kindRow xs)) (λ (c : Cell). kindOf (c .shape)) (λ (c : Cell). shapeStart (c .shape)) (λ (c : Cell). shapeEnd (c .shape)) (λ (c : Cell). bendCount (c .shape)) (map entryCell xs)
+      ∙ all-rows (edgeGood (idRow xs) (kindRow xs)) (λ (c : Cell). kindOf (c .shape)) (λ (c : Cell). shapeStart (c .shape)) (λ (c : Cell). shapeEnd (c .shape))
+      (λ (c : Cell). bendCount (c .shape)) (map entryCell xs)
 
   bends-part : all within (take (bendTotal d) (d .bends)) ≡ all within (spread entryBends (sheetOf d .cells))
   bends-part = ap (λ (n : ℕ). all within (take n (d .bends))) (bend-total d (sheetOf d .cells) (stands d z f)) ∙ ap (all within) (stands d z f .bends .front)
@@ -90,7 +91,8 @@ module _ (d : Drawing) (z : Sizes d) (f : Fits d) (ix : Index) (x : Indexes d ix
       ∙ ap (all (cycleOk (lookup xs))) (sym (used-cycles d z f))
 
   figures : figuresOk (sheetOf d .cells)
-      ≡ (all cellPlaced (take (d .count) (d .cells)) && allFrom (rowGood rows bendCounts) 0 (d .count)) && (all within (take (bendTotal d) (d .bends)) && cyclesGood rows inUse (d .steps))
+      ≡ (all cellPlaced (take (d .count) (d .cells)) && allFrom (rowGood rows bendCounts) 0 (d .count))
+      && (all within (take (bendTotal d) (d .bends)) && cyclesGood rows inUse (d .steps))
   figures =
       figures-parts (sheetOf d .cells)
       ∙ ap₂ _&&_ (ap₂ _&&_ (ap (all cellPlaced) (sym cells-are)) (sym edges-part)) (ap₂ _&&_ (sym bends-part) (sym cycles-part))
@@ -103,4 +105,5 @@ module _ (d : Drawing) (z : Sizes d) (f : Fits d) (ix : Index) (x : Indexes d ix
       (sym (x .ids ∙ ids-same d z f)) (in-ceilings d z f)
       ∙ ap (λ (g : Bool). rising 0 (take (d .count) (ix .ids)) (d .next) && (leb (d .next) idsEnd && g)) figures
       ∙ regroup (rising 0 (take (d .count) (ix .ids)) (d .next)) (leb (d .next) idsEnd)
-      (all cellPlaced (take (d .count) (d .cells))) (allFrom (rowGood rows bendCounts) 0 (d .count)) (all within (take (bendTotal d) (d .bends))) (cyclesGood rows inUse (d .steps))
+      (all cellPlaced (take (d .count) (d .cells))) (allFrom (rowGood rows bendCounts) 0 (d .count)) (all within (take (bendTotal d) (d .bends)))
+      (cyclesGood rows inUse (d .steps))

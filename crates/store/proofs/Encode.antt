@@ -171,14 +171,17 @@ bends-past (openEdge s e b) bs = drop-at b bs (length b) refl
 bends-past (closedEdge b) bs = drop-at b bs (length b) refl
 bends-past (face k) bs = refl
 
-pub cells-back : (xs : List Entry) (ks : List Cycle) (bs : List Position) → cellsOf (map entryCell xs) (spread entryCycles xs ++ ks) (spread entryBends xs ++ bs) ≡ xs
+pub cells-back : (xs : List Entry) (ks : List Cycle) (bs : List Position)
+    → cellsOf (map entryCell xs) (spread entryCycles xs ++ ks) (spread entryBends xs ++ bs) ≡ xs
 cells-back [] ks bs = refl
 cells-back (x ∷ xs) ks bs =
     let f = x .figure in
     let kr : List Cycle = spread entryCycles xs ++ ks in
     let br : List Position = spread entryBends xs ++ bs in
-    ap₂ (λ (k : List Cycle) (b : List Position). cellsOf (entryCell x ∷ map entryCell xs) k b) (append-assoc (figureCycles f) (spread entryCycles xs) ks) (append-assoc (figureBends f) (spread entryBends xs) bs)
-    ∙ ap (λ (g : Figure). record { id = x .id; figure = g } ∷ cellsOf (map entryCell xs) (drop (cycleCount (shapeOf f)) (figureCycles f ++ kr)) (drop (bendCount (shapeOf f)) (figureBends f ++ br))) (figure-back f kr br)
+    ap₂ (λ (k : List Cycle) (b : List Position). cellsOf (entryCell x ∷ map entryCell xs) k b) (append-assoc (figureCycles f) (spread entryCycles xs) ks)
+    (append-assoc (figureBends f) (spread entryBends xs) bs)
+    ∙ ap (λ (g : Figure). record { id = x .id; figure = g } ∷ cellsOf (map entryCell xs) (drop (cycleCount (shapeOf f)) (figureCycles f ++ kr))
+    (drop (bendCount (shapeOf f)) (figureBends f ++ br))) (figure-back f kr br)
     ∙ ap₂ (λ (k : List Cycle) (b : List Position). x ∷ cellsOf (map entryCell xs) k b) (cycles-past f kr) (bends-past f br)
     ∙ ap (λ (r : List Entry). x ∷ r) (cells-back xs ks bs)
 

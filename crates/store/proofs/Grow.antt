@@ -32,7 +32,8 @@ next-is d = refl
 
 module _ {A : Type 0} where
   -- what follows a front
-  pub begins-more : {l x : List A} (l′ y : List A) (n : ℕ) → n ≡ length x → n + length y ≤ length l′ → take (n + length y) l′ ≡ take n l ++ y → Begins l x → Begins l′ (x ++ y)
+  pub begins-more : {l x : List A} (l′ y : List A) (n : ℕ) → n ≡ length x → n + length y ≤ length l′ → take (n + length y) l′ ≡ take n l ++ y → Begins l x
+      → Begins l′ (x ++ y)
   begins-more {l} {x} l′ y n e h g b = take-begins (n + length y) h (g ∙ ap (λ (r : List A). r ++ y) (begins-take n (sym e) b))
 
   pub no-more : (l : List A) (n : ℕ) → take (n + 0) l ≡ take n l ++ []
@@ -64,8 +65,10 @@ grown d x cy st bs =
 module _ (d : Drawing) (z : Sizes d) (f : Fits d) (h : d .count < 256) (x : Figure) (cy st : List ℕ) (bs : List Position) where
   -- the pools that are d's up to the sums, and then have the figure's own
   pub append : Sizes (grown d x cy st bs)
-      → cycleTotal d + length (map numOf (figureCycles x)) ≤ 512 → take (cycleTotal d + length (map numOf (figureCycles x))) cy ≡ take (cycleTotal d) (d .cycles) ++ map numOf (figureCycles x)
-      → stepTotal d + length (spread cycleWords (figureCycles x)) ≤ 2048 → take (stepTotal d + length (spread cycleWords (figureCycles x))) st ≡ take (stepTotal d) (d .steps) ++ spread cycleWords (figureCycles x)
+      → cycleTotal d + length (map numOf (figureCycles x)) ≤ 512
+      → take (cycleTotal d + length (map numOf (figureCycles x))) cy ≡ take (cycleTotal d) (d .cycles) ++ map numOf (figureCycles x)
+      → stepTotal d + length (spread cycleWords (figureCycles x)) ≤ 2048
+      → take (stepTotal d + length (spread cycleWords (figureCycles x))) st ≡ take (stepTotal d) (d .steps) ++ spread cycleWords (figureCycles x)
       → bendTotal d + length (figureBends x) ≤ 2048 → take (bendTotal d + length (figureBends x)) bs ≡ take (bendTotal d) (d .bends) ++ figureBends x
       → allReal (figureCycles x) ≡ true → (sheetOf (grown d x cy st bs) ≡ appended (sheetOf d) x) × Fits (grown d x cy st bs)
   append zr hk k ht t hb b e =
@@ -83,7 +86,8 @@ module _ (d : Drawing) (z : Sizes d) (f : Fits d) (h : d .count < 256) (x : Figu
             ∙ sym (map-append entryCell xs (new ∷ []));
         cycles =
             rw (fk, map-append numOf ks (figureCycles x))
-            (begins-more cy (map numOf (figureCycles x)) (cycleTotal d) (cycle-total d xs s ∙ sym (length-map ks numOf)) (omega (arith, zr .cycles)) k (s .cycles));
+            (begins-more cy (map numOf (figureCycles x)) (cycleTotal d) (cycle-total d xs s ∙ sym (length-map ks numOf)) (omega (arith, zr .cycles)) k
+            (s .cycles));
         steps =
             rw (fk, flat-append cycleWords ks (figureCycles x))
             (begins-more st (spread cycleWords (figureCycles x)) (stepTotal d) (step-total d xs s) (omega (arith, zr .steps)) t (s .steps));

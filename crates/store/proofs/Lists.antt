@@ -37,7 +37,8 @@ module _ {A B : Type 0} where
   pub record Mapping (f : A → B) (l : List A) (i : ℕ) (out : List B) : Type 0 where
     pub front : take i out ≡ map f (take i l)
 
-  pub mapping-turn : (f : A → B) (l : List A) (i : ℕ) (out : List B) (v : B) (z : A) → i < length l → i < length out → v ≡ f (getD l i z) → Mapping f l i out → Mapping f l (i + 1) (set out i v)
+  pub mapping-turn : (f : A → B) (l : List A) (i : ℕ) (out : List B) (v : B) (z : A) → i < length l → i < length out → v ≡ f (getD l i z) → Mapping f l i out
+      → Mapping f l (i + 1) (set out i v)
   mapping-turn f l i out v z h k e m =
       record {
         front =
@@ -81,7 +82,8 @@ module _ {A : Type 0} where
       let b = p .size in
       record { front = ap (λ (m : ℕ). take m l) (sym (ap length (p .front)) ∙ length-take-le k l (omega arith)) ∙ p .front }
 
-pub spread-append : (z : ℕ) (bs bs′ : List Bool) (cs cs′ : List ℕ) → length bs ≡ length cs → spreadFlags z (bs ++ bs′) (cs ++ cs′) ≡ spreadFlags z bs cs ++ spreadFlags z bs′ cs′
+pub spread-append : (z : ℕ) (bs bs′ : List Bool) (cs cs′ : List ℕ) → length bs ≡ length cs
+    → spreadFlags z (bs ++ bs′) (cs ++ cs′) ≡ spreadFlags z bs cs ++ spreadFlags z bs′ cs′
 spread-append z [] bs′ [] cs′ h = refl
 spread-append z [] bs′ (c ∷ cs) cs′ h = absurd (omega arith)
 spread-append z (b ∷ bs) bs′ [] cs′ h = absurd (omega arith)

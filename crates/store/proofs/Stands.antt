@@ -15,7 +15,8 @@ use Rattle.store.specs.Sheet.{allReal, idsOf}
 use Rattle.store.specs.View.{sheetOf, Fits, cyclesFrom, cellsOf, cycleSum, bendSum, widthSum, cycleTotal, bendTotal, stepTotal}
 use Rattle.store.specs.Places.{entryCell, entryCycles, entryBends, numOf, cycleWords}
 use Rattle.number.specs.Readers.{spread}
-use Rattle.store.proofs.Encode.{numbers, places, cycles-real, take-cycles, length-cycles, heads, cycles-of-cells, bends-of-cells, cycles-back, cells-back, cycle-sum, bend-sum, width-sum}
+use Rattle.store.proofs.Encode.{numbers, places, cycles-real, take-cycles, length-cycles, heads, cycles-of-cells, bends-of-cells, cycles-back}
+use Rattle.store.proofs.Encode.{cells-back, cycle-sum, bend-sum, width-sum}
 
 -- l begins with x
 pub record Begins {A : Type 0} (l x : List A) : Type 0 where
@@ -78,7 +79,8 @@ module _ (d : Drawing) (xs : List Entry) (s : Stands d xs) where
       ap₂ (λ (c : List Cell) (b : List Position). cellsOf c (cyclesFrom (d .cycles) (d .steps)) b) (s .cells) (begins-split (s .bends))
       ∙ ap₂ (λ (n t : List ℕ). cellsOf (map entryCell xs) (cyclesFrom n t) (spread entryBends xs ++ drop (length (spread entryBends xs)) (d .bends)))
       (begins-split (s .cycles)) (begins-split (s .steps))
-      ∙ ap (λ (k : List Cycle). cellsOf (map entryCell xs) k (spread entryBends xs ++ drop (length (spread entryBends xs)) (d .bends))) (cycles-back ks ns st (s .real))
+      ∙ ap (λ (k : List Cycle). cellsOf (map entryCell xs) k (spread entryBends xs ++ drop (length (spread entryBends xs)) (d .bends)))
+      (cycles-back ks ns st (s .real))
       ∙ cells-back xs (cyclesFrom ns st) (drop (length (spread entryBends xs)) (d .bends))
 
   pub cycle-total : cycleTotal d ≡ length (spread entryCycles xs)

@@ -37,14 +37,16 @@ pub decimal-last : (n : ℕ) → n < 10 → decimal n ≡ (48 + n) ∷ []
 decimal-last n h = ap (more n n) (lt-ltb n 10 h)
 
 pub decimal-more : (n : ℕ) → 10 ≤ n → decimal n ≡ decimal (n / 10) ++ ((48 + n % 10) ∷ [])
-decimal-more n h = ap (more n n) (le-ltb n 10 h) ∙ ap (λ (ds : List ℕ). ds ++ ((48 + n % 10) ∷ [])) (enough n (suc (n / 10)) (n / 10) (omega arith) (omega arith))
+decimal-more n h = ap (more n n) (le-ltb n 10 h) ∙ ap (λ (ds : List ℕ). ds ++ ((48 + n % 10) ∷ []))
+    (enough n (suc (n / 10)) (n / 10) (omega arith) (omega arith))
 
 -- a number below a power of ten has so many digits at most
 digits-few : (k j n : ℕ) → n < 10 ^ suc j → length (digits k n) ≤ suc j
 digits-few zero j n h = omega arith
 digits-few (suc k) j n h = go j (ltb n 10) refl h (λ i g. digits-few k i (n / 10) g)
   where
-    go : (i : ℕ) (b : Bool) → ltb n 10 ≡ b → n < 10 ^ suc i → ((m : ℕ) → n / 10 < 10 ^ suc m → length (digits k (n / 10)) ≤ suc m) → length (more k n (ltb n 10)) ≤ suc i
+    go : (i : ℕ) (b : Bool) → ltb n 10 ≡ b → n < 10 ^ suc i → ((m : ℕ) → n / 10 < 10 ^ suc m → length (digits k (n / 10)) ≤ suc m)
+        → length (more k n (ltb n 10)) ≤ suc i
     go i true e g f = rw e (omega arith)
     go zero false e g f = let l = ltb-false n 10 e in absurd (omega arith)
     go (suc i) false e g f = rw e (let d = f i (omega arith) in let a = length-append (digits k (n / 10)) ((48 + n % 10) ∷ []) in omega arith)
@@ -69,10 +71,12 @@ module _ (l : List ℕ) (at n : ℕ) where
     pub more-room : at + length (decimal n) ≤ length l → at + length (decimal (n / 10)) < length l
     more-room g = let e = more-length in omega arith
 
-    pub more-put : (r : ℕ) (m : List ℕ) → r ≡ at + length (decimal (n / 10)) → m ≡ sets l at (decimal (n / 10)) → (r + 1 ≡ at + length (decimal n)) × (set m r (48 + n % 10) ≡ sets l at (decimal n))
+    pub more-put : (r : ℕ) (m : List ℕ) → r ≡ at + length (decimal (n / 10)) → m ≡ sets l at (decimal (n / 10))
+        → (r + 1 ≡ at + length (decimal n)) × (set m r (48 + n % 10) ≡ sets l at (decimal n))
     more-put r m e f = (
       let g = more-length in omega arith,
-      ap₂ (λ (x : List ℕ) (k : ℕ). set x k (48 + n % 10)) f e ∙ sym (sets-append l at (decimal (n / 10)) ((48 + n % 10) ∷ [])) ∙ ap (sets l at) (sym (decimal-more n h)),
+      ap₂ (λ (x : List ℕ) (k : ℕ). set x k (48 + n % 10)) f e ∙ sym (sets-append l at (decimal (n / 10)) ((48 + n % 10) ∷ []))
+          ∙ ap (sets l at) (sym (decimal-more n h)),
     )
 
 -- a place within a list is within one as long

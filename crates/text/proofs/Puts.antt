@@ -42,7 +42,8 @@ pub put-byte : (l : List ℕ) (at b : ℕ) → TextPut l at (b ∷ []) 1 (set l 
 put-byte l at b = record { stands = refl; ends = refl; short = omega arith }
 
 -- a u32
-pub put-number : (l : List ℕ) (at n : ℕ) (x : List ℕ) (r : ℕ) → n < 4294967296 → r ≡ at + length (decimal n) → x ≡ sets l at (decimal n) → TextPut l at (decimal n) 10 x r
+pub put-number : (l : List ℕ) (at n : ℕ) (x : List ℕ) (r : ℕ) → n < 4294967296 → r ≡ at + length (decimal n) → x ≡ sets l at (decimal n)
+    → TextPut l at (decimal n) 10 x r
 put-number l at n x r h e f = record { stands = f; ends = e; short = decimal-few n h }
 
 -- a text of fewer bytes than allowed
@@ -51,7 +52,8 @@ put-within h p = record { stands = p .stands; ends = p .ends; short = (let s = p
 
 -- the fields of a line, each with its mark
 pub line-text : (number first new removed : ℕ)
-    → (decimal number ++ 32 ∷ []) ++ ((decimal first ++ 32 ∷ []) ++ ((decimal new ++ 32 ∷ []) ++ (decimal removed ++ 10 ∷ []))) ≡ lineText (record { number = number; first = first; new = new; removed = removed })
+    → (decimal number ++ 32 ∷ []) ++ ((decimal first ++ 32 ∷ []) ++ ((decimal new ++ 32 ∷ []) ++ (decimal removed ++ 10 ∷ [])))
+    ≡ lineText (record { number = number; first = first; new = new; removed = removed })
 line-text number first new removed = simp append-assoc
 
 -- how many bytes a field has with its mark, a line, and the end line
@@ -59,7 +61,8 @@ pub field-length : (n mark : ℕ) → length (decimal n ++ mark ∷ []) ≡ leng
 field-length n mark = length-append (decimal n) (mark ∷ [])
 
 pub line-length : (number first new removed : ℕ)
-    → length (lineText (record { number = number; first = first; new = new; removed = removed })) ≡ (length (decimal number) + 1) + ((length (decimal first) + 1) + ((length (decimal new) + 1) + (length (decimal removed) + 1)))
+    → length (lineText (record { number = number; first = first; new = new; removed = removed })) ≡ (length (decimal number) + 1)
+    + ((length (decimal first) + 1) + ((length (decimal new) + 1) + (length (decimal removed) + 1)))
 line-length number first new removed = simp length-append (omega arith)
 
 pub line-few : (number first new removed : ℕ) → number < 4294967296 → first < 4294967296 → new < 4294967296 → removed < 4294967296
@@ -91,7 +94,8 @@ output-text ls z n = simp append-assoc
 abbrev pub PutUpto : List ℕ → ℕ → List ℕ → ℕ → List ℕ → Type 0
 PutUpto l at text i x = (i ≤ length text) × TextPut l at (take i text) i x (at + i)
 
-pub upto-more : (l : List ℕ) (at : ℕ) (text : List ℕ) (i : ℕ) (x : List ℕ) → PutUpto l at text i x → i < length text → PutUpto l at text (i + 1) (set x (at + i) (getD text i 0))
+pub upto-more : (l : List ℕ) (at : ℕ) (text : List ℕ) (i : ℕ) (x : List ℕ) → PutUpto l at text i x → i < length text
+    → PutUpto l at text (i + 1) (set x (at + i) (getD text i 0))
 upto-more l at text i x p h =
     let q = put-then (p .1) (put-byte x (at + i) (getD text i 0)) in
     let e : take i text ++ (getD text i 0 ∷ []) ≡ take (i + 1) text = sym (take-suc text i 0 h) ∙ ap (λ (n : ℕ). take n text) (sym (add-one i)) in

@@ -21,7 +21,8 @@ returns-2 c =
     let r = c .before in
     let st = r .before .before .before in
     let a = st .args in
-    not-rising (a .script .now) (a .place) (a .moved) (st .pre) (a .k) (a .c1) (a .c2) (eq-eqb (a .c1) (a .c2) (r .before .if1 .left)) (sym (r .moved-rise .ensures) ∙ not-true _ (c .if2 .taken))
+    not-rising (a .script .now) (a .place) (a .moved) (st .pre) (a .k) (a .c1) (a .c2) (eq-eqb (a .c1) (a .c2) (r .before .if1 .left))
+    (sym (r .moved-rise .ensures) ∙ not-true _ (c .if2 .taken))
 
 moved-has-requires : tie.Need-moved-has-requires
 moved-has-requires c κs = search needs
@@ -32,7 +33,8 @@ returns-3 c =
     let st = r .before .before .before in
     let a = st .args in
     ap not (c .moved-has .ensures)
-    ∙ rising-without (a .script .now) (a .place) (a .moved) (st .pre) (a .k) (a .c1) (a .c2) (eq-eqb (a .c1) (a .c2) (r .before .if1 .left)) (sym (r .moved-rise .ensures) ∙ not-false _ (c .before .if2 .left))
+    ∙ rising-without (a .script .now) (a .place) (a .moved) (st .pre) (a .k) (a .c1) (a .c2) (eq-eqb (a .c1) (a .c2) (r .before .if1 .left))
+    (sym (r .moved-rise .ensures) ∙ not-false _ (c .before .if2 .left))
 
 pub moved-fit-spec : {M : Type 1} → statement M
 moved-fit-spec =

@@ -11,7 +11,8 @@ use Rattle.ask_cut_edge.specs.Cuts.{pointOf, openBetween}
 use Rattle.ask_cut_edge.proofs.open_place.Statement.{statement}
 use Rattle.ask_cut_edge.proofs.open_place.Tie as tie
 
-by : (pa pb o p : Position) (m q : ℕ) (x : Bool) → eqb (q % 2) 1 ≡ x → openBetween pa pb o p m q ≡ cond x p (middle (pointOf pa pb o m (q / 2)) (pointOf pa pb p m (q / 2 + 1)))
+by : (pa pb o p : Position) (m q : ℕ) (x : Bool) → eqb (q % 2) 1 ≡ x
+    → openBetween pa pb o p m q ≡ cond x p (middle (pointOf pa pb o m (q / 2)) (pointOf pa pb p m (q / 2 + 1)))
 by pa pb o p m q x e = λ i. cond (e i) p (middle (pointOf pa pb o m (q / 2)) (pointOf pa pb p m (q / 2 + 1)))
 
 returns : tie.Need-returns

@@ -14,7 +14,8 @@ edgeBy k = eqb k 1 || eqb k 2
 
 module _ (ka kb : ℕ) (same : Bool) (flag : ℕ) (meet : Bool) where
   -- by what each question gets
-  by : (p q f m : Bool) → edgeBy ka ≡ p → edgeBy kb ≡ q → leb flag 1 ≡ f → mayGlueBy ka kb meet ≡ m → edgesNo ka kb same flag meet ≡ cond (p && q) (cond f (cond (not same && m) 0 6) 5) 4
+  by : (p q f m : Bool) → edgeBy ka ≡ p → edgeBy kb ≡ q → leb flag 1 ≡ f → mayGlueBy ka kb meet ≡ m
+      → edgesNo ka kb same flag meet ≡ cond (p && q) (cond f (cond (not same && m) 0 6) 5) 4
   by p q f m ep eq ef em = λ i. cond (ep i && eq i) (cond (ef i) (cond (not same && em i) 0 6) 5) 4
 
   first : edgeBy ka ≡ false → 4 ≡ edgesNo ka kb same flag meet
@@ -50,7 +51,8 @@ returns-2 : tie.Need-returns-2
 returns-2 c =
     let e = c .before .before in
     let s = e .before .before .args in
-    second (s .ka) (s .kb) (s .same) (s .flag) (s .meet) (sym (e .before .is-edge .ensures) ∙ not-false _ (e .if1 .left)) (sym (c .before .is-edge2 .ensures) ∙ not-true _ (c .if2 .taken))
+    second (s .ka) (s .kb) (s .same) (s .flag) (s .meet) (sym (e .before .is-edge .ensures) ∙ not-false _ (e .if1 .left))
+    (sym (c .before .is-edge2 .ensures) ∙ not-true _ (c .if2 .taken))
 
 -- both are edges
 edges : (g : tie.Else2) → let s = g .before .before .before .before .args in (edgeBy (s .ka) ≡ true) × (edgeBy (s .kb) ≡ true)

@@ -39,7 +39,9 @@ value-at-requires c κs = search needs
 returns : tie.Need-returns
 returns c =
     let st = c .before .before in
-    first (kindIn (now (st .args .ids)) (now (st .args .kinds)) (st .args .n) (st .args .a)) (kindIn (now (st .args .ids)) (now (st .args .kinds)) (st .args .n) (st .args .b)) (st .args .a) (st .args .b) _ (c .before .value-at .ensures) (c .if1 .taken)
+    first (kindIn (now (st .args .ids)) (now (st .args .kinds)) (st .args .n) (st .args .a))
+    (kindIn (now (st .args .ids)) (now (st .args .kinds)) (st .args .n) (st .args .b)) (st .args .a) (st .args .b) _ (c .before .value-at .ensures)
+    (c .if1 .taken)
 
 value-at-requires-2 : tie.Need-value-at-requires-2
 value-at-requires-2 c κs = search needs
@@ -48,21 +50,27 @@ returns-2 : tie.Need-returns-2
 returns-2 c =
     let e = c .before .before in
     let st = e .before .before in
-    second (kindIn (now (st .args .ids)) (now (st .args .kinds)) (st .args .n) (st .args .a)) (kindIn (now (st .args .ids)) (now (st .args .kinds)) (st .args .n) (st .args .b)) (st .args .a) (st .args .b) _ (e .before .value-at .ensures) (e .if1 .left) _ (c .before .value-at2 .ensures) (c .if2 .taken)
+    second (kindIn (now (st .args .ids)) (now (st .args .kinds)) (st .args .n) (st .args .a))
+    (kindIn (now (st .args .ids)) (now (st .args .kinds)) (st .args .n) (st .args .b)) (st .args .a) (st .args .b) _ (e .before .value-at .ensures)
+    (e .if1 .left) _ (c .before .value-at2 .ensures) (c .if2 .taken)
 
 returns-3 : tie.Need-returns-3
 returns-3 c =
     let l = c .before .before in
     let e = l .before in
     let st = e .before .before in
-    last (kindIn (now (st .args .ids)) (now (st .args .kinds)) (st .args .n) (st .args .a)) (kindIn (now (st .args .ids)) (now (st .args .kinds)) (st .args .n) (st .args .b)) (st .args .a) (st .args .b) _ (e .before .value-at .ensures) (e .if1 .left) _ (l .value-at2 .ensures) true 6 (c .before .if2 .left) (eq-eqb _ _ (c .if3 .taken)) refl
+    last (kindIn (now (st .args .ids)) (now (st .args .kinds)) (st .args .n) (st .args .a))
+    (kindIn (now (st .args .ids)) (now (st .args .kinds)) (st .args .n) (st .args .b)) (st .args .a) (st .args .b) _ (e .before .value-at .ensures)
+    (e .if1 .left) _ (l .value-at2 .ensures) true 6 (c .before .if2 .left) (eq-eqb _ _ (c .if3 .taken)) refl
 
 returns-4 : tie.Need-returns-4
 returns-4 c =
     let l = c .before .before in
     let e = l .before in
     let st = e .before .before in
-    last (kindIn (now (st .args .ids)) (now (st .args .kinds)) (st .args .n) (st .args .a)) (kindIn (now (st .args .ids)) (now (st .args .kinds)) (st .args .n) (st .args .b)) (st .args .a) (st .args .b) _ (e .before .value-at .ensures) (e .if1 .left) _ (l .value-at2 .ensures) false 0 (c .before .if2 .left) (ne-eqb _ _ (c .if3 .left)) refl
+    last (kindIn (now (st .args .ids)) (now (st .args .kinds)) (st .args .n) (st .args .a))
+    (kindIn (now (st .args .ids)) (now (st .args .kinds)) (st .args .n) (st .args .b)) (st .args .a) (st .args .b) _ (e .before .value-at .ensures)
+    (e .if1 .left) _ (l .value-at2 .ensures) false 0 (c .before .if2 .left) (ne-eqb _ _ (c .if3 .left)) refl
 
 pub vertices-no-spec : {M : Type 1} → statement M
 vertices-no-spec =

@@ -33,7 +33,8 @@ number-of :
     let n = c .before .count .given .0 in
     (readNumber s ≡ got (n .0) (drop (n .1 .0) s)) × (0 < n .1 .0) × (n .1 .0 ≤ length s)
 number-of c =
-    value-at (now (c .before .before .before .before .before .args .part)) 0 _ _ (sym (c .before .before .before .read-number .ensures) ∙ ap numberSays (c .before .count .given .1))
+    value-at (now (c .before .before .before .before .before .args .part)) 0 _ _
+    (sym (c .before .before .before .read-number .ensures) ∙ ap numberSays (c .before .count .given .1))
 
 cast-bytes : tie.Need-cast-bytes
 cast-bytes c = search needs

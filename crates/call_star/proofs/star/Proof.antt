@@ -29,7 +29,8 @@ returns c =
     let a = arrays s in
     let t = s .args .t in
     r .star-rows .ensures
-    ∙ star-answer (heldBy a) (ready-sizes a t (s .pre)) (rowsBy a) (ready-indexes a t (s .pre)) (ready-drawing a t (s .pre)) (s .args .id) (s .args .buffer .now)
+    ∙ star-answer (heldBy a) (ready-sizes a t (s .pre)) (rowsBy a) (ready-indexes a t (s .pre)) (ready-drawing a t (s .pre)) (s .args .id)
+    (s .args .buffer .now)
     ∙ star-of-sheet (heldBy a) (ready-drawing a t (s .pre)) (s .args .id) (s .args .buffer .now)
 
 pub star-spec : {M : Type 1} → statement M

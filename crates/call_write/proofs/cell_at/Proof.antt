@@ -14,28 +14,32 @@ returns : tie.Need-returns
 returns c =
     let s = c .before .before .before .before in
     let a = s .args in
-    vertex-told (a .ids .now) (a .kinds .now) (a .starts .now) (a .ends .now) (a .bends .now) (a .counts .now) (a .px .now) (a .py .now) (a .row) (within s) (c .before .if1 .taken) _ (c .vertex-at .ensures)
+    vertex-told (a .ids .now) (a .kinds .now) (a .starts .now) (a .ends .now) (a .bends .now) (a .counts .now) (a .px .now) (a .py .now) (a .row) (within s)
+    (c .before .if1 .taken) _ (c .vertex-at .ensures)
 
 returns-2 : tie.Need-returns-2
 returns-2 c =
     let e = c .before .before .before in
     let s = e .before .before .before .before in
     let a = s .args in
-    open-told (a .ids .now) (a .kinds .now) (a .starts .now) (a .ends .now) (a .bends .now) (a .counts .now) (a .px .now) (a .py .now) (a .row) (within s) (e .if2 .taken)
+    open-told (a .ids .now) (a .kinds .now) (a .starts .now) (a .ends .now) (a .bends .now) (a .counts .now) (a .px .now) (a .py .now) (a .row) (within s)
+    (e .if2 .taken)
 
 returns-3 : tie.Need-returns-3
 returns-3 c =
     let e = c .before in
     let s = e .before .before .before .before .before in
     let a = s .args in
-    closed-told (a .ids .now) (a .kinds .now) (a .starts .now) (a .ends .now) (a .bends .now) (a .counts .now) (a .px .now) (a .py .now) (a .row) (within s) (e .if3 .taken)
+    closed-told (a .ids .now) (a .kinds .now) (a .starts .now) (a .ends .now) (a .bends .now) (a .counts .now) (a .px .now) (a .py .now) (a .row) (within s)
+    (e .if3 .taken)
 
 returns-4 : tie.Need-returns-4
 returns-4 c =
     let e = c .before in
     let s = e .before .before .before .before .before in
     let a = s .args in
-    face-told (a .ids .now) (a .kinds .now) (a .starts .now) (a .ends .now) (a .bends .now) (a .counts .now) (a .px .now) (a .py .now) (a .row) (within s) (e .before .before .if1 .left) (e .before .if2 .left) (e .if3 .left)
+    face-told (a .ids .now) (a .kinds .now) (a .starts .now) (a .ends .now) (a .bends .now) (a .counts .now) (a .px .now) (a .py .now) (a .row) (within s)
+    (e .before .before .if1 .left) (e .before .if2 .left) (e .if3 .left)
 
 pub cell-at-spec : {M : Type 1} → statement M
 cell-at-spec =

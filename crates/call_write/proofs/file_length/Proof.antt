@@ -24,11 +24,14 @@ module _ (c : tie.After-number-width2) where
   start = c .before .before .before .before .before .before .before
 
   abbrev sum : ℕ
-  sum = c .before .number-width .result + (c .number-width2 .result + (c .before .before .before .before .before .before .heads .result + ((c .before .before .before .before .widths .result + c .before .before .widths2 .result) + 16 * start .args .t .bends)))
+  sum = c .before .number-width .result + (c .number-width2 .result
+      + (c .before .before .before .before .before .before .heads .result
+      + ((c .before .before .before .before .widths .result + c .before .before .widths2 .result) + 16 * start .args .t .bends)))
 
   sum-is : sum ≡ length (fileOf (sheetOf (heldBy (arrays start))))
   sum-is =
-      length-is (arrays start) (start .args .t) (start .pre) _ _ _ _ _ (c .before .before .before .before .before .before .heads .ensures) (c .before .before .before .before .widths .ensures) (c .before .before .widths2 .ensures)
+      length-is (arrays start) (start .args .t) (start .pre) _ _ _ _ _ (c .before .before .before .before .before .before .heads .ensures)
+      (c .before .before .before .before .widths .ensures) (c .before .before .widths2 .ensures)
       (c .before .number-width .ensures) (c .number-width2 .ensures)
 
   small : sum ≤ 65536

@@ -27,7 +27,9 @@ none = record { id = 0; figure = closedEdge [] }
 abbrev Inv-loop : tie.InvT-loop
 Inv-loop ids kinds starts ends bends counts px py cycles steps bx by n buffer₀ start at₀ place₀ i₀ buffer at place i =
     (i ≤ n) × (place ≡ placeOf (cellsIn ids kinds starts ends bends counts px py) cycles i)
-    × BytesPut buffer₀ start (spread cellBytes (take i (cellsOf (take n (cellsIn ids kinds starts ends bends counts px py)) (cyclesFrom cycles steps) (positionsFrom bx by)))) buffer at
+    × BytesPut buffer₀ start
+    (spread cellBytes (take i (cellsOf (take n (cellsIn ids kinds starts ends bends counts px py)) (cyclesFrom cycles steps) (positionsFrom bx by)))) buffer
+    at
 
 abbrev μ-loop : tie.MeasureT-loop
 μ-loop ids kinds starts ends bends counts px py cycles steps bx by n buffer₀ start at₀ place₀ i₀ buffer at place i = n - i
@@ -55,7 +57,8 @@ module _ (w : tie.In-loop Inv-loop μ-loop) where
 
   -- the next cell's bytes, where its parts begin at the loop's place
   abbrev nextBytes : List ℕ
-  nextBytes = let s = w .before .before .before in cellBytes (cellIn cell (w .before .loop .place) (s .args .cycles .now) (s .args .steps .now) (positionsFrom (s .args .bx .now) (s .args .by .now)))
+  nextBytes = let s = w .before .before .before in
+      cellBytes (cellIn cell (w .before .loop .place) (s .args .cycles .now) (s .args .steps .now) (positionsFrom (s .args .bx .now) (s .args .by .now)))
 
   next-is : cellBytes (getD (figures (w .before .before .before)) (w .before .loop .i) none) ≡ nextBytes
   next-is =
@@ -65,7 +68,8 @@ module _ (w : tie.In-loop Inv-loop μ-loop) where
       let ys = s .args .by .now in
       let ns = s .args .cycles .now in
       let st = s .args .steps .now in
-      ap cellBytes (cell-is (cells s) (s .args .n) xs ys ns st (s .pre .0) (l .i) (w .loop-test .taken) none pastCell ∙ ap (λ (p : Place). cellIn cell p ns st (positionsFrom xs ys)) (sym (l .inv .1)))
+      ap cellBytes (cell-is (cells s) (s .args .n) xs ys ns st (s .pre .0) (l .i) (w .loop-test .taken) none pastCell
+      ∙ ap (λ (p : Place). cellIn cell p ns st (positionsFrom xs ys)) (sym (l .inv .1)))
 
   inside : w .before .loop .i < length (figures (w .before .before .before))
   inside =
@@ -80,7 +84,8 @@ module _ (w : tie.In-loop Inv-loop μ-loop) where
       let s = w .before .before .before in
       put-room cellBytes (figures s) (s .args .buffer .now) (l .buffer) (s .args .start) (l .at) (l .i) inside (l .inv .2) none nextBytes next-is (s .pre .1)
 
-  is-ready : CellReady cell (w .before .loop .place) (w .before .before .before .args .bx .now) (w .before .before .before .args .by .now) (w .before .before .before .args .cycles .now) (w .before .before .before .args .steps .now)
+  is-ready : CellReady cell (w .before .loop .place) (w .before .before .before .args .bx .now) (w .before .before .before .args .by .now)
+      (w .before .before .before .args .cycles .now) (w .before .before .before .args .steps .now)
   is-ready =
       let l = w .before .loop in
       let s = w .before .before .before in
@@ -88,7 +93,8 @@ module _ (w : tie.In-loop Inv-loop μ-loop) where
       let ys = s .args .by .now in
       let ns = s .args .cycles .now in
       let st = s .args .steps .now in
-      subst (λ (p : Place). CellReady cell p xs ys ns st) (sym (l .inv .1)) (ready (cells s) (s .args .n) xs ys ns st (s .pre .0) (l .i) (w .loop-test .taken) none pastCell)
+      subst (λ (p : Place). CellReady cell p xs ys ns st) (sym (l .inv .1))
+      (ready (cells s) (s .args .n) xs ys ns st (s .pre .0) (l .i) (w .loop-test .taken) none pastCell)
 
 sub-put-cell : tie.Need-sub-put-cell Inv-loop μ-loop
 sub-put-cell c = let r = room (c .before) in omega arith
@@ -108,16 +114,23 @@ put-cell-requires c κs =
     let r = room w in
     let d = length-drop (l .at) (l .buffer) in
     let t = length-take-le (length (l .buffer) - l .at) (drop (l .at) (l .buffer)) (omega arith) in
-    subst (λ (x : Cell). CellReady x (l .place) xs ys ns st × (length (cellBytes (cellIn x (l .place) ns st (positionsFrom xs ys))) ≤ length (take (length (l .buffer) - l .at) (drop (l .at) (l .buffer))))) (sym (c .before .cell-at .ensures))
+    subst (λ (x : Cell). CellReady x (l .place) xs ys ns st
+    × (length (cellBytes (cellIn x (l .place) ns st (positionsFrom xs ys))) ≤ length (take (length (l .buffer) - l .at) (drop (l .at) (l .buffer)))))
+    (sym (c .before .cell-at .ensures))
     (is-ready w, omega arith)
 
 -- what is put is the next cell's bytes
-put-next : (c : tie.After-put-cell Inv-loop μ-loop) → BytesPut (take (length (c .before .before .before .before .loop .buffer) - c .before .before .before .before .loop .at) (drop (c .before .before .before .before .loop .at) (c .before .before .before .before .loop .buffer))) 0 (nextBytes (c .before .before .before)) (c .put-cell .last .1 .1 .1 .1 .1 .1 .0) (c .put-cell .result)
+put-next : (c : tie.After-put-cell Inv-loop μ-loop) → BytesPut
+    (take (length (c .before .before .before .before .loop .buffer) - c .before .before .before .before .loop .at)
+    (drop (c .before .before .before .before .loop .at) (c .before .before .before .before .loop .buffer))) 0 (nextBytes (c .before .before .before))
+    (c .put-cell .last .1 .1 .1 .1 .1 .1 .0) (c .put-cell .result)
 put-next c =
     let w = c .before .before .before in
     let l = w .before .loop in
     let s = w .before .before .before in
-    put-as (ap (λ (x : Cell). cellBytes (cellIn x (l .place) (s .args .cycles .now) (s .args .steps .now) (positionsFrom (s .args .bx .now) (s .args .by .now)))) (c .before .before .cell-at .ensures)) (c .put-cell .ensures)
+    put-as (ap (λ (x : Cell). cellBytes
+    (cellIn x (l .place) (s .args .cycles .now) (s .args .steps .now) (positionsFrom (s .args .bx .now) (s .args .by .now))))
+    (c .before .before .cell-at .ensures)) (c .put-cell .ensures)
 
 add-at : tie.Need-add-at Inv-loop μ-loop
 add-at c =
@@ -149,7 +162,8 @@ loop-again c =
     let st = s .args .steps .now in
     let e = c .before .before .before .before .before .cell-at .ensures in (
       omega arith,
-      c .place-after .ensures ∙ ap (λ (x : Cell). placeAfter (x .shape) ns (l .place)) e ∙ ap (placeAfter (cell w .shape) ns) (l .inv .1) ∙ place-next (cells s) (s .args .n) xs ys ns st (s .pre .0) (l .i) (w .loop-test .taken) none pastCell,
+      c .place-after .ensures ∙ ap (λ (x : Cell). placeAfter (x .shape) ns (l .place)) e ∙ ap (placeAfter (cell w .shape) ns) (l .inv .1)
+          ∙ place-next (cells s) (s .args .n) xs ys ns st (s .pre .0) (l .i) (w .loop-test .taken) none pastCell,
       put-turn cellBytes (figures s) (s .args .buffer .now) (l .buffer) (s .args .start) (l .at) (l .i) (inside w) (l .inv .2) none (nextBytes w) (next-is w)
           (put-part (l .buffer) (nextBytes w) (f .last .1 .1 .1 .1 .1 .1 .0) (l .at) (f .result) (room w) (put-next (c .before .before .before))),
     )

@@ -29,10 +29,12 @@ module _ (s : tie.Start) where
   first = spell (s .args .next) ++ spell (s .args .count)
 
   abbrev second : List ℕ
-  second = let a = arrays s in spread cellBytes (cellsOf (take (a .count) (heldBy a .cells)) (cyclesFrom (a .cycles) (a .steps)) (positionsFrom (a .bx) (a .by)))
+  second = let a = arrays s in spread cellBytes
+      (cellsOf (take (a .count) (heldBy a .cells)) (cyclesFrom (a .cycles) (a .steps)) (positionsFrom (a .bx) (a .by)))
 
 -- there is room for the file
-room : (c : tie.Else1) → 0 + length (first (c .before .before .before) ++ second (c .before .before .before)) ≤ length (c .before .before .before .args .buffer .now)
+room : (c : tie.Else1) → 0 + length (first (c .before .before .before) ++ second (c .before .before .before))
+    ≤ length (c .before .before .before .args .buffer .now)
 room c =
     let s = c .before .before .before in
     let e = ap length (file-parts (arrays s) (s .args .t) (s .pre)) in
@@ -46,7 +48,8 @@ file-length-requires c κs = search needs
 returns : tie.Need-returns
 returns c =
     let s = c .before .before .before in
-    filled-short (fileOf (sheetOf (heldBy (arrays s)))) (s .args .buffer .now) (c .before .file-length .result) (c .before .file-length .ensures) (c .if1 .taken)
+    filled-short (fileOf (sheetOf (heldBy (arrays s)))) (s .args .buffer .now) (c .before .file-length .result) (c .before .file-length .ensures)
+    (c .if1 .taken)
     ∙ call-is (arrays s) (s .args .t) (s .pre) (s .args .buffer .now)
 
 cast-put-two : tie.Need-cast-put-two

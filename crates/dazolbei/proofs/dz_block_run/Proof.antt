@@ -80,7 +80,8 @@ returns-3 c =
     let r = c .before .before in
     let e = before-run r in
     let a = given (e .before) .args in
-    run-done (arrays (given (e .before))) (now (a .script)) (now (a .lines)) (sound-at (e .before)) (passed e) _ _ (r .run-lines .result) (r .run-lines .ensures)
+    run-done (arrays (given (e .before))) (now (a .script)) (now (a .lines)) (sound-at (e .before)) (passed e) _ _ (r .run-lines .result)
+    (r .run-lines .ensures)
 
 pub dz-block-run-spec : {M : Type 1} → statement M
 dz-block-run-spec =

@@ -25,7 +25,8 @@ module _ (c : tie.Start) where
   bytes = cycle-bytes (c .args .c) (drop (c .args .from) (c .args .steps .now)) long
 
   -- there is room for the count and the numbers
-  room : c .args .at + length (spell (c .args .c) ++ spread spell (runOf (c .args .from) (width (c .args .c)) (c .args .steps .now))) ≤ length (c .args .out .now)
+  room : c .args .at + length (spell (c .args .c) ++ spread spell (runOf (c .args .from) (width (c .args .c)) (c .args .steps .now)))
+      ≤ length (c .args .out .now)
   room = subst (λ (l : List ℕ). c .args .at + length l ≤ length (c .args .out .now)) bytes (c .pre .1 .1 .1)
 
   numbers : SpelledNumbers (c .args .steps .now) (c .args .from) (width (c .args .c))

@@ -27,8 +27,11 @@ enum-told c = search needs
 returns : tie.Need-returns
 returns c =
     let r = c .before .before in
-    let a = r .before .before .before .before .args in
-    (refl, no-length (drop (a .at) (now (a .s))) (a .used) (malformed-at (now (a .s)) (a .at) (sym (r .read-number .ensures) ∙ ap numberSays (c .enum-told .given .1))))
+    let a = r .before .before .before .before .args in (
+      refl,
+      no-length (drop (a .at) (now (a .s))) (a .used) (malformed-at (now (a .s)) (a .at)
+          (sym (r .read-number .ensures) ∙ ap numberSays (c .enum-told .given .1))),
+    )
 
 -- the number of steps, the place after it and the places that the cycle takes
 length-found :
@@ -91,7 +94,8 @@ returns-3 c =
     let l = length-found p in (
       refl,
       no-numbers (now (a .s)) (a .at) (g .1 .0) (g .0) (p .places .result) (l .2) (l .0) (a .used)
-          (subst (NumbersPut (now (a .s)) (g .1 .0) (p .places .result) (now (a .steps)) (a .used .steps) _) (c .enum-told2 .given .1) (n .put-numbers .ensures) .1),
+          (subst (NumbersPut (now (a .s)) (g .1 .0) (p .places .result) (now (a .steps)) (a .used .steps) _) (c .enum-told2 .given .1)
+          (n .put-numbers .ensures) .1),
     )
 
 add-t13 : tie.Need-add-t13

@@ -58,7 +58,8 @@ returns-2 c =
     let L = at .loop .inv .1 in (
       refl,
       loading-over _ _ _ _ _ _ _ _ _ _ _ L (l .before .before .before .loop-test .taken)
-          (subst (CyclesLoaded (times readCycle 1 (drop (at .loop .p) (now (a .s)))) (now (a .s)) (at .loop .cycles) (at .loop .steps) (at .loop .u) _ _) (c .enum-told .given .1) (l .load-cycle .ensures) .1),
+          (subst (CyclesLoaded (times readCycle 1 (drop (at .loop .p) (now (a .s)))) (now (a .s)) (at .loop .cycles) (at .loop .steps) (at .loop .u) _ _)
+          (c .enum-told .given .1) (l .load-cycle .ensures) .1),
     )
 
 loop-again : tie.Need-loop-again Inv-loop μ-loop
@@ -69,7 +70,8 @@ loop-again c =
     let L = at .loop .inv .1 in (
       omega arith,
       loading-turn _ _ _ _ _ _ _ _ _ _ _ L _ _ _ _ (l .before .before .before .loop-test .taken)
-          (subst (CyclesLoaded (times readCycle 1 (drop (at .loop .p) (now (a .s)))) (now (a .s)) (at .loop .cycles) (at .loop .steps) (at .loop .u) _ _) (c .before .next .given .1) (l .load-cycle .ensures)),
+          (subst (CyclesLoaded (times readCycle 1 (drop (at .loop .p) (now (a .s)))) (now (a .s)) (at .loop .cycles) (at .loop .steps) (at .loop .u) _ _)
+          (c .before .next .given .1) (l .load-cycle .ensures)),
     )
 
 same-length-3 : tie.Need-same-length-3 Inv-loop μ-loop

@@ -69,7 +69,8 @@ loop-again c =
     let P = at .loop .inv .1 in
     let v = value-at (now (a .s)) (at .loop .p) _ _ (sym (r .read-number .ensures) ∙ ap numberSays (c .before .v .given .1)) in (
       omega arith,
-      putting-turn (now (a .s)) (a .at) (a .m) (now (a .out)) (a .used) (at .loop .i) (at .loop .p) (at .loop .out) P _ _ (r .before .loop-test .taken) (omega (arith, st .pre .1)) (v .0) (v .2),
+      putting-turn (now (a .s)) (a .at) (a .m) (now (a .out)) (a .used) (at .loop .i) (at .loop .p) (at .loop .out) P _ _ (r .before .loop-test .taken)
+          (omega (arith, st .pre .1)) (v .0) (v .2),
     )
 
 same-length-2 : tie.Need-same-length-2 Inv-loop μ-loop

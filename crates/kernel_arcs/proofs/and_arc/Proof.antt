@@ -11,7 +11,8 @@ returns c =
     let st = y .before .before .before .before in
     let a = st .args in
     arc-built (a .steps .now) (a .base) (a .n) (a .from) (a .len) (a .numbers .now) (a .u) (a .places .now) (st .pre) (a .h) _ _ _ (y .copy-arc .result) _
-    (y .copy-arc .ensures .0) (y .copy-arc .ensures .1) (p .put-step .ensures .1) (c .before .before .close-path .ensures .1) (c .before .before .close-path .ensures .0)
+    (y .copy-arc .ensures .0) (y .copy-arc .ensures .1) (p .put-step .ensures .1) (c .before .before .close-path .ensures .1)
+    (c .before .before .close-path .ensures .0)
 
 pub and-arc-spec : {M : Type 1} → statement M
 and-arc-spec =

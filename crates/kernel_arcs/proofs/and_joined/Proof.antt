@@ -26,7 +26,8 @@ put-step-requires-2 c κs =
 
 close-path-requires : tie.Need-close-path-requires
 close-path-requires c κs =
-    let g = c .before .before .before .before .before .before .before .before .before .before .before .before .before .before .before .before .before .before .before .before .before .pre in
+    let g = c .before .before .before .before .before .before .before .before .before .before .before .before .before .before .before .before .before .before
+    .before .before .before .pre in
     (g .1 .1 .0, (omega arith, omega (arith, g .1 .1 .1, g .1 .0 .stepsSize)))
 
 returns : tie.Need-returns
@@ -37,7 +38,8 @@ returns c =
     let y = w .before .before .before .before in
     let g = y .before .before .before .before .before .before .pre in
     joined-built (g .0) (g .1 .0) (g .1 .1 .1) (y .copy-arc .ensures .0) (y .copy-arc .ensures .1) (w .put-step .ensures .0) (w .put-step .ensures .1)
-    (v .copy-arc2 .ensures .0) (v .copy-arc2 .ensures .1) (x .put-step2 .ensures .1) (c .before .before .close-path .ensures .1) (c .before .before .close-path .ensures .0)
+    (v .copy-arc2 .ensures .0) (v .copy-arc2 .ensures .1) (x .put-step2 .ensures .1) (c .before .before .close-path .ensures .1)
+    (c .before .before .close-path .ensures .0)
 
 pub and-joined-spec : {M : Type 1} → statement M
 and-joined-spec =

@@ -33,7 +33,8 @@ and-joined-requires c κs =
     let l = enough (r .start .within) (flagged (a .c2)) (flags-size r) in
     let k = r .start in
     let b = n .ahead .ensures in
-    let m = new-room (k .within) (flagged (a .c2)) l (a .c1) (k .cycle) (first-stays r) (both r) f (n .ahead .kept .1 .1 .1 .1 .1 .0) (n .ahead .kept .1 .1 .1 .1 .1 .1 .0) b in
+    let m = new-room (k .within) (flagged (a .c2)) l (a .c1) (k .cycle) (first-stays r) (both r) f (n .ahead .kept .1 .1 .1 .1 .1 .0)
+    (n .ahead .kept .1 .1 .1 .1 .1 .1 .0) b in
     let m1 = m .1 in
     let s = both-steps r in
     (joining r, (b .building, (m .0, omega arith)))
@@ -50,7 +51,8 @@ behind-requires c κs =
     let k = r .start in
     let b = new-built (k .within) (flagged (a .c2)) l (a .c1) (k .cycle) (first-stays r) (both r) (n .ahead .ensures) (q .and-joined .ensures) in
     let m = after-room (k .within) (flagged (a .c2)) l (a .c1) (k .cycle) (first-stays r) (both r) f
-    (q .and-joined .kept .1 .1 .1 .1 .1 .1 .0 ∙ n .ahead .kept .1 .1 .1 .1 .1 .0) (q .and-joined .kept .1 .1 .1 .1 .1 .1 .1 .0 ∙ n .ahead .kept .1 .1 .1 .1 .1 .1 .0) b in
+    (q .and-joined .kept .1 .1 .1 .1 .1 .1 .0 ∙ n .ahead .kept .1 .1 .1 .1 .1 .0)
+    (q .and-joined .kept .1 .1 .1 .1 .1 .1 .1 .0 ∙ n .ahead .kept .1 .1 .1 .1 .1 .1 .0) b in
     (k .within, (k .cycle, (k .place, (l, (b .building, m)))))
 
 returns : tie.Need-returns

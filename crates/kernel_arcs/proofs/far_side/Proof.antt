@@ -54,7 +54,8 @@ copy-cycles-requires c κs =
     let g = st .pre in
     let b = far-built (a .steps .now) (g .0 .stepsSize) (a .p) (g .1 .0) (a .s1) (a .s2) (g .1 .1 .0) (g .1 .1 .1 .0) (a .e) (n .start .ensures)
     (y .between .result) (y .between .ensures) (q .and-arc .ensures) in
-    far-asks (g .0) (a .flags .now) (g .1 .1 .1 .1 .0) _ (g .1 .1 .1 .1 .1 .1) (q .and-arc .kept .1 .1 .1 .1 .1 .1 .0) (q .and-arc .kept .1 .1 .1 .1 .1 .1 .1 .0) b
+    far-asks (g .0) (a .flags .now) (g .1 .1 .1 .1 .0) _ (g .1 .1 .1 .1 .1 .1) (q .and-arc .kept .1 .1 .1 .1 .1 .1 .0)
+    (q .and-arc .kept .1 .1 .1 .1 .1 .1 .1 .0) b
 
 returns : tie.Need-returns
 returns c =

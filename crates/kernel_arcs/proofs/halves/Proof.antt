@@ -41,8 +41,16 @@ far-side-requires c κs =
     let r = st .pre .0 in
     let f = m .mark-moved .ensures in
     let g = o .others .ensures in
-    let k = cornered-room (a .cycles .now) (a .steps .now) (a .t) (a .c) (a .p) (a .s1) (r .start) in
-    (r .start .within, (k, (r .start .corner, (r .end .corner, (omega (arith, turned-size f g, r .start .within .inCycles), (r .few, far-room r f g (st .pre .1 .1)))))))
+    let k = cornered-room (a .cycles .now) (a .steps .now) (a .t) (a .c) (a .p) (a .s1) (r .start) in (
+      r .start .within,
+      (
+        k,
+        (
+          r .start .corner,
+          (r .end .corner, (omega (arith, turned-size f g, r .start .within .inCycles), (r .few, far-room r f g (st .pre .1 .1)))),
+        ),
+      ),
+    )
 
 same-length : tie.Need-same-length
 same-length c = search needs

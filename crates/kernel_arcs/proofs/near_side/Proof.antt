@@ -33,7 +33,8 @@ and-arc-requires c κs =
     let a = st .args in
     let g = st .pre in
     let k = g .0 in
-    near-asks k (g .1 .0) (a .e) (a .flags .now) (g .1 .1 .0) (g .1 .1 .1 .0) (g .1 .1 .1 .1 .1) (y .between .ensures) (n .ahead .ensures) (n .ahead .kept .1 .1 .1 .1 .1 .0) (n .ahead .kept .1 .1 .1 .1 .1 .1 .0)
+    near-asks k (g .1 .0) (a .e) (a .flags .now) (g .1 .1 .0) (g .1 .1 .1 .0) (g .1 .1 .1 .1 .1) (y .between .ensures) (n .ahead .ensures)
+    (n .ahead .kept .1 .1 .1 .1 .1 .0) (n .ahead .kept .1 .1 .1 .1 .1 .1 .0)
 
 behind-requires : tie.Need-behind-requires
 behind-requires c κs =
@@ -47,7 +48,8 @@ behind-requires c κs =
     let b = near-put k (g .1 .0) (a .e) (a .flags .now) (g .1 .1 .0) (g .1 .1 .1 .0) (g .1 .1 .1 .1 .1) (y .between .ensures)
     (n .ahead .ensures) (q .and-arc .ensures) in
     let r = after-room (k .within) (a .flags .now) (g .1 .1 .0) (a .c) (k .cycle) (g .1 .1 .1 .0) _ (g .1 .1 .1 .1 .1)
-    (q .and-arc .kept .1 .1 .1 .1 .1 .1 .0 ∙ n .ahead .kept .1 .1 .1 .1 .1 .0) (q .and-arc .kept .1 .1 .1 .1 .1 .1 .1 .0 ∙ n .ahead .kept .1 .1 .1 .1 .1 .1 .0) b in
+    (q .and-arc .kept .1 .1 .1 .1 .1 .1 .0 ∙ n .ahead .kept .1 .1 .1 .1 .1 .0) (q .and-arc .kept .1 .1 .1 .1 .1 .1 .1 .0 ∙ n .ahead .kept .1 .1 .1 .1 .1 .1 .0)
+    b in
     (k .within, (k .cycle, (k .place, (g .1 .1 .0, (b .building, r)))))
 
 returns : tie.Need-returns

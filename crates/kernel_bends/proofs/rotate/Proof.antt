@@ -34,7 +34,8 @@ returns-3 c =
     let r2 = r3 .before .before .before .before in
     let r1 = r2 .before .before .before .before in
     let s = r1 .before .before .before .before .before in
-    three (s .args .l .now) (r1 .reverse .last .0) (r2 .reverse2 .last .0) (r3 .reverse3 .last .0) (s .args .from) (s .args .mid) (s .args .to) (s .pre .0) (s .pre .1 .0) (s .pre .1 .1)
+    three (s .args .l .now) (r1 .reverse .last .0) (r2 .reverse2 .last .0) (r3 .reverse3 .last .0) (s .args .from) (s .args .mid) (s .args .to) (s .pre .0)
+    (s .pre .1 .0) (s .pre .1 .1)
     (r1 .reverse .ensures) (r2 .reverse2 .ensures) (r3 .reverse3 .ensures)
 
 pub rotate-spec : {M : Type 1} → statement M

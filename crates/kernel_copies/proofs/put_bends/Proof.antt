@@ -16,7 +16,8 @@ use Rattle.kernel_copies.proofs.put_bends.Tie as tie
 
 abbrev Inv-loop : tie.InvT-loop
 Inv-loop bx₀ by₀ base first k n t i₀ j₀ bx by i j =
-    (j ≤ t) × (i ≡ j % k) × (length bx ≡ 2048) × (length by ≡ 2048) × (positionsIn bx by ≡ paste (positionsIn bx₀ by₀) base (repeated n (runAt first k (positionsIn bx₀ by₀))) j)
+    (j ≤ t) × (i ≡ j % k) × (length bx ≡ 2048) × (length by ≡ 2048)
+    × (positionsIn bx by ≡ paste (positionsIn bx₀ by₀) base (repeated n (runAt first k (positionsIn bx₀ by₀))) j)
 
 abbrev μ-loop : tie.MeasureT-loop
 μ-loop bx₀ by₀ base first k n t i₀ j₀ bx by i j = t - j
@@ -26,8 +27,14 @@ mul-t c = record { fits = omega (arith, c .pre .1 .0) }
 
 loop-holds : tie.Need-loop-holds Inv-loop μ-loop
 loop-holds c =
-    let a = c .args in
-    (omega arith, sym (zero-mod (a .k)), c .pre .1 .1 .0, c .pre .1 .1 .1, paste-zero (positionsIn (a .bx .now) (a .by .now)) (a .base) (repeated (a .n) (runAt (a .first) (a .k) (positionsIn (a .bx .now) (a .by .now)))))
+    let a = c .args in (
+      omega arith,
+      sym (zero-mod (a .k)),
+      c .pre .1 .1 .0,
+      c .pre .1 .1 .1,
+      paste-zero (positionsIn (a .bx .now) (a .by .now)) (a .base) (repeated (a .n)
+          (runAt (a .first) (a .k) (positionsIn (a .bx .now) (a .by .now)))),
+    )
 
 -- the place is within the run
 place : (c : tie.In-loop Inv-loop μ-loop) → c .before .loop .i < c .before .before .args .k
@@ -72,7 +79,8 @@ loop-again c =
       round-next (lp .j) (lp .i) (a .k) (c .around .result) (v .1) (c .around .ensures),
       ap length (w .ensures .0) ∙ length-set (lp .bx) (a .base + lp .j) (b .result .x) ∙ v .2,
       ap length (w .ensures .1) ∙ length-set (lp .by) (a .base + lp .j) (b .result .y) ∙ v .3,
-      bend-put (a .bx .now) (a .by .now) (lp .bx) (lp .by) _ _ (a .base) (a .n) (a .first) (a .k) (lp .i) (lp .j) (b .result) (s .pre .1 .1 .0) (s .pre .1 .1 .1) (v .2) (v .3) (v .4) (v .1) (s .pre .0) (s .pre .1 .0)
+      bend-put (a .bx .now) (a .by .now) (lp .bx) (lp .by) _ _ (a .base) (a .n) (a .first) (a .k) (lp .i) (lp .j) (b .result) (s .pre .1 .1 .0)
+          (s .pre .1 .1 .1) (v .2) (v .3) (v .4) (v .1) (s .pre .0) (s .pre .1 .0)
           (t .loop-test .taken) (omega (arith, q, s .pre .0, s .pre .1 .0)) (b .ensures) (w .ensures .0) (w .ensures .1),
     )
 

@@ -32,7 +32,8 @@ put-bends-requires c κs =
     let s = w .before .before in
     let l = s .pre .1 .0 in
     let r =
-    bends-room (arrays s) l (s .pre .1 .1 .0) (s .args .row) (s .args .n) (s .pre .0) (s .args .base) (f .bend-start .result) (w .wide .result) (s .pre .1 .1 .1) (f .bend-start .ensures)
+    bends-room (arrays s) l (s .pre .1 .1 .0) (s .args .row) (s .args .n) (s .pre .0) (s .args .base) (f .bend-start .result) (w .wide .result)
+    (s .pre .1 .1 .1) (f .bend-start .ensures)
     (w .wide .ensures) in
     (r .0, (r .1, (l .bx, l .by)))
 
@@ -49,7 +50,8 @@ returns c =
     let f = p .before .before .before in
     let w = f .before .before .before in
     let s = w .before .before in
-    copies-come (arrays s) (s .pre .1 .0) (s .pre .1 .1 .0) (s .args .row) (s .args .n) (s .pre .0) (s .args .base) (f .bend-start .result) (w .wide .result) (s .pre .1 .1 .1) (f .bend-start .ensures)
+    copies-come (arrays s) (s .pre .1 .0) (s .pre .1 .1 .0) (s .args .row) (s .args .n) (s .pre .0) (s .args .base) (f .bend-start .result) (w .wide .result)
+    (s .pre .1 .1 .1) (f .bend-start .ensures)
     (w .wide .ensures) _ _ (p .put-bends .ensures .0) _ (c .put-rows .ensures)
 
 pub put-copies-spec : {M : Type 1} → statement M

@@ -15,16 +15,34 @@ use Rattle.kernel_copies.proofs.put_rows.Tie as tie
 -- the arrays of lists
 abbrev held : ℕ → ℕ → List ℕ → List ℕ → List ℕ → List ℕ → List ℕ → List ℕ → List Float → List Float → List ℕ → List ℕ → List Float → List Float → Arrays
 held next n is ks ss es bs cs us vs cy st ps qs =
-    record { next = next; count = n; ids = is; kinds = ks; starts = ss; ends = es; bends = bs; counts = cs; px = us; py = vs; cycles = cy; steps = st; bx = ps; by = qs }
+    record {
+      next = next;
+      count = n;
+      ids = is;
+      kinds = ks;
+      starts = ss;
+      ends = es;
+      bends = bs;
+      counts = cs;
+      px = us;
+      py = vs;
+      cycles = cy;
+      steps = st;
+      bx = ps;
+      by = qs;
+    }
 
 abbrev Inv-loop : tie.InvT-loop
-Inv-loop next count ids₀ kinds₀ starts₀ ends₀ bends₀ counts₀ px₀ py₀ cycles steps bx by row n kind start end bend cycle p id₀ i₀ ids kinds starts ends bends counts px py id i =
+Inv-loop next count ids₀ kinds₀ starts₀ ends₀ bends₀ counts₀ px₀ py₀ cycles steps bx by row n kind start end bend cycle p id₀ i₀ ids kinds starts ends bends
+    counts px py id i =
     (i ≤ n) × (id ≡ next + i)
-    × RowsCome (held next count ids₀ kinds₀ starts₀ ends₀ bends₀ counts₀ px₀ py₀ cycles steps bx by) (shapeAt (held next count ids₀ kinds₀ starts₀ ends₀ bends₀ counts₀ px₀ py₀ cycles steps bx by) row) n i
+    × RowsCome (held next count ids₀ kinds₀ starts₀ ends₀ bends₀ counts₀ px₀ py₀ cycles steps bx by)
+    (shapeAt (held next count ids₀ kinds₀ starts₀ ends₀ bends₀ counts₀ px₀ py₀ cycles steps bx by) row) n i
     (held (next + i) (count + i) ids kinds starts ends bends counts px py cycles steps bx by)
 
 abbrev μ-loop : tie.MeasureT-loop
-μ-loop next count ids₀ kinds₀ starts₀ ends₀ bends₀ counts₀ px₀ py₀ cycles steps bx by row n kind start end bend cycle p id₀ i₀ ids kinds starts ends bends counts px py id i = n - i
+μ-loop next count ids₀ kinds₀ starts₀ ends₀ bends₀ counts₀ px₀ py₀ cycles steps bx by row n kind start end bend cycle p id₀ i₀ ids kinds starts ends bends
+    counts px py id i = n - i
 
 abbrev arrays : (c : tie.Start Inv-loop μ-loop) → Arrays
 arrays c =
@@ -72,8 +90,12 @@ loop-holds c =
     let s = c .before .before .before .before .before .before .before .before in
     let a = arrays s in
     let e : a .next + 0 ≡ a .next = omega arith in
-    let f : a .count + 0 ≡ a .count = omega arith in
-    (omega arith, omega arith, rows-none a (shapeAt a (s .args .row)) (s .args .n) (s .pre .0) (s .pre .1 .0) _ (λ j. held (e j) (f j) (a .ids) (a .kinds) (a .starts) (a .ends) (a .bends) (a .counts) (a .px) (a .py) (a .cycles) (a .steps) (a .bx) (a .by)))
+    let f : a .count + 0 ≡ a .count = omega arith in (
+      omega arith,
+      omega arith,
+      rows-none a (shapeAt a (s .args .row)) (s .args .n) (s .pre .0) (s .pre .1 .0) _ (λ j. held (e j) (f j) (a .ids) (a .kinds)
+          (a .starts) (a .ends) (a .bends) (a .counts) (a .px) (a .py) (a .cycles) (a .steps) (a .bx) (a .by)),
+    )
 
 add-put-row : tie.Need-add-put-row Inv-loop μ-loop
 add-put-row c =
@@ -98,7 +120,12 @@ put-position-requires c κs =
 add-id : tie.Need-add-id Inv-loop μ-loop
 add-id c =
     let t = c .before .before .before .before .before .before .before .before .before .before in
-    omega (arith, t .loop-test .taken, t .before .loop .inv .1, t .before .before .before .before .before .before .before .before .before .before .pre .1 .1 .1 .1)
+    omega (
+      arith,
+      t .loop-test .taken,
+      t .before .loop .inv .1,
+      t .before .before .before .before .before .before .before .before .before .before .pre .1 .1 .1 .1,
+    )
 
 add-i : tie.Need-add-i Inv-loop μ-loop
 add-i c =
@@ -119,7 +146,8 @@ loop-again c =
     let a = arrays s in
     let row = s .args .row in
     let n = s .args .n in
-    let b = held (a .next + lp .i) (a .count + lp .i) (lp .ids) (lp .kinds) (lp .starts) (lp .ends) (lp .bends) (lp .counts) (lp .px) (lp .py) (a .cycles) (a .steps) (a .bx) (a .by) in
+    let b = held (a .next + lp .i) (a .count + lp .i) (lp .ids) (lp .kinds) (lp .starts) (lp .ends) (lp .bends) (lp .counts) (lp .px) (lp .py) (a .cycles)
+    (a .steps) (a .bx) (a .by) in
     let en : a .next + (lp .i + 1) ≡ a .next + lp .i + 1 = omega arith in
     let ec : a .count + (lp .i + 1) ≡ a .count + lp .i + 1 = omega arith in
     let ei = w .0 ∙ ap (set (lp .ids) (a .count + lp .i)) (lp .inv .1) in (
@@ -127,8 +155,10 @@ loop-again c =
       omega (arith, lp .inv .1),
       rows-more a (shapeAt a row) n (lp .i) b (lp .inv .2) (s .pre .0) (t .loop-test .taken) (s .pre .1 .1 .1 .0) refl refl
           (getD (a .kinds) row 0) (getD (a .starts) row 0) (getD (a .ends) row 0) (getD (a .bends) row 0) (getD (a .counts) row 0) (v .result)
-          (ap (shapeBy (getD (a .kinds) row 0) (getD (a .starts) row 0) (getD (a .ends) row 0) (getD (a .bends) row 0) (getD (a .counts) row 0)) (v .ensures)) (row-ok a (s .pre .1 .0) row (s .pre .1 .1 .0)) _
-          (λ j. held (en j) (ec j) (ei j) (w .1 .0 j) (w .1 .1 .0 j) (w .1 .1 .1 .0 j) (w .1 .1 .1 .1 .0 j) (w .1 .1 .1 .1 .1 j) (g .0 j) (g .1 j) (a .cycles) (a .steps) (a .bx) (a .by)),
+          (ap (shapeBy (getD (a .kinds) row 0) (getD (a .starts) row 0) (getD (a .ends) row 0) (getD (a .bends) row 0) (getD (a .counts) row 0)) (v .ensures))
+          (row-ok a (s .pre .1 .0) row (s .pre .1 .1 .0)) _
+          (λ j. held (en j) (ec j) (ei j) (w .1 .0 j) (w .1 .1 .0 j) (w .1 .1 .1 .0 j) (w .1 .1 .1 .1 .0 j) (w .1 .1 .1 .1 .1 j) (g .0 j) (g .1 j) (a .cycles)
+          (a .steps) (a .bx) (a .by)),
     )
 
 returns : tie.Need-returns Inv-loop μ-loop

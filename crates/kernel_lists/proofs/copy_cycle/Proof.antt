@@ -26,7 +26,8 @@ copy-run-requires c κs =
     let st = c .before .before .before .before .before .before in
     let a = st .args in
     let w = c .before .places .ensures ∙ places-one (a .c) in
-    let r = kept-room (a .counts .now) (a .u) (a .steps .now) (st .pre .0) (a .c) (a .src .now) (a .skip) (c .before .before .if1 .left) (st .pre .1 .1 .0) (st .pre .1 .1 .1) in
+    let r = kept-room (a .counts .now) (a .u) (a .steps .now) (st .pre .0) (a .c) (a .src .now) (a .skip) (c .before .before .if1 .left) (st .pre .1 .1 .0)
+    (st .pre .1 .1 .1) in
     (omega (arith, w, st .pre .1 .0), omega (arith, w, r .1, st .pre .0 .stepsSize))
 
 returns-2 : tie.Need-returns-2
@@ -34,9 +35,12 @@ returns-2 c =
     let st = c .before .before .before .before .before .before .before .before .before in
     let a = st .args in
     let w = c .before .before .before .before .places .ensures ∙ places-one (a .c) in
-    let r = kept-room (a .counts .now) (a .u) (a .steps .now) (st .pre .0) (a .c) (a .src .now) (a .skip) (c .before .before .before .before .before .if1 .left) (st .pre .1 .1 .0) (st .pre .1 .1 .1) in
-    copied (a .counts .now) (a .u) (a .steps .now) (st .pre .0) (a .c) (drop (a .from) (a .src .now)) (a .skip) (c .before .before .before .before .before .if1 .left) (r .0) (r .1)
-    (omega (arith, length-drop (a .from) (a .src .now), st .pre .1 .0)) _ _ _ w (c .before .before .copy-run .ensures .0) (c .before .before .copy-run .ensures .1)
+    let r = kept-room (a .counts .now) (a .u) (a .steps .now) (st .pre .0) (a .c) (a .src .now) (a .skip) (c .before .before .before .before .before .if1 .left)
+    (st .pre .1 .1 .0) (st .pre .1 .1 .1) in
+    copied (a .counts .now) (a .u) (a .steps .now) (st .pre .0) (a .c) (drop (a .from) (a .src .now)) (a .skip)
+    (c .before .before .before .before .before .if1 .left) (r .0) (r .1)
+    (omega (arith, length-drop (a .from) (a .src .now), st .pre .1 .0)) _ _ _ w (c .before .before .copy-run .ensures .0)
+    (c .before .before .copy-run .ensures .1)
 
 pub copy-cycle-spec : {M : Type 1} → statement M
 copy-cycle-spec =

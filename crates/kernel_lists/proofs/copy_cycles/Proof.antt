@@ -39,8 +39,18 @@ copy-cycle-requires c κs =
     let p = at .loop .inv .1 in (
       p .list .building,
       (
-        copying-place (drop (a .from) (a .cycles .now)) (a .src .now) (a .step) (a .skip .now) (a .counts .now) (a .u) (a .steps .now) (at .loop .i) (a .k) (at .loop .at) (at .loop .counts) (at .loop .out) (at .loop .steps) false p h (st .pre .1 .1 .1 .0) (enough st) (getD (a .cycles .now) (a .from + at .loop .i) 0) (stands st (at .loop .i)) (st .pre .1 .1 .0),
-        (copying-cycles (drop (a .from) (a .cycles .now)) (a .src .now) (a .step) (a .skip .now) (a .counts .now) (a .u) (a .steps .now) (at .loop .i) (a .k) (at .loop .at) (at .loop .counts) (at .loop .out) (at .loop .steps) false p h (st .pre .1 .1 .1 .0) (enough st) (getD (a .cycles .now) (a .from + at .loop .i) 0) (stands st (at .loop .i)) (st .pre .1 .1 .1 .1 .0), copying-steps (drop (a .from) (a .cycles .now)) (a .src .now) (a .step) (a .skip .now) (a .counts .now) (a .u) (a .steps .now) (at .loop .i) (a .k) (at .loop .at) (at .loop .counts) (at .loop .out) (at .loop .steps) false p h (st .pre .1 .1 .1 .0) (enough st) (getD (a .cycles .now) (a .from + at .loop .i) 0) (stands st (at .loop .i)) (st .pre .1 .1 .1 .1 .1)),
+        copying-place (drop (a .from) (a .cycles .now)) (a .src .now) (a .step) (a .skip .now) (a .counts .now) (a .u) (a .steps .now) (at .loop .i) (a .k)
+            (at .loop .at) (at .loop .counts) (at .loop .out) (at .loop .steps) false p h (st .pre .1 .1 .1 .0) (enough st)
+            (getD (a .cycles .now) (a .from + at .loop .i) 0) (stands st (at .loop .i)) (st .pre .1 .1 .0),
+        (
+          copying-cycles (drop (a .from)
+              (a .cycles .now)) (a .src .now) (a .step) (a .skip .now) (a .counts .now) (a .u) (a .steps .now) (at .loop .i) (a .k) (at .loop .at)
+              (at .loop .counts) (at .loop .out) (at .loop .steps) false p h (st .pre .1 .1 .1 .0) (enough st) (getD (a .cycles .now) (a .from + at .loop .i) 0)
+              (stands st (at .loop .i)) (st .pre .1 .1 .1 .1 .0),
+          copying-steps (drop (a .from) (a .cycles .now)) (a .src .now) (a .step) (a .skip .now)
+              (a .counts .now) (a .u) (a .steps .now) (at .loop .i) (a .k) (at .loop .at) (at .loop .counts) (at .loop .out) (at .loop .steps) false p h
+              (st .pre .1 .1 .1 .0) (enough st) (getD (a .cycles .now) (a .from + at .loop .i) 0) (stands st (at .loop .i)) (st .pre .1 .1 .1 .1 .1),
+        ),
       ),
     )
 
@@ -51,7 +61,9 @@ add-at c =
     let a = st .args in
     let h : at .loop .i < a .k = omega (arith, c .before .before .before .before .before .before .before .before .before .before .loop-test) in
     let p = at .loop .inv .1 in
-    let g = copying-place (drop (a .from) (a .cycles .now)) (a .src .now) (a .step) (a .skip .now) (a .counts .now) (a .u) (a .steps .now) (at .loop .i) (a .k) (at .loop .at) (at .loop .counts) (at .loop .out) (at .loop .steps) false p h (st .pre .1 .1 .1 .0) (enough st) (getD (a .cycles .now) (a .from + at .loop .i) 0) (stands st (at .loop .i)) (st .pre .1 .1 .0) in
+    let g = copying-place (drop (a .from) (a .cycles .now)) (a .src .now) (a .step) (a .skip .now) (a .counts .now) (a .u) (a .steps .now) (at .loop .i) (a .k)
+    (at .loop .at) (at .loop .counts) (at .loop .out) (at .loop .steps) false p h (st .pre .1 .1 .1 .0) (enough st)
+    (getD (a .cycles .now) (a .from + at .loop .i) 0) (stands st (at .loop .i)) (st .pre .1 .1 .0) in
     record { fits = omega (arith, g, c .places .ensures ∙ places-one (getD (a .cycles .now) (a .from + at .loop .i) 0)) }
 
 loop-again : tie.Need-loop-again Inv-loop μ-loop
@@ -63,7 +75,10 @@ loop-again c =
     let p = at .loop .inv .1 in
     let r = c .before .before .before .before .before .copy-cycle in (
       omega arith,
-      copying-turn (drop (a .from) (a .cycles .now)) (a .src .now) (a .step) (a .skip .now) (a .counts .now) (a .u) (a .steps .now) (at .loop .i) (a .k) (at .loop .at) (at .loop .counts) (at .loop .out) (at .loop .steps) false p h (st .pre .1 .1 .1 .0) (enough st) (getD (a .cycles .now) (a .from + at .loop .i) 0) (stands st (at .loop .i)) (r .last .1 .1 .1 .1 .0) (r .result) (r .last .1 .1 .1 .1 .1 .0) (r .kept .1 .1 .1 .1 .0) (r .kept .1 .1 .1 .1 .1 .0) (c .places .result)
+      copying-turn (drop (a .from) (a .cycles .now)) (a .src .now) (a .step) (a .skip .now) (a .counts .now) (a .u) (a .steps .now) (at .loop .i) (a .k)
+          (at .loop .at) (at .loop .counts) (at .loop .out) (at .loop .steps) false p h (st .pre .1 .1 .1 .0) (enough st)
+          (getD (a .cycles .now) (a .from + at .loop .i) 0) (stands st (at .loop .i)) (r .last .1 .1 .1 .1 .0) (r .result) (r .last .1 .1 .1 .1 .1 .0)
+          (r .kept .1 .1 .1 .1 .0) (r .kept .1 .1 .1 .1 .1 .0) (c .places .result)
           (c .places .ensures ∙ places-one (getD (a .cycles .now) (a .from + at .loop .i) 0)) (r .ensures .0) (r .ensures .1),
     )
 

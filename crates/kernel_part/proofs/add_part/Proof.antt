@@ -10,7 +10,8 @@ use Rattle.kernel_part.proofs.add_part.Tie as tie
 abbrev arrays : (c : tie.Start) → Arrays
 arrays c =
     let a = c .args in
-    lent (now (a .next)) (now (a .count)) (a .ids) (a .kinds) (a .starts) (a .ends) (a .bends) (a .counts) (a .px) (a .py) (a .cycles) (a .steps) (a .bx) (a .by)
+    lent (now (a .next)) (now (a .count)) (a .ids) (a .kinds) (a .starts) (a .ends) (a .bends) (a .counts) (a .px) (a .py) (a .cycles) (a .steps) (a .bx)
+    (a .by)
 
 copy-run-requires : tie.Need-copy-run-requires
 copy-run-requires c κs =

@@ -9,7 +9,8 @@ use Rattle.kernel_part.proofs.add_ring.Tie as tie
 abbrev arrays : (c : tie.Start) → Arrays
 arrays c =
     let a = c .args in
-    lent (now (a .next)) (now (a .count)) (a .ids) (a .kinds) (a .starts) (a .ends) (a .bends) (a .counts) (a .px) (a .py) (a .cycles) (a .steps) (a .bx) (a .by)
+    lent (now (a .next)) (now (a .count)) (a .ids) (a .kinds) (a .starts) (a .ends) (a .bends) (a .counts) (a .px) (a .py) (a .cycles) (a .steps) (a .bx)
+    (a .by)
 
 put-bends-requires : tie.Need-put-bends-requires
 put-bends-requires c κs =
@@ -18,7 +19,8 @@ put-bends-requires c κs =
     (s .pre .bytes, (ring-bends (arrays s) (a .t) (a .script .now) (a .k) (a .first) (s .pre), (s .pre .long .bx, s .pre .long .by)))
 
 add-row-requires : tie.Need-add-row-requires
-add-row-requires c κs = let s = c .before .before .before .before .before .before .before .before .before .before .before .before in (s .pre .room .cells, s .pre .room .ids)
+add-row-requires c κs = let s = c .before .before .before .before .before .before .before .before .before .before .before .before in
+    (s .pre .room .cells, s .pre .room .ids)
 
 returns : tie.Need-returns
 returns c =

@@ -29,7 +29,8 @@ returns c =
     let x = c .before .before .before .before .before .before .before .before .before .before .before in
     let st = x .before .before .before .before .before in
     let a = st .args in
-    others-built (a .cycles .now) (a .steps .now) (a .p) (st .pre .lies) (st .pre) (x .copy-ahead .ensures) (c .before .before .before .before .copy-behind .ensures)
+    others-built (a .cycles .now) (a .steps .now) (a .p) (st .pre .lies) (st .pre) (x .copy-ahead .ensures)
+    (c .before .before .before .before .copy-behind .ensures)
 
 pub copy-others-spec : {M : Type 1} → statement M
 copy-others-spec =

@@ -32,7 +32,8 @@ copy-others-requires c κs =
     let st = x .before .before .before in
     let a = st .args in
     merged-others (a .cycles .now) (a .steps .now) (a .p) (a .s) (a .q) (a .t) (a .v) (st .pre .0)
-    (x .following .result) (y .following2 .result) (x .following .ensures) (y .following2 .ensures) (n .no-cycles .ensures) (st .pre .1) (o .copy-around .ensures)
+    (x .following .result) (y .following2 .result) (x .following .ensures) (y .following2 .ensures) (n .no-cycles .ensures) (st .pre .1)
+    (o .copy-around .ensures)
     (o .copy-around .kept .1 .1 .1 .1 .1 .1 .0) (o .copy-around .kept .1 .1 .1 .1 .1 .1 .1 .0)
 
 same-length : tie.Need-same-length

@@ -58,7 +58,8 @@ returns c =
     let st = x .before .before .before in
     let a = st .args in
     parted-done (a .cycles .now) (a .steps .now) (a .p) (a .s) (a .t) (a .v) (a .w) (st .pre .0)
-    (x .up-to .result) (y .up-to2 .result) (x .up-to .ensures) (y .up-to2 .ensures) (n .no-cycles .ensures) (st .pre .1) (o .copy-around .ensures) (c .before .before .before .before .push-path .ensures)
+    (x .up-to .result) (y .up-to2 .result) (x .up-to .ensures) (y .up-to2 .ensures) (n .no-cycles .ensures) (st .pre .1) (o .copy-around .ensures)
+    (c .before .before .before .before .push-path .ensures)
 
 pub parted-cycles-spec : {M : Type 1} → statement M
 parted-cycles-spec =

@@ -26,7 +26,8 @@ returns c =
     let i = c .before .before .before .before .before .before .before in
     let st = i .before .before .before .before .before in
     let a = st .args in
-    lone-built (a .steps .now) (a .a) (a .b) (a .v) (a .numbers .now) (a .u) (a .places .now) (st .pre) _ refl (i .if1 .taken) (c .before .before .before .before .push-lone .ensures .1)
+    lone-built (a .steps .now) (a .a) (a .b) (a .v) (a .numbers .now) (a .u) (a .places .now) (st .pre) _ refl (i .if1 .taken)
+    (c .before .before .before .before .push-lone .ensures .1)
 
 copy-arc-requires : tie.Need-copy-arc-requires
 copy-arc-requires c κs =

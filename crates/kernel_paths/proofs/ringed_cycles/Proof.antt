@@ -35,7 +35,8 @@ returns c =
     let n = o .before .before .before in
     let st = n .before .before .before .before .before in
     let a = st .args in
-    ringed-built (a .cycles .now) (a .steps .now) (a .p) (a .q) (st .pre .0) (n .no-cycles .ensures) (st .pre .1) (o .copy-others .ensures) (c .before .before .before .before .copy-others2 .ensures)
+    ringed-built (a .cycles .now) (a .steps .now) (a .p) (a .q) (st .pre .0) (n .no-cycles .ensures) (st .pre .1) (o .copy-others .ensures)
+    (c .before .before .before .before .copy-others2 .ensures)
 
 pub ringed-cycles-spec : {M : Type 1} → statement M
 ringed-cycles-spec =

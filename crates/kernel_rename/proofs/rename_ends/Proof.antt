@@ -17,7 +17,12 @@ abbrev μ-loop : tie.MeasureT-loop
 μ-loop kinds n starts₀ ends₀ a b i₀ starts ends i = n - i
 
 loop-holds : tie.Need-loop-holds Inv-loop μ-loop
-loop-holds c = let a = c .args in (omega arith, renaming-start (renamed (a .a) (a .b)) (a .kinds .now) (a .starts .now), renaming-start (renamed (a .a) (a .b)) (a .kinds .now) (a .ends .now))
+loop-holds c = let a = c .args in (
+  omega arith,
+  renaming-start (renamed (a .a) (a .b)) (a .kinds .now) (a .starts .now),
+  renaming-start (renamed (a .a)
+      (a .b)) (a .kinds .now) (a .ends .now),
+)
 
 mul-if1 : tie.Need-mul-if1 Inv-loop μ-loop
 mul-if1 c = search needs
@@ -72,16 +77,21 @@ loop-again c =
     let ps = at .loop .inv .1 in
     let pe = at .loop .inv .2 in (
       omega arith,
-      ⊎-elim (λ w. rw (w .5) (renaming-open ρ (a .kinds .now) (a .starts .now) (at .loop .i) (at .loop .starts) ps hs (w .0 .taken) _ (w .2 .ensures))) (λ w. rw (w .1) (renaming-other ρ (a .kinds .now) (a .starts .now) (at .loop .i) (at .loop .starts) ps (w .0 .left))) (c .if1 .came),
-      ⊎-elim (λ w. rw (w .6) (renaming-open ρ (a .kinds .now) (a .ends .now) (at .loop .i) (at .loop .ends) pe he (w .0 .taken) _ (w .4 .ensures))) (λ w. rw (w .2) (renaming-other ρ (a .kinds .now) (a .ends .now) (at .loop .i) (at .loop .ends) pe (w .0 .left))) (c .if1 .came),
+      ⊎-elim (λ w. rw (w .5) (renaming-open ρ (a .kinds .now) (a .starts .now) (at .loop .i) (at .loop .starts) ps hs (w .0 .taken) _ (w .2 .ensures)))
+          (λ w. rw (w .1) (renaming-other ρ (a .kinds .now) (a .starts .now) (at .loop .i) (at .loop .starts) ps (w .0 .left))) (c .if1 .came),
+      ⊎-elim (λ w. rw (w .6) (renaming-open ρ (a .kinds .now) (a .ends .now) (at .loop .i) (at .loop .ends) pe he (w .0 .taken) _ (w .4 .ensures)))
+          (λ w. rw (w .2) (renaming-other ρ (a .kinds .now) (a .ends .now) (at .loop .i) (at .loop .ends) pe (w .0 .left))) (c .if1 .came),
     )
 
 returns : tie.Need-returns Inv-loop μ-loop
 returns c =
     let at = c .before in
     let a = at .before .args in
-    let e : at .loop .i ≡ a .n = omega arith in
-    (renaming-end (renamed (a .a) (a .b)) (a .kinds .now) (a .starts .now) (a .n) (at .loop .starts) (rw e at (at .loop .inv .1)), renaming-end (renamed (a .a) (a .b)) (a .kinds .now) (a .ends .now) (a .n) (at .loop .ends) (rw e at (at .loop .inv .2)))
+    let e : at .loop .i ≡ a .n = omega arith in (
+      renaming-end (renamed (a .a) (a .b)) (a .kinds .now) (a .starts .now) (a .n) (at .loop .starts) (rw e at (at .loop .inv .1)),
+      renaming-end (renamed (a .a)
+          (a .b)) (a .kinds .now) (a .ends .now) (a .n) (at .loop .ends) (rw e at (at .loop .inv .2)),
+    )
 
 pub rename-ends-spec : {M : Type 1} → statement M
 rename-ends-spec =

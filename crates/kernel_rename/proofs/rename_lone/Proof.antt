@@ -30,7 +30,8 @@ mul-rename c =
     let at = c .before .before .before in
     let s = at .before in
     let a = s .args in
-    let w = lone-room (renamed (a .a) (a .b)) (a .cycles .now) (a .steps .now) (at .loop .i) (at .loop .at) (at .loop .steps) (a .n) (at .loop .inv .1) (omega arith) (omega (arith, s .pre .0, s .pre .1 .1 .0)) (s .pre .1 .0) (c .if1 .taken) in
+    let w = lone-room (renamed (a .a) (a .b)) (a .cycles .now) (a .steps .now) (at .loop .i) (at .loop .at) (at .loop .steps) (a .n) (at .loop .inv .1)
+    (omega arith) (omega (arith, s .pre .0, s .pre .1 .1 .0)) (s .pre .1 .0) (c .if1 .taken) in
     omega (arith, w, at .loop .inv .1 .size, s .pre .1 .1 .1)
 
 element-copy-out-rename : tie.Need-element-copy-out-rename Inv-loop μ-loop
@@ -38,7 +39,8 @@ element-copy-out-rename c =
     let at = c .before .before .before in
     let s = at .before in
     let a = s .args in
-    let w = lone-room (renamed (a .a) (a .b)) (a .cycles .now) (a .steps .now) (at .loop .i) (at .loop .at) (at .loop .steps) (a .n) (at .loop .inv .1) (omega arith) (omega (arith, s .pre .0, s .pre .1 .1 .0)) (s .pre .1 .0) (c .if1 .taken) in
+    let w = lone-room (renamed (a .a) (a .b)) (a .cycles .now) (a .steps .now) (at .loop .i) (at .loop .at) (at .loop .steps) (a .n) (at .loop .inv .1)
+    (omega arith) (omega (arith, s .pre .0, s .pre .1 .1 .0)) (s .pre .1 .0) (c .if1 .taken) in
     omega (arith, w, at .loop .inv .1 .size, s .pre .1 .1 .1)
 
 rename-requires : tie.Need-rename-requires Inv-loop μ-loop
@@ -49,7 +51,8 @@ mul-steps c =
     let at = c .before .before .before .before .before in
     let s = at .before in
     let a = s .args in
-    let w = lone-room (renamed (a .a) (a .b)) (a .cycles .now) (a .steps .now) (at .loop .i) (at .loop .at) (at .loop .steps) (a .n) (at .loop .inv .1) (omega arith) (omega (arith, s .pre .0, s .pre .1 .1 .0)) (s .pre .1 .0) (c .before .before .if1 .taken) in
+    let w = lone-room (renamed (a .a) (a .b)) (a .cycles .now) (a .steps .now) (at .loop .i) (at .loop .at) (at .loop .steps) (a .n) (at .loop .inv .1)
+    (omega arith) (omega (arith, s .pre .0, s .pre .1 .1 .0)) (s .pre .1 .0) (c .before .before .if1 .taken) in
     omega (arith, w, at .loop .inv .1 .size, s .pre .1 .1 .1)
 
 element-write-steps : tie.Need-element-write-steps Inv-loop μ-loop
@@ -57,7 +60,8 @@ element-write-steps c =
     let at = c .before .before .before .before .before in
     let s = at .before in
     let a = s .args in
-    let w = lone-room (renamed (a .a) (a .b)) (a .cycles .now) (a .steps .now) (at .loop .i) (at .loop .at) (at .loop .steps) (a .n) (at .loop .inv .1) (omega arith) (omega (arith, s .pre .0, s .pre .1 .1 .0)) (s .pre .1 .0) (c .before .before .if1 .taken) in
+    let w = lone-room (renamed (a .a) (a .b)) (a .cycles .now) (a .steps .now) (at .loop .i) (at .loop .at) (at .loop .steps) (a .n) (at .loop .inv .1)
+    (omega arith) (omega (arith, s .pre .0, s .pre .1 .1 .0)) (s .pre .1 .0) (c .before .before .if1 .taken) in
     omega (arith, w, at .loop .inv .1 .size, s .pre .1 .1 .1)
 
 places-requires : tie.Need-places-requires Inv-loop μ-loop
@@ -68,7 +72,8 @@ add-at c =
     let at = c .before .before .before .before in
     let s = at .before in
     let a = s .args in
-    let w = walk-room (renamed (a .a) (a .b)) (a .cycles .now) (a .steps .now) (at .loop .i) (at .loop .at) (at .loop .steps) (a .n) (at .loop .inv .1) (omega arith) (omega (arith, s .pre .0, s .pre .1 .1 .0)) (s .pre .1 .0) in
+    let w = walk-room (renamed (a .a) (a .b)) (a .cycles .now) (a .steps .now) (at .loop .i) (at .loop .at) (at .loop .steps) (a .n) (at .loop .inv .1)
+    (omega arith) (omega (arith, s .pre .0, s .pre .1 .1 .0)) (s .pre .1 .0) in
     omega (arith, w, c .places .ensures, at .loop .inv .1 .size, s .pre .1 .1 .1)
 
 add-i : tie.Need-add-i Inv-loop μ-loop
@@ -84,12 +89,16 @@ loop-again c =
     let a = s .args in
     let ρ = renamed (a .a) (a .b) in
     let ln : a .n ≤ length (a .cycles .now) = omega (arith, s .pre .0, s .pre .1 .1 .0) in
-    let room = walk-room ρ (a .cycles .now) (a .steps .now) (at .loop .i) (at .loop .at) (at .loop .steps) (a .n) (at .loop .inv .1) (omega arith) ln (s .pre .1 .0) in
-    let lr : getD (a .cycles .now) (at .loop .i) 0 ≡ 0 → at .loop .at + 1 ≤ 2048 = λ z. lone-room ρ (a .cycles .now) (a .steps .now) (at .loop .i) (at .loop .at) (at .loop .steps) (a .n) (at .loop .inv .1) (omega arith) ln (s .pre .1 .0) z in (
+    let room = walk-room ρ (a .cycles .now) (a .steps .now) (at .loop .i) (at .loop .at) (at .loop .steps) (a .n) (at .loop .inv .1) (omega arith) ln
+    (s .pre .1 .0) in
+    let lr : getD (a .cycles .now) (at .loop .i) 0 ≡ 0 → at .loop .at + 1 ≤ 2048 = λ z. lone-room ρ (a .cycles .now) (a .steps .now) (at .loop .i)
+    (at .loop .at) (at .loop .steps) (a .n) (at .loop .inv .1) (omega arith) ln (s .pre .1 .0) z in (
       omega arith,
       rw (c .places .ensures)
-          (⊎-elim (λ w. rw (w .3) (walk-lone ρ (a .cycles .now) (a .steps .now) (at .loop .i) (at .loop .at) (at .loop .steps) (omega (arith, ln)) (omega (arith, lr (w .0 .taken), s .pre .1 .1 .1)) (at .loop .inv .1) (w .0 .taken) _ (w .2 .ensures)))
-          (λ w. rw (w .1) (walk-steps ρ (a .cycles .now) (a .steps .now) (at .loop .i) (at .loop .at) (at .loop .steps) (omega (arith, ln)) (omega (arith, room, s .pre .1 .1 .1)) (at .loop .inv .1) (w .0 .left)))
+          (⊎-elim (λ w. rw (w .3) (walk-lone ρ (a .cycles .now) (a .steps .now) (at .loop .i) (at .loop .at) (at .loop .steps) (omega (arith, ln))
+          (omega (arith, lr (w .0 .taken), s .pre .1 .1 .1)) (at .loop .inv .1) (w .0 .taken) _ (w .2 .ensures)))
+          (λ w. rw (w .1) (walk-steps ρ (a .cycles .now) (a .steps .now) (at .loop .i) (at .loop .at) (at .loop .steps) (omega (arith, ln))
+          (omega (arith, room, s .pre .1 .1 .1)) (at .loop .inv .1) (w .0 .left)))
           (c .before .if1 .came)),
     )
 

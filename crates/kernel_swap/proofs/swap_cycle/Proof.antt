@@ -73,7 +73,8 @@ returns-2 c =
     let w = c .before .before .before .wide .ensures in
     let n = c .before .before .before .before .before .if1 .left in
     let r = c .before .before .swap-run in
-    let e = ap (λ (k : ℕ). spread (swapWord (a .t)) (take k (drop (a .from) (a .steps .now)))) w ∙ sym (steps-some (a .t) (a .c) (drop (a .from) (a .steps .now)) n) in
+    let e = ap (λ (k : ℕ). spread (swapWord (a .t)) (take k (drop (a .from) (a .steps .now)))) w
+    ∙ sym (steps-some (a .t) (a .c) (drop (a .from) (a .steps .now)) n) in
     (r .ensures .0 ∙ ap length e, subst (λ (y : List ℕ). Wrote (a .steps .now) (a .at) y (r .last .0)) e (r .ensures .1))
 
 pub swap-cycle-spec : {M : Type 1} → statement M

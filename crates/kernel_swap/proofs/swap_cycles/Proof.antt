@@ -47,7 +47,8 @@ room q =
     let l = q .before .loop in
     let h : l .i < a .n = omega arith in
     let w =
-    cycle-room (a .t) _ _ (a .g) (l .i) (a .n) (l .from) (l .at) (l .cycles) (l .steps) (l .inv .1) (l .inv .2) (p .0) h (p .1 .0) (p .1 .1 .1) (next q) refl in (
+    cycle-room (a .t) _ _ (a .g) (l .i) (a .n) (l .from) (l .at) (l .cycles) (l .steps) (l .inv .1) (l .inv .2) (p .0) h (p .1 .0) (p .1 .1 .1)
+    (next q) refl in (
       omega (arith, w, p .1 .0),
       omega (arith, w, p .1 .0, p .1 .1 .0),
       cycle-end (a .t) _ _ (a .g) (l .i) (a .n) (l .from) (l .at) (l .cycles) (l .steps) (l .inv .1) (l .inv .2) (p .0) h (p .1 .0) (p .1 .1 .1) (next q) refl,
@@ -66,7 +67,8 @@ swap-cycle-requires c κs =
       start q .pre .0,
       (
         omega (arith, room q .0, l .inv .1 .size),
-        cycle-ahead (a .t) _ _ (a .g) (l .i) (a .n) (l .from) (l .at) (l .cycles) (l .steps) (l .inv .1) (l .inv .2) (p .0) h (p .1 .0) (p .1 .1 .1) (next q) refl,
+        cycle-ahead (a .t) _ _ (a .g) (l .i) (a .n) (l .from) (l .at) (l .cycles) (l .steps) (l .inv .1) (l .inv .2) (p .0) h (p .1 .0) (p .1 .1 .1)
+            (next q) refl,
       ),
     )
 

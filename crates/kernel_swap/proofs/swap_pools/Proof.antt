@@ -21,7 +21,8 @@ swap-cycles-requires c κs =
     let p = st .pre .1 .1 in
     let y : length (sh .shift .last .0) ≡ 2048 = sh .shift .kept .0 ∙ l in
     let hs : a .g + a .m ≤ length (a .steps .now) = omega (arith, p .1 .0) in
-    let r = shifted-room (a .t) (take (a .n) (a .cycles .now)) (a .steps .now) (sh .shift .last .0) (a .g) (a .m) (p .0) (sh .shift .ensures) hs (sh .shift .kept .0) (p .1 .1) in
+    let r = shifted-room (a .t) (take (a .n) (a .cycles .now)) (a .steps .now) (sh .shift .last .0) (a .g) (a .m) (p .0) (sh .shift .ensures) hs
+    (sh .shift .kept .0) (p .1 .1) in
     (st .pre .0, (omega (arith, st .pre .1 .0, k), (omega (arith, p .0, p .1 .0, y), (omega (arith, y), r))))
 
 returns : tie.Need-returns
@@ -31,8 +32,12 @@ returns c =
     let a = st .args in
     let l : length (a .steps .now) ≡ 2048 = omega (arith, sh .before .shift-arg .given) in
     let p = st .pre .1 .1 in
-    let hs : a .g + a .m ≤ length (a .steps .now) = omega (arith, p .1 .0) in
-    (shifted-swapped (a .t) (take (a .n) (a .cycles .now)) (a .steps .now) (sh .shift .last .0) (a .g) (a .m) (p .0) (sh .shift .ensures) hs (sh .shift .kept .0) _ _ (c .swap-cycles .ensures), (search needs, search needs))
+    let hs : a .g + a .m ≤ length (a .steps .now) = omega (arith, p .1 .0) in (
+      shifted-swapped (a .t) (take (a .n)
+          (a .cycles .now)) (a .steps .now) (sh .shift .last .0) (a .g) (a .m) (p .0) (sh .shift .ensures) hs (sh .shift .kept .0) _ _
+          (c .swap-cycles .ensures),
+      (search needs, search needs),
+    )
 
 pub swap-pools-spec : {M : Type 1} → statement M
 swap-pools-spec = tie.close (tie.spec shift-requires swap-cycles-requires returns)

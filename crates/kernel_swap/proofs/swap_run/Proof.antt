@@ -42,7 +42,8 @@ add-put-step c =
     let st = at .before .before in
     let a = st .args in
     let h : at .loop .i < a .n = omega arith in
-    let m = place-room (a .t) (a .steps .now) (a .from) (a .n) (a .at) (at .loop .i) (at .loop .w) (at .loop .steps) (st .pre .1 .0) h (st .pre .1 .1) (at .loop .inv .1) (at .loop .inv .2) in
+    let m = place-room (a .t) (a .steps .now) (a .from) (a .n) (a .at) (at .loop .i) (at .loop .w) (at .loop .steps) (st .pre .1 .0) h (st .pre .1 .1)
+    (at .loop .inv .1) (at .loop .inv .2) in
     record { fits = omega (arith, m, st .pre .1 .0) }
 
 put-step-requires : tie.Need-put-step-requires Inv-loop μ-loop
@@ -51,7 +52,8 @@ put-step-requires c κs =
     let st = at .before .before in
     let a = st .args in
     let h : at .loop .i < a .n = omega arith in
-    let m = place-room (a .t) (a .steps .now) (a .from) (a .n) (a .at) (at .loop .i) (at .loop .w) (at .loop .steps) (st .pre .1 .0) h (st .pre .1 .1) (at .loop .inv .1) (at .loop .inv .2) in
+    let m = place-room (a .t) (a .steps .now) (a .from) (a .n) (a .at) (at .loop .i) (at .loop .w) (at .loop .steps) (st .pre .1 .0) h (st .pre .1 .1)
+    (at .loop .inv .1) (at .loop .inv .2) in
     (st .pre .0, omega (arith, m, st .pre .1 .0, at .loop .inv .2 .size))
 
 add-w : tie.Need-add-w Inv-loop μ-loop
@@ -60,7 +62,8 @@ add-w c =
     let st = at .before .before in
     let a = st .args in
     let h : at .loop .i < a .n = omega arith in
-    let m = place-room (a .t) (a .steps .now) (a .from) (a .n) (a .at) (at .loop .i) (at .loop .w) (at .loop .steps) (st .pre .1 .0) h (st .pre .1 .1) (at .loop .inv .1) (at .loop .inv .2) in
+    let m = place-room (a .t) (a .steps .now) (a .from) (a .n) (a .at) (at .loop .i) (at .loop .w) (at .loop .steps) (st .pre .1 .0) h (st .pre .1 .1)
+    (at .loop .inv .1) (at .loop .inv .2) in
     record { fits = omega (arith, m, st .pre .1 .0, c .before .before .put-step .ensures .0) }
 
 add-i : tie.Need-add-i Inv-loop μ-loop

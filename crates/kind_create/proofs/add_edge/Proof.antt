@@ -56,7 +56,8 @@ put-bends-requires c κs =
     let l = e .before in
     let s = start l in
     let w = l .before .wide in
-    let h = edge-asks (arrays s) (s .args .t) (s .pre .ready) (listed s) (s .args .k) (many s) (w .result) (w .ensures) (l .cell-no .result) (l .cell-no .ensures)
+    let h = edge-asks (arrays s) (s .args .t) (s .pre .ready) (listed s) (s .args .k) (many s) (w .result) (w .ensures) (l .cell-no .result)
+    (l .cell-no .ensures)
     (e .if1 .left) (s .pre .row) (s .pre .passed) in
     (s .pre .bytes, (h .0, (s .pre .ready .long .bx, s .pre .ready .long .by)))
 

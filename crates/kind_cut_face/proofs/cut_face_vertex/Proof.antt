@@ -23,7 +23,8 @@ use Rattle.kind_cut_face.proofs.cut_face_vertex.Tie as tie
 abbrev arrays : (c : tie.Start) → Arrays
 arrays c =
     let a = c .args in
-    lent (now (a .next)) (now (a .count)) (a .ids) (a .kinds) (a .starts) (a .ends) (a .bends) (a .counts) (a .px) (a .py) (a .cycles) (a .steps) (a .bx) (a .by)
+    lent (now (a .next)) (now (a .count)) (a .ids) (a .kinds) (a .starts) (a .ends) (a .bends) (a .counts) (a .px) (a .py) (a .cycles) (a .steps) (a .bx)
+    (a .by)
 
 in-bounds-requires : tie.Need-in-bounds-requires
 in-bounds-requires c κs = search needs
@@ -36,7 +37,8 @@ returns c =
     let b = c .before .before in
     let s = b .before in
     let q = cutFaceVertex (s .args .f) (s .args .p) in
-    ready-no (arrays s) (s .args .t) (s .pre) q 3 _ (c .line-of .ensures) (no-3 _ q (out-one q (s .args .p) refl (sym (b .in-bounds .ensures) ∙ not-true _ (c .before .if1 .taken))))
+    ready-no (arrays s) (s .args .t) (s .pre) q 3 _ (c .line-of .ensures)
+    (no-3 _ q (out-one q (s .args .p) refl (sym (b .in-bounds .ensures) ∙ not-true _ (c .before .if1 .taken))))
 
 value-at-requires : tie.Need-value-at-requires
 value-at-requires c κs =
@@ -58,7 +60,8 @@ is-face : (v : tie.After-value-at) → isFace (cellAt (sheetOf (heldBy (arrays (
 is-face v =
     let s = start v in
     let a = arrays s in
-    face-told (heldBy a) (ready-sizes a (s .args .t) (s .pre)) (ready-drawing a (s .args .t) (s .pre)) (rowsBy a) (ready-indexes a (s .args .t) (s .pre)) (s .args .f) _
+    face-told (heldBy a) (ready-sizes a (s .args .t) (s .pre)) (ready-drawing a (s .args .t) (s .pre)) (rowsBy a) (ready-indexes a (s .args .t) (s .pre))
+    (s .args .f) _
     (ap (λ (n : ℕ). eqb n 3) (v .value-at .ensures))
 
 returns-2 : tie.Need-returns-2
@@ -84,7 +87,8 @@ returns-3 c =
     let e = l .before .before in
     let v = e .before in
     let s = start v in
-    vertex-refused (arrays s) (s .args .t) (s .pre) (s .args .f) (s .args .p) (in-range v) (is-face v ∙ eq-eqb _ 3 (e .if2 .left)) (l .cell-no .result) (l .cell-no .ensures) (c .before .if3 .taken) _ (c .line-of3 .ensures)
+    vertex-refused (arrays s) (s .args .t) (s .pre) (s .args .f) (s .args .p) (in-range v) (is-face v ∙ eq-eqb _ 3 (e .if2 .left)) (l .cell-no .result)
+    (l .cell-no .ensures) (c .before .if3 .taken) _ (c .line-of3 .ensures)
 
 cut-at-requires : tie.Need-cut-at-requires
 cut-at-requires c κs =
@@ -93,7 +97,8 @@ cut-at-requires c κs =
     let e = l .before .before in
     let v = e .before in
     let s = start v in
-    vertex-cuts (arrays s) (s .args .t) (s .pre) (s .args .f) (s .args .p) (in-range v) (is-face v ∙ eq-eqb _ 3 (e .if2 .left)) (l .cell-no .result) (l .cell-no .ensures) (y .if3 .left)
+    vertex-cuts (arrays s) (s .args .t) (s .pre) (s .args .f) (s .args .p) (in-range v) (is-face v ∙ eq-eqb _ 3 (e .if2 .left)) (l .cell-no .result)
+    (l .cell-no .ensures) (y .if3 .left)
 
 returns-4 : tie.Need-returns-4
 returns-4 c =
@@ -103,7 +108,8 @@ returns-4 c =
     let v = e .before in
     let s = start v in
     let w = c .cut-at .ensures in
-    vertex-obeyed (arrays s) (s .args .t) (s .pre) (s .args .f) (s .args .p) (in-range v) (is-face v ∙ eq-eqb _ 3 (e .if2 .left)) (l .cell-no .result) (l .cell-no .ensures) (y .if3 .left)
+    vertex-obeyed (arrays s) (s .args .t) (s .pre) (s .args .f) (s .args .p) (in-range v) (is-face v ∙ eq-eqb _ 3 (e .if2 .left)) (l .cell-no .result)
+    (l .cell-no .ensures) (y .if3 .left)
     _ (w .1 .0) (w .1 .1 .0) (w .1 .1 .1) _ (w .0)
 
 pub cut-face-vertex-spec : {M : Type 1} → statement M

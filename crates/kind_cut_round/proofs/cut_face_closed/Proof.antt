@@ -29,7 +29,8 @@ use Rattle.kind_cut_round.proofs.cut_face_closed.Tie as tie
 abbrev arrays : (c : tie.Start) → Arrays
 arrays c =
     let a = c .args in
-    lent (now (a .next)) (now (a .count)) (a .ids) (a .kinds) (a .starts) (a .ends) (a .bends) (a .counts) (a .px) (a .py) (a .cycles) (a .steps) (a .bx) (a .by)
+    lent (now (a .next)) (now (a .count)) (a .ids) (a .kinds) (a .starts) (a .ends) (a .bends) (a .counts) (a .px) (a .py) (a .cycles) (a .steps) (a .bx)
+    (a .by)
 
 abbrev named : (s : tie.Start) → List ℕ
 named s = numbersRead (s .args .script .now) (s .args .place) (s .args .moved)
@@ -45,7 +46,8 @@ returns c =
     let b = c .before .before in
     let s = b .before .before in
     let q = cutFaceClosed (s .args .f) (positionsAt (s .args .script .now) (s .args .first) (s .args .k)) (named s) in
-    ready-no (arrays s) (s .args .t) (s .pre .0) q 3 _ (c .line-of .ensures) (no-3 _ q (out-bends q (sym (b .bends-within .ensures) ∙ not-true _ (c .before .if1 .taken))))
+    ready-no (arrays s) (s .args .t) (s .pre .0) q 3 _ (c .line-of .ensures)
+    (no-3 _ q (out-bends q (sym (b .bends-within .ensures) ∙ not-true _ (c .before .if1 .taken))))
 
 value-at-requires : tie.Need-value-at-requires
 value-at-requires c κs =
@@ -63,15 +65,19 @@ start v = v .before .before .before .before .before .before .before .before
 in-range : (v : tie.After-value-at) → all within (positionsAt (start v .args .script .now) (start v .args .first) (start v .args .k)) ≡ true
 in-range v = sym (v .before .before .before .before .before .before .bends-within .ensures) ∙ not-false _ (v .before .before .before .before .before .if1 .left)
 
-is-kind : (v : tie.After-value-at) → eqb (valueAt 4 (take (now (start v .args .count)) (now (start v .args .ids))) (take (now (start v .args .count)) (now (start v .args .kinds))) (start v .args .f)) 3 ≡ eqb (v .value-at .result) 3
+is-kind : (v : tie.After-value-at) → eqb
+    (valueAt 4 (take (now (start v .args .count)) (now (start v .args .ids))) (take (now (start v .args .count)) (now (start v .args .kinds)))
+    (start v .args .f)) 3 ≡ eqb (v .value-at .result) 3
 is-kind v = ap (λ (n : ℕ). eqb n 3) (sym (v .value-at .ensures))
 
 returns-2 : tie.Need-returns-2
 returns-2 c =
     let v = c .before .before in
     let s = start v in
-    closed-no (arrays s) (s .args .t) (s .pre .0) (s .args .script .now) (s .args .f) (s .args .k) (s .args .first) (s .args .moved) (s .args .place) (in-range v) 4
-    (no-face (rowsBy (arrays s)) (now (s .args .count)) (s .args .f) (s .args .k) (named s) (is-kind v ∙ ne-eqb _ 3 (c .before .if2 .taken))) (λ z. omega (arith, z)) _ (c .line-of2 .ensures)
+    closed-no (arrays s) (s .args .t) (s .pre .0) (s .args .script .now) (s .args .f) (s .args .k) (s .args .first) (s .args .moved) (s .args .place)
+    (in-range v) 4
+    (no-face (rowsBy (arrays s)) (now (s .args .count)) (s .args .f) (s .args .k) (named s) (is-kind v ∙ ne-eqb _ 3 (c .before .if2 .taken)))
+    (λ z. omega (arith, z)) _ (c .line-of2 .ensures)
 
 line-of-requires-3 : tie.Need-line-of-requires-3
 line-of-requires-3 c κs = search needs
@@ -81,8 +87,10 @@ returns-3 c =
     let e = c .before .before in
     let v = e .before in
     let s = start v in
-    closed-no (arrays s) (s .args .t) (s .pre .0) (s .args .script .now) (s .args .f) (s .args .k) (s .args .first) (s .args .moved) (s .args .place) (in-range v) 5
-    (no-bend (rowsBy (arrays s)) (now (s .args .count)) (s .args .f) (s .args .k) (named s) (is-kind v ∙ eq-eqb _ 3 (e .if2 .left)) (eq-eqb (s .args .k) 0 (c .before .if3 .taken))) (λ z. omega (arith, z)) _ (c .line-of3 .ensures)
+    closed-no (arrays s) (s .args .t) (s .pre .0) (s .args .script .now) (s .args .f) (s .args .k) (s .args .first) (s .args .moved) (s .args .place)
+    (in-range v) 5
+    (no-bend (rowsBy (arrays s)) (now (s .args .count)) (s .args .f) (s .args .k) (named s) (is-kind v ∙ eq-eqb _ 3 (e .if2 .left))
+    (eq-eqb (s .args .k) 0 (c .before .if3 .taken))) (λ z. omega (arith, z)) _ (c .line-of3 .ensures)
 
 value-at-requires-2 : tie.Need-value-at-requires-2
 value-at-requires-2 c κs =
@@ -104,12 +112,16 @@ returns-4 c =
     let e = b .before in
     let v = e .before in
     let s = start v in
-    closed-no (arrays s) (s .args .t) (s .pre .0) (s .args .script .now) (s .args .f) (s .args .k) (s .args .first) (s .args .moved) (s .args .place) (in-range v) 5
-    (no-rise (rowsBy (arrays s)) (now (s .args .count)) (s .args .f) (s .args .k) (named s) (is-kind v ∙ eq-eqb _ 3 (e .if2 .left)) (ne-eqb (s .args .k) 0 (b .if3 .left))
-    (ap (places 0 (named s)) (sym (y .value-at2 .ensures)) ∙ sym (r .moved-rise .ensures) ∙ not-true _ (c .before .if4 .taken))) (λ z. omega (arith, z)) _ (c .line-of4 .ensures)
+    closed-no (arrays s) (s .args .t) (s .pre .0) (s .args .script .now) (s .args .f) (s .args .k) (s .args .first) (s .args .moved) (s .args .place)
+    (in-range v) 5
+    (no-rise (rowsBy (arrays s)) (now (s .args .count)) (s .args .f) (s .args .k) (named s) (is-kind v ∙ eq-eqb _ 3 (e .if2 .left))
+    (ne-eqb (s .args .k) 0 (b .if3 .left))
+    (ap (places 0 (named s)) (sym (y .value-at2 .ensures)) ∙ sym (r .moved-rise .ensures) ∙ not-true _ (c .before .if4 .taken))) (λ z. omega (arith, z)) _
+    (c .line-of4 .ensures)
 
 -- questions 4 and 5 got a yes
-none-no : (d : tie.Else4) → let s = start (d .before .before .before .before .before .before .before) in 0 ≡ roundNo (rowsBy (arrays s)) (now (s .args .count)) (s .args .f) (s .args .k) (named s)
+none-no : (d : tie.Else4) → let s = start (d .before .before .before .before .before .before .before) in
+    0 ≡ roundNo (rowsBy (arrays s)) (now (s .args .count)) (s .args .f) (s .args .k) (named s)
 none-no d =
     let r = d .before in
     let y = r .before in
@@ -117,7 +129,8 @@ none-no d =
     let e = b .before in
     let v = e .before in
     let s = start v in
-    no-none (rowsBy (arrays s)) (now (s .args .count)) (s .args .f) (s .args .k) (named s) (is-kind v ∙ eq-eqb _ 3 (e .if2 .left)) (ne-eqb (s .args .k) 0 (b .if3 .left))
+    no-none (rowsBy (arrays s)) (now (s .args .count)) (s .args .f) (s .args .k) (named s) (is-kind v ∙ eq-eqb _ 3 (e .if2 .left))
+    (ne-eqb (s .args .k) 0 (b .if3 .left))
     (ap (places 0 (named s)) (sym (y .value-at2 .ensures)) ∙ sym (r .moved-rise .ensures) ∙ not-false _ (d .if4 .left))
 
 wide-requires : tie.Need-wide-requires
@@ -126,8 +139,18 @@ wide-requires c κs = search needs
 late-no-requires : tie.Need-late-no-requires
 late-no-requires c κs =
     let s = c .before .before .before .before .before .before .before .before .before .before .before .before .before .before .before .before in
-    let a = arrays s in
-    (next-in (heldBy a) (ready-drawing a (s .args .t) (s .pre .0)), (lit≤ tt, (ready-small a (s .args .t) (s .pre .0), record { cells = lit≤ tt; cycles = lit≤ tt; steps = lit≤ tt; bends = omega (arith, c .wide .ensures, s .fits .k) }, record { cells = lit≤ tt; cycles = lit≤ tt; steps = lit≤ tt; bends = lit≤ tt })))
+    let a = arrays s in (
+      next-in (heldBy a) (ready-drawing a (s .args .t)
+          (s .pre .0)),
+      (
+        lit≤ tt,
+        (
+          ready-small a (s .args .t) (s .pre .0),
+          record { cells = lit≤ tt; cycles = lit≤ tt; steps = lit≤ tt; bends = omega (arith, c .wide .ensures, s .fits .k) },
+          record { cells = lit≤ tt; cycles = lit≤ tt; steps = lit≤ tt; bends = lit≤ tt },
+        ),
+      ),
+    )
 
 line-of-requires-5 : tie.Need-line-of-requires-5
 line-of-requires-5 c κs = search needs
@@ -139,7 +162,9 @@ returns-5 c =
     let d = x .before in
     let v = d .before .before .before .before .before .before .before in
     let s = start v in
-    closed-refused (arrays s) (s .args .t) (s .pre .0) (s .args .script .now) (s .args .f) (s .args .k) (s .args .first) (s .args .moved) (s .args .place) (in-range v) (none-no d) (x .wide .result) (x .wide .ensures) (l .late-no .result) (l .late-no .ensures) (c .before .if5 .taken) _ (c .line-of5 .ensures)
+    closed-refused (arrays s) (s .args .t) (s .pre .0) (s .args .script .now) (s .args .f) (s .args .k) (s .args .first) (s .args .moved) (s .args .place)
+    (in-range v) (none-no d) (x .wide .result) (x .wide .ensures) (l .late-no .result) (l .late-no .ensures) (c .before .if5 .taken) _
+    (c .line-of5 .ensures)
 
 cut-round-requires : tie.Need-cut-round-requires
 cut-round-requires c κs =
@@ -148,8 +173,12 @@ cut-round-requires c κs =
     let x = l .before in
     let d = x .before in
     let v = d .before .before .before .before .before .before .before in
-    let s = start v in
-    (s .pre .0, closed-cuts (arrays s) (s .args .t) (s .pre .0) (s .args .script .now) (s .args .f) (s .args .k) (s .args .first) (s .args .moved) (s .args .place) (in-range v) (none-no d) (x .wide .result) (x .wide .ensures) (l .late-no .result) (l .late-no .ensures) (g .if5 .left) (s .pre .1 .0) (s .pre .1 .1))
+    let s = start v in (
+      s .pre .0,
+      closed-cuts (arrays s) (s .args .t) (s .pre .0) (s .args .script .now) (s .args .f) (s .args .k) (s .args .first) (s .args .moved)
+          (s .args .place) (in-range v) (none-no d) (x .wide .result) (x .wide .ensures) (l .late-no .result) (l .late-no .ensures) (g .if5 .left)
+          (s .pre .1 .0) (s .pre .1 .1),
+    )
 
 returns-6 : tie.Need-returns-6
 returns-6 c =
@@ -160,7 +189,9 @@ returns-6 c =
     let v = d .before .before .before .before .before .before .before in
     let s = start v in
     let w = c .cut-round .ensures in
-    closed-obeyed (arrays s) (s .args .t) (s .pre .0) (s .args .script .now) (s .args .f) (s .args .k) (s .args .first) (s .args .moved) (s .args .place) (in-range v) (none-no d) (x .wide .result) (x .wide .ensures) (l .late-no .result) (l .late-no .ensures) (g .if5 .left) _ (w .0) (w .1 .0) (w .1 .1) _ refl
+    closed-obeyed (arrays s) (s .args .t) (s .pre .0) (s .args .script .now) (s .args .f) (s .args .k) (s .args .first) (s .args .moved) (s .args .place)
+    (in-range v) (none-no d) (x .wide .result) (x .wide .ensures) (l .late-no .result) (l .late-no .ensures) (g .if5 .left) _ (w .0) (w .1 .0)
+    (w .1 .1) _ refl
 
 pub cut-face-closed-spec : {M : Type 1} → statement M
 cut-face-closed-spec =

@@ -16,7 +16,8 @@ use Rattle.kind_face.proofs.add_face.Tie as tie
 abbrev arrays : (c : tie.Start) → Arrays
 arrays c =
     let a = c .args in
-    lent (now (a .next)) (now (a .count)) (a .ids) (a .kinds) (a .starts) (a .ends) (a .bends) (a .counts) (a .px) (a .py) (a .cycles) (a .steps) (a .bx) (a .by)
+    lent (now (a .next)) (now (a .count)) (a .ids) (a .kinds) (a .starts) (a .ends) (a .bends) (a .counts) (a .px) (a .py) (a .cycles) (a .steps) (a .bx)
+    (a .by)
 
 face-no-requires : tie.Need-face-no-requires
 face-no-requires c κs =
@@ -34,7 +35,8 @@ returns : tie.Need-returns
 returns c =
     let f = c .before .before in
     let s = asking f in
-    obeyed-asked (arrays s) (s .args .t) (s .pre .0) (now (s .args .script)) (s .args .first) (s .args .k) (s .pre .1) (f .face-no .result) (f .face-no .ensures) (c .before .if1 .taken) _ (c .line-of .ensures)
+    obeyed-asked (arrays s) (s .args .t) (s .pre .0) (now (s .args .script)) (s .args .first) (s .args .k) (s .pre .1) (f .face-no .result)
+    (f .face-no .ensures) (c .before .if1 .taken) _ (c .line-of .ensures)
 
 count-cycle-steps-requires : tie.Need-count-cycle-steps-requires
 count-cycle-steps-requires c κs = asking (c .before) .pre .1
@@ -45,8 +47,15 @@ wide-requires c κs = search needs
 cell-no-requires : tie.Need-cell-no-requires
 cell-no-requires c κs =
     let m = c .before .before in
-    let s = asking (m .before .before) in
-    (next-in (heldBy (arrays s)) (ready-drawing (arrays s) (s .args .t) (s .pre .0)), (ready-small (arrays s) (s .args .t) (s .pre .0), (omega (arith, c .wide .ensures, s .fits .k), (omega (arith, m .count-cycle-steps .ensures), lit≤ tt))))
+    let s = asking (m .before .before) in (
+      next-in (heldBy (arrays s)) (ready-drawing (arrays s) (s .args .t)
+          (s .pre .0)),
+      (
+        ready-small (arrays
+            s) (s .args .t) (s .pre .0),
+        (omega (arith, c .wide .ensures, s .fits .k), (omega (arith, m .count-cycle-steps .ensures), lit≤ tt)),
+      ),
+    )
 
 line-of-requires-2 : tie.Need-line-of-requires-2
 line-of-requires-2 c κs = search needs
@@ -62,12 +71,15 @@ returns-2 c =
     let e = m .before in
     let f = e .before in
     let s = start l in
-    obeyed-face-full (arrays s) (s .args .t) (s .pre .0) (now (s .args .script)) (s .args .first) (s .args .k) (s .pre .1) (f .face-no .result) (f .face-no .ensures)
-    (e .if1 .left) (l .before .wide .result) (m .count-cycle-steps .result) (l .cell-no .result) (l .before .wide .ensures) (m .count-cycle-steps .ensures) (l .cell-no .ensures)
+    obeyed-face-full (arrays s) (s .args .t) (s .pre .0) (now (s .args .script)) (s .args .first) (s .args .k) (s .pre .1) (f .face-no .result)
+    (f .face-no .ensures)
+    (e .if1 .left) (l .before .wide .result) (m .count-cycle-steps .result) (l .cell-no .result) (l .before .wide .ensures) (m .count-cycle-steps .ensures)
+    (l .cell-no .ensures)
     (c .before .if2 .taken) _ (c .line-of2 .ensures)
 
 -- where the face has room
-room : (g : tie.Else2) → CellRoom (heldBy (arrays (start (g .before)))) (face (cyclesRead (now (start (g .before) .args .script)) (start (g .before) .args .first) (start (g .before) .args .k)))
+room : (g : tie.Else2) → CellRoom (heldBy (arrays (start (g .before))))
+    (face (cyclesRead (now (start (g .before) .args .script)) (start (g .before) .args .first) (start (g .before) .args .k)))
 room g =
     let l = g .before in
     let m = l .before .before .before in
@@ -75,7 +87,8 @@ room g =
     let f = e .before in
     let s = start l in
     face-room (arrays s) (s .args .t) (s .pre .0) (now (s .args .script)) (s .args .first) (s .args .k) (s .pre .1) (f .face-no .result) (f .face-no .ensures)
-    (e .if1 .left) (l .before .wide .result) (m .count-cycle-steps .result) (l .cell-no .result) (l .before .wide .ensures) (m .count-cycle-steps .ensures) (l .cell-no .ensures)
+    (e .if1 .left) (l .before .wide .result) (m .count-cycle-steps .result) (l .cell-no .result) (l .before .wide .ensures) (m .count-cycle-steps .ensures)
+    (l .cell-no .ensures)
     (g .if2 .left)
 
 put-cycles-requires : tie.Need-put-cycles-requires
@@ -86,8 +99,10 @@ put-cycles-requires c κs =
     let e = m .before in
     let f = e .before in
     let s = start l in (
-      face-space (arrays s) (s .args .t) (s .pre .0) (now (s .args .script)) (s .args .first) (s .args .k) (s .pre .1) (f .face-no .result) (f .face-no .ensures)
-          (e .if1 .left) (l .before .wide .result) (m .count-cycle-steps .result) (l .cell-no .result) (l .before .wide .ensures) (m .count-cycle-steps .ensures) (l .cell-no .ensures)
+      face-space (arrays s) (s .args .t) (s .pre .0) (now (s .args .script)) (s .args .first) (s .args .k) (s .pre .1) (f .face-no .result)
+          (f .face-no .ensures)
+          (e .if1 .left) (l .before .wide .result) (m .count-cycle-steps .result) (l .cell-no .result) (l .before .wide .ensures)
+          (m .count-cycle-steps .ensures) (l .cell-no .ensures)
           (g .if2 .left),
       (s .pre .0 .long .cycles, s .pre .0 .long .steps),
     )
@@ -110,11 +125,27 @@ returns-3 c =
     let w = c .add-row .ensures in
     let y = w .1 .1 .1 in
     obeyed-face a (s .args .t) (s .pre .0) (now (s .args .script)) (s .args .first) (s .args .k) (s .pre .1) (f .face-no .result) (f .face-no .ensures)
-    (e .if1 .left) (l .before .wide .result) (m .count-cycle-steps .result) (l .cell-no .result) (l .before .wide .ensures) (m .count-cycle-steps .ensures) (l .cell-no .ensures)
+    (e .if1 .left) (l .before .wide .result) (m .count-cycle-steps .result) (l .cell-no .result) (l .before .wide .ensures) (m .count-cycle-steps .ensures)
+    (l .cell-no .ensures)
     (g .if2 .left)
     cs ss (p .put-cycles .ensures .1 .0) (p .put-cycles .ensures .1 .1)
     _
-    (λ i. record { next = w .1 .0 i; count = w .1 .1 .0 i; ids = y .0 i; kinds = y .1 .0 i; starts = y .1 .1 .0 i; ends = y .1 .1 .1 .0 i; bends = y .1 .1 .1 .1 .0 i; counts = y .1 .1 .1 .1 .1 i; px = a .px; py = a .py; cycles = cs; steps = ss; bx = a .bx; by = a .by })
+    (λ i. record {
+      next = w .1 .0 i;
+      count = w .1 .1 .0 i;
+      ids = y .0 i;
+      kinds = y .1 .0 i;
+      starts = y .1 .1 .0 i;
+      ends = y .1 .1 .1 .0 i;
+      bends = y .1 .1 .1 .1 .0 i;
+      counts = y .1 .1 .1 .1 .1 i;
+      px = a .px;
+      py = a .py;
+      cycles = cs;
+      steps = ss;
+      bx = a .bx;
+      by = a .by;
+    })
     _ (w .0)
 
 pub add-face-spec : {M : Type 1} → statement M

@@ -33,13 +33,15 @@ rows s =
     let t = s .args .t in
     rows-of (heldBy a) (ready-sizes a t (s .pre)) (ready-drawing a t (s .pre)) (rowsBy a) (ready-indexes a t (s .pre)) (a .kinds) (s .pre .long .kinds)
 
-goes : (e : tie.Else1) → Glues (heldBy (arrays (start (e .before)))) (glueVertices (start (e .before) .args .a) (start (e .before) .args .b)) (start (e .before) .args .b) (rewired (renamed (start (e .before) .args .a) (start (e .before) .args .b)) one)
+goes : (e : tie.Else1) → Glues (heldBy (arrays (start (e .before)))) (glueVertices (start (e .before) .args .a) (start (e .before) .args .b))
+    (start (e .before) .args .b) (rewired (renamed (start (e .before) .args .a) (start (e .before) .args .b)) one)
 goes e =
     let v = e .before in
     let s = start v in
     let a = arrays s in
     let t = s .args .t in
-    glues-vertices (heldBy a) (ready-sizes a t (s .pre)) (ready-drawing a t (s .pre)) (s .args .a) (s .args .b) (rowsBy a) (ready-indexes a t (s .pre)) (v .vertices-no .result) (v .vertices-no .ensures) (e .if1 .left)
+    glues-vertices (heldBy a) (ready-sizes a t (s .pre)) (ready-drawing a t (s .pre)) (s .args .a) (s .args .b) (rowsBy a) (ready-indexes a t (s .pre))
+    (v .vertices-no .result) (v .vertices-no .ensures) (e .if1 .left)
 
 vertices-no-requires : tie.Need-vertices-no-requires
 vertices-no-requires c κs = rows (c .before .before .before)
@@ -54,7 +56,8 @@ returns c =
     let a = arrays s in
     let t = s .args .t in
     ready-no a t (s .pre) (glueVertices (s .args .a) (s .args .b)) (v .vertices-no .result) _ (c .line-of .ensures)
-    (glue-no (heldBy a) (ready-sizes a t (s .pre)) (ready-drawing a t (s .pre)) (s .args .a) (s .args .b) (rowsBy a) (ready-indexes a t (s .pre)) (v .vertices-no .result) (v .vertices-no .ensures) (c .before .if1 .taken))
+    (glue-no (heldBy a) (ready-sizes a t (s .pre)) (ready-drawing a t (s .pre)) (s .args .a) (s .args .b) (rowsBy a) (ready-indexes a t (s .pre))
+    (v .vertices-no .result) (v .vertices-no .ensures) (c .before .if1 .taken))
 
 find-requires : tie.Need-find-requires
 find-requires c κs = let r = rows (start (c .before .before)) in (r .few, (r .idRows, r .rising))
@@ -68,27 +71,45 @@ rename-vertex-requires c κs =
 
 drop-bare-requires : tie.Need-drop-bare-requires
 drop-bare-requires c κs =
-    let f = c .before .before .before .before .before .before .before .before .before .before .before .before .before .before .before .before .before .before .before in
+    let f = c .before .before .before .before .before .before .before .before .before .before .before .before .before .before .before .before .before .before
+    .before in
     let e = f .before .before in
     let v = e .before in
     let s = start v in
     let r = c .before .before .before .before .before .before .before .before .before .rename-vertex .ensures in
-    let own = vertex-row (arrays s) (s .args .t) (s .pre) (s .args .b) (f .find .result) (f .find .ensures) (goes e .live) (s .args .a) (v .vertices-no .result) (v .vertices-no .ensures) (e .if1 .left) in
-    (r .fits, (r .long, (r .rows, (row-below (arrays s) (s .args .t) (s .pre) (s .args .b) (f .find .result) (f .find .ensures) (goes e .live), (own .0, own .1)))))
+    let own = vertex-row (arrays s) (s .args .t) (s .pre) (s .args .b) (f .find .result) (f .find .ensures) (goes e .live) (s .args .a) (v .vertices-no .result)
+    (v .vertices-no .ensures) (e .if1 .left) in (
+      r .fits,
+      (
+        r .long,
+        (
+          r .rows,
+          (
+            row-below (arrays s) (s .args .t) (s .pre) (s .args .b) (f .find .result) (f .find .ensures) (goes
+                e .live),
+            (own .0, own .1),
+          ),
+        ),
+      ),
+    )
 
 sub-removed : tie.Need-sub-removed
 sub-removed c = omega (arith, c .drop-bare .ensures .0 .few)
 
 cast-removed : tie.Need-cast-removed
-cast-removed c = let s = start (c .before .before .before .before .before .before .before .before .before .before .before .before .before .before .before .before .before .before .before .before .before .before .before) in omega (arith, ready-fits (arrays s) (s .args .t) (s .pre) .cells)
+cast-removed c = let s = start
+    (c .before .before .before .before .before .before .before .before .before .before .before .before .before .before .before .before .before .before .before
+    .before .before .before .before) in omega (arith, ready-fits (arrays s) (s .args .t) (s .pre) .cells)
 
 returns-2 : tie.Need-returns-2
 returns-2 c =
-    let f = c .before .before .before .before .before .before .before .before .before .before .before .before .before .before .before .before .before .before .before .before in
+    let f = c .before .before .before .before .before .before .before .before .before .before .before .before .before .before .before .before .before .before
+    .before .before in
     let e = f .before .before in
     let s = start (e .before) in
     let r = c .before .before .before .before .before .before .before .before .before .before .rename-vertex .ensures in
-    obeyed-glued (arrays s) (s .args .t) (s .pre) (glueVertices (s .args .a) (s .args .b)) (s .args .b) (rewired (renamed (s .args .a) (s .args .b)) one) (goes e) (f .find .result) (f .find .ensures)
+    obeyed-glued (arrays s) (s .args .t) (s .pre) (glueVertices (s .args .a) (s .args .b)) (s .args .b) (rewired (renamed (s .args .a) (s .args .b)) one)
+    (goes e) (f .find .result) (f .find .ensures)
     _ (r .long) (r .fits) (r .sheet) _ (c .drop-bare .ensures .0) refl _ refl
 
 pub glue-vertices-spec : {M : Type 1} → statement M

@@ -31,7 +31,8 @@ returns : tie.Need-returns
 returns c =
     let b = c .before .before in
     let s = b .before in
-    obeyed-no (arrays s) (s .pre .sound) (asked s) 3 _ (c .line-of .ensures) (no-3 _ (asked s) (out-one (asked s) (s .args .p) refl (sym (b .in-bounds .ensures) ∙ not-true _ (c .before .if1 .taken))))
+    obeyed-no (arrays s) (s .pre .sound) (asked s) 3 _ (c .line-of .ensures)
+    (no-3 _ (asked s) (out-one (asked s) (s .args .p) refl (sym (b .in-bounds .ensures) ∙ not-true _ (c .before .if1 .taken))))
 
 value-at-requires : tie.Need-value-at-requires
 value-at-requires c κs =
@@ -66,7 +67,8 @@ put-position-requires c κs =
     let k = f .before in
     let v = k .before in
     let s = v .before .before .before in
-    moved-row (arrays s) (s .pre .long) (s .pre .sound) (s .args .v) (s .args .p) (v .value-at .result) (f .find .result) (v .value-at .ensures) (k .if2 .left) (f .find .ensures)
+    moved-row (arrays s) (s .pre .long) (s .pre .sound) (s .args .v) (s .args .p) (v .value-at .result) (f .find .result) (v .value-at .ensures) (k .if2 .left)
+    (f .find .ensures)
 
 line-of-requires-3 : tie.Need-line-of-requires-3
 line-of-requires-3 c κs = search needs
@@ -78,7 +80,8 @@ returns-3 c =
     let v = f .before .before in
     let b = v .before .before in
     let s = b .before in
-    obeyed-moved (arrays s) (s .pre .long) (s .pre .sound) (s .args .v) (s .args .p) (v .value-at .result) (f .find .result) (v .value-at .ensures) (f .before .if2 .left) (f .find .ensures)
+    obeyed-moved (arrays s) (s .pre .long) (s .pre .sound) (s .args .v) (s .args .p) (v .value-at .result) (f .find .result) (v .value-at .ensures)
+    (f .before .if2 .left) (f .find .ensures)
     (sym (b .in-bounds .ensures) ∙ not-false _ (v .before .if1 .left))
     (p .put-position .last .0) (p .put-position .last .1 .0) (p .put-position .ensures .0) (p .put-position .ensures .1) _ (c .line-of3 .ensures)
 

@@ -20,7 +20,8 @@ abbrev start : tie.After-case-in → tie.Start
 start t = t .before .before .before .before .before .before .before .before .before .before .before .before .before .before .before
 
 -- what is asked, by the case that was found
-asked : (t : tie.After-case-in) (x : Case) → t .case-in .result ≡ x → caseSays (start t .args .i) x ≡ uncutAsked (sheetOf (heldBy (arrays (start t)))) (start t .args .i)
+asked : (t : tie.After-case-in) (x : Case) → t .case-in .result ≡ x
+    → caseSays (start t .args .i) x ≡ uncutAsked (sheetOf (heldBy (arrays (start t)))) (start t .args .i)
 asked t x e = sym (ap (caseSays (start t .args .i)) e) ∙ t .case-in .ensures
 
 case-in-requires : tie.Need-case-in-requires

@@ -23,7 +23,8 @@ abbrev found : tie.After-reface → tie.After-find
 found c = c .before .before .before .before .before .before .before .before .before .before .before .before .before .before .before
 
 abbrev start : tie.After-find → tie.Start
-start r = r .before .before .before .before .before .before .before .before .before .before .before .before .before .before .before .before .before .before .before .before
+start r = r .before .before .before .before .before .before .before .before .before .before .before .before .before .before .before .before .before .before
+    .before .before
 
 -- from there to the list, to where the cycles stand, to the row that holds the cycle, and to its place
 abbrev listed : tie.After-find → tie.After-all-but
@@ -89,7 +90,8 @@ all-but-requires c κs =
 
 find-requires : tie.Need-find-requires
 find-requires c κs =
-    let s = c .before .before .before .before .before .before .before .before .before .before .before .before .before .before .before .before .before .before .before in
+    let s = c .before .before .before .before .before .before .before .before .before .before .before .before .before .before .before .before .before .before
+    .before in
     ready-finds (arrays s) (s .args .t) (s .pre .0)
 
 slice-aggregate-reface : tie.Need-slice-aggregate-reface

@@ -25,7 +25,8 @@ no-uses s i a b c = no-4 s (unglue i) (early-none (unglue i) refl) (ap₂ _||_ a
 abbrev arrays : (c : tie.Start) → Arrays
 arrays c =
     let a = c .args in
-    lent (now (a .next)) (now (a .count)) (a .ids) (a .kinds) (a .starts) (a .ends) (a .bends) (a .counts) (a .px) (a .py) (a .cycles) (a .steps) (a .bx) (a .by)
+    lent (now (a .next)) (now (a .count)) (a .ids) (a .kinds) (a .starts) (a .ends) (a .bends) (a .counts) (a .px) (a .py) (a .cycles) (a .steps) (a .bx)
+    (a .by)
 
 value-at-requires : tie.Need-value-at-requires
 value-at-requires c κs =
@@ -77,7 +78,8 @@ returns-4 c =
     let u = v .value-at .ensures in
     let k = ready-looks a (s .args .t) (s .pre) in
     ready-no a (s .args .t) (s .pre) (unglue i) 4 _ (c .line-of .ensures)
-    (no-uses (sheetOf (heldBy a)) i (sym (vertex-at k i) ∙ ne-eqb _ 0 (λ g. l1 .if1 .left (u ∙ g))) (sym (open-at k i) ∙ ne-eqb _ 1 (λ g. l2 .if2 .left (u ∙ g)))
+    (no-uses (sheetOf (heldBy a)) i (sym (vertex-at k i) ∙ ne-eqb _ 0 (λ g. l1 .if1 .left (u ∙ g)))
+    (sym (open-at k i) ∙ ne-eqb _ 1 (λ g. l2 .if2 .left (u ∙ g)))
     (sym (closed-at k i) ∙ ne-eqb _ 2 (λ g. l3 .if3 .left (u ∙ g))))
 
 pub unglue-spec : {M : Type 1} → statement M

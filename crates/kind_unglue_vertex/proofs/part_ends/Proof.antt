@@ -25,7 +25,8 @@ new-ends-requires c κs =
     let R = s .pre .1 .1 .0 in
     let q = s .pre .1 .1 .1 in
     let w = drawing-of b (r .sound) in
-    end-rows 0 (s .args .at .now) (s .args .groups .now) (b .count) (b .next) (b .starts) (s .args .g) (lit≤ tt) (q .1) (q .2) (R .most) (q .0) (sound-fits (heldBy b) w .cells) (r .long .starts) (next-in (heldBy b) w)
+    end-rows 0 (s .args .at .now) (s .args .groups .now) (b .count) (b .next) (b .starts) (s .args .g) (lit≤ tt) (q .1) (q .2) (R .most) (q .0)
+    (sound-fits (heldBy b) w .cells) (r .long .starts) (next-in (heldBy b) w)
 
 new-ends-requires-2 : tie.Need-new-ends-requires-2
 new-ends-requires-2 c κs =
@@ -35,7 +36,8 @@ new-ends-requires-2 c κs =
     let R = s .pre .1 .1 .0 in
     let q = s .pre .1 .1 .1 in
     let w = drawing-of b (r .sound) in
-    end-rows 1 (s .args .at .now) (s .args .groups .now) (b .count) (b .next) (b .ends) (s .args .g) (lit≤ tt) (q .1) (q .2) (R .most) (q .0) (sound-fits (heldBy b) w .cells) (r .long .ends) (next-in (heldBy b) w)
+    end-rows 1 (s .args .at .now) (s .args .groups .now) (b .count) (b .next) (b .ends) (s .args .g) (lit≤ tt) (q .1) (q .2) (R .most) (q .0)
+    (sound-fits (heldBy b) w .cells) (r .long .ends) (next-in (heldBy b) w)
 
 wide-requires : tie.Need-wide-requires
 wide-requires c κs = search needs
@@ -52,8 +54,13 @@ copy-uses-requires c κs =
     let E = c .before .before .before .before .new-ends2 .ensures in
     let v = s .args .v in
     let g = s .args .g in
-    let t = s .args .t in
-    (mid-held b t r v g _ _ R _ _ A E .1, (mid-long b t r v g _ _ R _ _ A E, (mid-rising b t r v g _ _ R _ _ A E, (mid-cycles b t r v g _ _ R _ _ A E, (next-in (heldBy b) w, omega (arith, c .wide .ensures, q .0))))))
+    let t = s .args .t in (
+      mid-held b t r v g _ _ R _ _ A E .1,
+      (
+        mid-long b t r v g _ _ R _ _ A E,
+        (mid-rising b t r v g _ _ R _ _ A E, (mid-cycles b t r v g _ _ R _ _ A E, (next-in (heldBy b) w, omega (arith, c .wide .ensures, q .0)))),
+      ),
+    )
 
 returns : tie.Need-returns
 returns c =

@@ -22,7 +22,8 @@ is-vertex-requires c κs =
 returns : tie.Need-returns
 returns c =
     let a = c .before .before .before .args in
-    cycle-lone (rowsOf (a .n) (a .ids .now) (a .kinds .now) (a .starts .now) (a .ends .now)) (a .steps .now) (a .from) (a .c) (c .before .before .if1 .taken) _ (c .is-vertex .ensures)
+    cycle-lone (rowsOf (a .n) (a .ids .now) (a .kinds .now) (a .starts .now) (a .ends .now)) (a .steps .now) (a .from) (a .c) (c .before .before .if1 .taken) _
+    (c .is-vertex .ensures)
 
 wide-requires : tie.Need-wide-requires
 wide-requires c κs = search needs
@@ -38,7 +39,8 @@ path-good-requires c κs =
 returns-2 : tie.Need-returns-2
 returns-2 c =
     let a = c .before .before .before .args in
-    cycle-path (rowsOf (a .n) (a .ids .now) (a .kinds .now) (a .starts .now) (a .ends .now)) (a .steps .now) (a .from) (a .c) (c .before .before .if1 .left) _ (c .before .wide .ensures) _ (c .path-good .ensures)
+    cycle-path (rowsOf (a .n) (a .ids .now) (a .kinds .now) (a .starts .now) (a .ends .now)) (a .steps .now) (a .from) (a .c) (c .before .before .if1 .left) _
+    (c .before .wide .ensures) _ (c .path-good .ensures)
 
 pub cycle-good-spec : {M : Type 1} → statement M
 cycle-good-spec =

@@ -21,8 +21,11 @@ abbrev μ-loop : tie.MeasureT-loop
 loop-holds : tie.Need-loop-holds Inv-loop μ-loop
 loop-holds c =
     let a = c .args in
-    let p = c .pre .1 .1 .1 .1 in
-    (omega arith, going-start (rowsOf (a .n) (a .ids .now) (a .kinds .now) (a .starts .now) (a .ends .now)) (a .cycles .now) (a .steps .now) (a .k) (a .m) (a .from) (p .0) (p .1))
+    let p = c .pre .1 .1 .1 .1 in (
+      omega arith,
+      going-start (rowsOf (a .n) (a .ids .now) (a .kinds .now) (a .starts .now)
+          (a .ends .now)) (a .cycles .now) (a .steps .now) (a .k) (a .m) (a .from) (p .0) (p .1),
+    )
 
 add-c : tie.Need-add-c Inv-loop μ-loop
 add-c c = search needs
@@ -44,7 +47,8 @@ returns c =
     let at = c .before .before .before .before in
     let a = at .before .args in
     let p = at .before .pre in
-    going-over (rowsOf (a .n) (a .ids .now) (a .kinds .now) (a .starts .now) (a .ends .now)) (a .cycles .now) (a .steps .now) (a .k) (a .m) (omega (arith, p .1)) (at .loop .at) (at .loop .i) _ (omega arith) (at .loop .inv .1) (c .before .places .ensures) (c .if1 .taken)
+    going-over (rowsOf (a .n) (a .ids .now) (a .kinds .now) (a .starts .now) (a .ends .now)) (a .cycles .now) (a .steps .now) (a .k) (a .m)
+    (omega (arith, p .1)) (at .loop .at) (at .loop .i) _ (omega arith) (at .loop .inv .1) (c .before .places .ensures) (c .if1 .taken)
 
 cycle-good-requires : tie.Need-cycle-good-requires Inv-loop μ-loop
 cycle-good-requires c κs =
@@ -59,7 +63,9 @@ returns-2 c =
     let at = c .before .before .before .before .before .before in
     let a = at .before .args in
     let p = at .before .pre in
-    going-fail (rowsOf (a .n) (a .ids .now) (a .kinds .now) (a .starts .now) (a .ends .now)) (a .cycles .now) (a .steps .now) (a .k) (a .m) (omega (arith, p .1)) (at .loop .at) (at .loop .i) _ (omega arith) (at .loop .inv .1) (c .before .before .before .places .ensures) (sym (c .before .cycle-good .ensures) ∙ not-true _ (c .if2 .taken))
+    going-fail (rowsOf (a .n) (a .ids .now) (a .kinds .now) (a .starts .now) (a .ends .now)) (a .cycles .now) (a .steps .now) (a .k) (a .m)
+    (omega (arith, p .1)) (at .loop .at) (at .loop .i) _ (omega arith) (at .loop .inv .1) (c .before .before .before .places .ensures)
+    (sym (c .before .cycle-good .ensures) ∙ not-true _ (c .if2 .taken))
 
 add-at : tie.Need-add-at Inv-loop μ-loop
 add-at c =
@@ -78,14 +84,19 @@ loop-again : tie.Need-loop-again Inv-loop μ-loop
 loop-again c =
     let at = c .before .before .before .before .before .before in
     let a = at .before .args in
-    let p = at .before .pre in
-    (omega arith, going-turn (rowsOf (a .n) (a .ids .now) (a .kinds .now) (a .starts .now) (a .ends .now)) (a .cycles .now) (a .steps .now) (a .k) (a .m) (omega (arith, p .1)) (at .loop .at) (at .loop .i) _ (omega arith) (at .loop .inv .1) (c .before .before .before .places .ensures) (c .before .before .if1 .left) (sym (c .before .cycle-good .ensures) ∙ not-false _ (c .if2 .left)))
+    let p = at .before .pre in (
+      omega arith,
+      going-turn (rowsOf (a .n) (a .ids .now) (a .kinds .now) (a .starts .now) (a .ends .now)) (a .cycles .now) (a .steps .now) (a .k) (a .m) (omega
+          (arith, p .1)) (at .loop .at) (at .loop .i) _ (omega arith) (at .loop .inv .1) (c .before .before .before .places .ensures)
+          (c .before .before .if1 .left) (sym (c .before .cycle-good .ensures) ∙ not-false _ (c .if2 .left)),
+    )
 
 returns-3 : tie.Need-returns-3 Inv-loop μ-loop
 returns-3 c =
     let at = c .before in
     let a = at .before .args in
-    going-end (rowsOf (a .n) (a .ids .now) (a .kinds .now) (a .starts .now) (a .ends .now)) (a .cycles .now) (a .steps .now) (a .k) (a .m) (at .loop .at) (at .loop .i) (omega arith) (at .loop .inv .1)
+    going-end (rowsOf (a .n) (a .ids .now) (a .kinds .now) (a .starts .now) (a .ends .now)) (a .cycles .now) (a .steps .now) (a .k) (a .m) (at .loop .at)
+    (at .loop .i) (omega arith) (at .loop .inv .1)
 
 pub cycles-good-spec : {M : Type 1} → statement M
 cycles-good-spec =

@@ -22,7 +22,9 @@ returns c =
     let a = s .args in
     let p = s .pre in
     let l = p .0 in
-    path-none (rowsOf (a .n) (a .ids .now) (a .kinds .now) (a .starts .now) (a .ends .now)) (a .steps .now) (a .from) (a .m) (p .1 .1 .0) (omega (arith, p .1)) 4 (step-none (a .n) (a .ids .now) (a .kinds .now) (a .starts .now) (a .ends .now) _ _ (c .before .row-of .ensures) (omega (arith, l .table .few, l .kinds)) (omega arith)) (λ e. omega arith) (λ e. omega arith)
+    path-none (rowsOf (a .n) (a .ids .now) (a .kinds .now) (a .starts .now) (a .ends .now)) (a .steps .now) (a .from) (a .m) (p .1 .1 .0)
+    (omega (arith, p .1)) 4 (step-none (a .n) (a .ids .now) (a .kinds .now) (a .starts .now) (a .ends .now) _ _ (c .before .row-of .ensures)
+    (omega (arith, l .table .few, l .kinds)) (omega arith)) (λ e. omega arith) (λ e. omega arith)
 
 mul-k : tie.Need-mul-k
 mul-k c = search needs
@@ -54,8 +56,11 @@ returns-2 c =
     let p = s .pre in
     let l = p .0 in
     let r = c .before .before .before .before .before .before .row-of .ensures in
-    path-open (rowsOf (a .n) (a .ids .now) (a .kinds .now) (a .starts .now) (a .ends .now)) (a .steps .now) (a .from) (a .m) (p .1 .1 .0) (omega (arith, p .1)) _ (step-kind (a .n) (a .ids .now) (a .kinds .now) (a .starts .now) (a .ends .now) _ _ r (omega (arith, l .table .few, l .kinds)) (omega (arith, c .before .before .before .before .before .if1 .left))) (c .before .before .before .if2 .taken) _ _
-    (step-head (a .n) (a .ids .now) (a .kinds .now) (a .starts .now) (a .ends .now) _ _ r _ (c .before .before .side .ensures)) (step-tail (a .n) (a .ids .now) (a .kinds .now) (a .starts .now) (a .ends .now) _ _ r _ (c .before .side2 .ensures)) _ (c .walk .ensures)
+    path-open (rowsOf (a .n) (a .ids .now) (a .kinds .now) (a .starts .now) (a .ends .now)) (a .steps .now) (a .from) (a .m) (p .1 .1 .0)
+    (omega (arith, p .1)) _ (step-kind (a .n) (a .ids .now) (a .kinds .now) (a .starts .now) (a .ends .now) _ _ r (omega (arith, l .table .few, l .kinds))
+    (omega (arith, c .before .before .before .before .before .if1 .left))) (c .before .before .before .if2 .taken) _ _
+    (step-head (a .n) (a .ids .now) (a .kinds .now) (a .starts .now) (a .ends .now) _ _ r _ (c .before .before .side .ensures))
+    (step-tail (a .n) (a .ids .now) (a .kinds .now) (a .starts .now) (a .ends .now) _ _ r _ (c .before .side2 .ensures)) _ (c .walk .ensures)
 
 add-repeated : tie.Need-add-repeated
 add-repeated c = search needs
@@ -72,7 +77,10 @@ returns-3 c =
     let a = s .args in
     let p = s .pre in
     let l = p .0 in
-    path-closed (rowsOf (a .n) (a .ids .now) (a .kinds .now) (a .starts .now) (a .ends .now)) (a .steps .now) (a .from) (a .m) (p .1 .1 .0) (omega (arith, p .1)) _ (step-kind (a .n) (a .ids .now) (a .kinds .now) (a .starts .now) (a .ends .now) _ _ (c .before .before .before .before .before .row-of .ensures) (omega (arith, l .table .few, l .kinds)) (omega (arith, c .before .before .before .before .if1 .left))) (c .before .if3 .taken) _ (c .repeated .ensures)
+    path-closed (rowsOf (a .n) (a .ids .now) (a .kinds .now) (a .starts .now) (a .ends .now)) (a .steps .now) (a .from) (a .m) (p .1 .1 .0)
+    (omega (arith, p .1)) _ (step-kind (a .n) (a .ids .now) (a .kinds .now) (a .starts .now) (a .ends .now) _ _
+    (c .before .before .before .before .before .row-of .ensures) (omega (arith, l .table .few, l .kinds))
+    (omega (arith, c .before .before .before .before .if1 .left))) (c .before .if3 .taken) _ (c .repeated .ensures)
 
 returns-4 : tie.Need-returns-4
 returns-4 c =
@@ -80,7 +88,10 @@ returns-4 c =
     let a = s .args in
     let p = s .pre in
     let l = p .0 in
-    path-none (rowsOf (a .n) (a .ids .now) (a .kinds .now) (a .starts .now) (a .ends .now)) (a .steps .now) (a .from) (a .m) (p .1 .1 .0) (omega (arith, p .1)) _ (step-kind (a .n) (a .ids .now) (a .kinds .now) (a .starts .now) (a .ends .now) _ _ (c .before .before .before .before .row-of .ensures) (omega (arith, l .table .few, l .kinds)) (omega (arith, c .before .before .before .if1 .left))) (c .before .if2 .left) (c .if3 .left)
+    path-none (rowsOf (a .n) (a .ids .now) (a .kinds .now) (a .starts .now) (a .ends .now)) (a .steps .now) (a .from) (a .m) (p .1 .1 .0)
+    (omega (arith, p .1)) _ (step-kind (a .n) (a .ids .now) (a .kinds .now) (a .starts .now) (a .ends .now) _ _
+    (c .before .before .before .before .row-of .ensures) (omega (arith, l .table .few, l .kinds)) (omega (arith, c .before .before .before .if1 .left)))
+    (c .before .if2 .left) (c .if3 .left)
 
 pub path-good-spec : {M : Type 1} → statement M
 path-good-spec =

@@ -33,7 +33,8 @@ returns : tie.Need-returns Inv-loop μ-loop
 returns c =
     let at = c .before .before .before in
     let a = at .before .args in
-    sym (testing-fail (eqb (a .s)) (drop (a .from) (a .steps .now)) (a .m) (at .loop .i) 0 (room (a .steps .now) (a .from) (a .m) (omega arith)) (omega arith) (at .loop .inv .1)
+    sym (testing-fail (eqb (a .s)) (drop (a .from) (a .steps .now)) (a .m) (at .loop .i) 0 (room (a .steps .now) (a .from) (a .m) (omega arith)) (omega arith)
+    (at .loop .inv .1)
     (ne-eqb (a .s) _ (λ u. c .if1 .taken (u ∙ sym (step-at (a .steps .now) (a .from) (at .loop .i))))))
 
 add-i : tie.Need-add-i Inv-loop μ-loop
@@ -47,7 +48,8 @@ loop-again c =
     let at = c .before .before .before in
     let a = at .before .args in (
       omega arith,
-      testing-turn (eqb (a .s)) (drop (a .from) (a .steps .now)) (a .m) (at .loop .i) 0 (room (a .steps .now) (a .from) (a .m) (omega arith)) (omega arith) (at .loop .inv .1)
+      testing-turn (eqb (a .s)) (drop (a .from) (a .steps .now)) (a .m) (at .loop .i) 0 (room (a .steps .now) (a .from) (a .m) (omega arith)) (omega arith)
+          (at .loop .inv .1)
           (eq-eqb (a .s) _ (c .if1 .left ∙ step-at (a .steps .now) (a .from) (at .loop .i))),
     )
 
@@ -55,7 +57,8 @@ returns-2 : tie.Need-returns-2 Inv-loop μ-loop
 returns-2 c =
     let at = c .before in
     let a = at .before .args in
-    sym (testing-end (eqb (a .s)) (drop (a .from) (a .steps .now)) (a .m) (at .loop .i) (room (a .steps .now) (a .from) (a .m) (omega arith)) (omega arith) (at .loop .inv .1))
+    sym (testing-end (eqb (a .s)) (drop (a .from) (a .steps .now)) (a .m) (at .loop .i) (room (a .steps .now) (a .from) (a .m) (omega arith)) (omega arith)
+    (at .loop .inv .1))
 
 pub repeated-spec : {M : Type 1} → statement M
 repeated-spec =

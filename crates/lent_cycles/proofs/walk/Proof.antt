@@ -38,8 +38,10 @@ returns c =
     let s = at .before in
     let a = s .args in
     let p = s .pre .0 in
-    leading-fail (rowsOf (a .n) (a .ids .now) (a .kinds .now) (a .starts .now) (a .ends .now)) (a .steps .now) (a .from) (a .m) (a .u) (a .w) (omega arith) (at .loop .at) (at .loop .i) (omega arith) (at .loop .inv .1)
-    (step-dead (a .n) (a .ids .now) (a .kinds .now) (a .starts .now) (a .ends .now) _ _ (c .before .row-of .ensures) (omega (arith, p .table .few, p .kinds)) (omega arith) (at .loop .at))
+    leading-fail (rowsOf (a .n) (a .ids .now) (a .kinds .now) (a .starts .now) (a .ends .now)) (a .steps .now) (a .from) (a .m) (a .u) (a .w) (omega arith)
+    (at .loop .at) (at .loop .i) (omega arith) (at .loop .inv .1)
+    (step-dead (a .n) (a .ids .now) (a .kinds .now) (a .starts .now) (a .ends .now) _ _ (c .before .row-of .ensures) (omega (arith, p .table .few, p .kinds))
+    (omega arith) (at .loop .at))
 
 goes-on-requires : tie.Need-goes-on-requires Inv-loop μ-loop
 goes-on-requires c κs =
@@ -51,8 +53,10 @@ returns-2 c =
     let at = c .before .before .before .before .before .before in
     let s = at .before in
     let a = s .args in
-    leading-fail (rowsOf (a .n) (a .ids .now) (a .kinds .now) (a .starts .now) (a .ends .now)) (a .steps .now) (a .from) (a .m) (a .u) (a .w) (omega arith) (at .loop .at) (at .loop .i) (omega arith) (at .loop .inv .1)
-    (step-goes (a .n) (a .ids .now) (a .kinds .now) (a .starts .now) (a .ends .now) _ _ (c .before .before .before .row-of .ensures) (at .loop .at) _ (c .before .goes-on .ensures) ∙ not-true _ (c .if2 .taken))
+    leading-fail (rowsOf (a .n) (a .ids .now) (a .kinds .now) (a .starts .now) (a .ends .now)) (a .steps .now) (a .from) (a .m) (a .u) (a .w) (omega arith)
+    (at .loop .at) (at .loop .i) (omega arith) (at .loop .inv .1)
+    (step-goes (a .n) (a .ids .now) (a .kinds .now) (a .starts .now) (a .ends .now) _ _ (c .before .before .before .row-of .ensures) (at .loop .at) _
+    (c .before .goes-on .ensures) ∙ not-true _ (c .if2 .taken))
 
 side-requires : tie.Need-side-requires Inv-loop μ-loop
 side-requires c κs =
@@ -72,9 +76,12 @@ loop-again c =
     let s = at .before in
     let a = s .args in (
       omega (arith, turn),
-      leading-turn (rowsOf (a .n) (a .ids .now) (a .kinds .now) (a .starts .now) (a .ends .now)) (a .steps .now) (a .from) (a .m) (a .u) (a .w) (omega (arith, turn)) (at .loop .at) (at .loop .i) (omega (arith, turn)) (at .loop .inv .1)
-          (step-goes (a .n) (a .ids .now) (a .kinds .now) (a .starts .now) (a .ends .now) _ _ (c .before .before .before .before .row-of .ensures) (at .loop .at) _ (c .before .before .goes-on .ensures) ∙ not-false _ (c .before .if2 .left)) _
-          (step-head (a .n) (a .ids .now) (a .kinds .now) (a .starts .now) (a .ends .now) _ _ (c .before .before .before .before .row-of .ensures) _ (c .side .ensures)),
+      leading-turn (rowsOf (a .n) (a .ids .now) (a .kinds .now) (a .starts .now) (a .ends .now)) (a .steps .now) (a .from) (a .m) (a .u) (a .w)
+          (omega (arith, turn)) (at .loop .at) (at .loop .i) (omega (arith, turn)) (at .loop .inv .1)
+          (step-goes (a .n) (a .ids .now) (a .kinds .now) (a .starts .now) (a .ends .now) _ _ (c .before .before .before .before .row-of .ensures)
+          (at .loop .at) _ (c .before .before .goes-on .ensures) ∙ not-false _ (c .before .if2 .left)) _
+          (step-head (a .n) (a .ids .now) (a .kinds .now) (a .starts .now) (a .ends .now) _ _ (c .before .before .before .before .row-of .ensures) _
+          (c .side .ensures)),
     )
 
 returns-3 : tie.Need-returns-3 Inv-loop μ-loop
@@ -82,7 +89,8 @@ returns-3 c =
     let at = c .before in
     let s = at .before in
     let a = s .args in
-    leading-end (rowsOf (a .n) (a .ids .now) (a .kinds .now) (a .starts .now) (a .ends .now)) (a .steps .now) (a .from) (a .m) (a .u) (a .w) (omega arith) (at .loop .at) (at .loop .i) (omega arith) (at .loop .inv .1)
+    leading-end (rowsOf (a .n) (a .ids .now) (a .kinds .now) (a .starts .now) (a .ends .now)) (a .steps .now) (a .from) (a .m) (a .u) (a .w) (omega arith)
+    (at .loop .at) (at .loop .i) (omega arith) (at .loop .inv .1)
 
 pub walk-spec : {M : Type 1} → statement M
 walk-spec =

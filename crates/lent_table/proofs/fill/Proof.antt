@@ -46,14 +46,18 @@ loop-less c = search needs
 loop-again : tie.Need-loop-again Inv-loop μ-loop
 loop-again c =
     let at = c .before .before .before in
-    let s = at .before .before .before .before in
-    (omega arith, filling-turn (at .loop .table) (s .args .ids .now) (s .args .n) (at .loop .i) _ _ (at .loop .inv .1) (omega arith) (ap (λ (x : ℕ). x % 1024) (c .wide .ensures)) (omega arith))
+    let s = at .before .before .before .before in (
+      omega arith,
+      filling-turn (at .loop .table) (s .args .ids .now) (s .args .n) (at .loop .i) _ _ (at .loop .inv .1) (omega arith) (ap (λ (x : ℕ). x % 1024)
+          (c .wide .ensures)) (omega arith),
+    )
 
 returns : tie.Need-returns Inv-loop μ-loop
 returns c =
     let at = c .before in
     let s = at .before .before .before .before in
-    filling-end (at .loop .table) (s .args .ids .now) (s .args .n) (at .loop .i) (omega arith) (at .loop .inv .1) (omega arith) (at .before .before .before .rows-long .ensures)
+    filling-end (at .loop .table) (s .args .ids .now) (s .args .n) (at .loop .i) (omega arith) (at .loop .inv .1) (omega arith)
+    (at .before .before .before .rows-long .ensures)
 
 pub fill-spec : {M : Type 1} → statement M
 fill-spec =

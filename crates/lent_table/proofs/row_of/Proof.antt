@@ -24,7 +24,8 @@ returns : tie.Need-returns
 returns c =
     let s = c .before .before .before .before .before .before in
     let a = s .args in
-    hinted (a .n) (a .table .now) (a .ids .now) (s .pre) (a .id) _ _ (c .before .before .before .before .before .wide .ensures) (c .before .before .before .row-in .ensures) (omega arith) (c .if2 .taken)
+    hinted (a .n) (a .table .now) (a .ids .now) (s .pre) (a .id) _ _ (c .before .before .before .before .before .wide .ensures)
+    (c .before .before .before .row-in .ensures) (omega arith) (c .if2 .taken)
 
 search-requires : tie.Need-search-requires
 search-requires c κs = let p = c .before .before .before .before .pre in (p .few, p .ids)

@@ -1,4 +1,5 @@
--- `number::number_width` meets its contract. The loop's invariant: the bytes counted and those of what is left are one more than the bytes of n. Assumes nothing.
+-- `number::number_width` meets its contract. The loop's invariant: the bytes counted and those of what is left are one more than the bytes of n.
+-- Assumes nothing.
 use Prim.Native.Nat.{ℕ, suc, _+_, _/_, _≤_, _<_}
 use mathlib.Core.Path.{_≡_, ap}
 use native.Mathlib.Omega.{arith}

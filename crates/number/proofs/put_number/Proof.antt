@@ -1,4 +1,5 @@
--- `number::put_number` meets its contract. The loop's invariant: what is left of n, spelled at the place that the loop is at, makes the bytes that n spelled at the first place makes. Assumes nothing.
+-- `number::put_number` meets its contract.
+-- The loop's invariant: what is left of n, spelled at the place that the loop is at, makes the bytes that n spelled at the first place makes. Assumes nothing.
 use Prim.Native.Nat.{ℕ, suc, _+_, _/_, _%_, _≤_, _<_}
 use mathlib.Core.Path.{_≡_, refl, sym, ap, _∙_}
 use mathlib.Core.List.{List}

@@ -30,7 +30,8 @@ returns c =
     piece-long (arrays s) (now (s .args .script)) (s .args .at) (s .pre) (i .if1 .taken) (t .too-long .ensures)
 
 put-lines-requires : tie.Need-put-lines-requires
-put-lines-requires c κs = c .before .before .before .before .before .before .before .before .before .before .before .before .before .before .before .before .before .before .pre
+put-lines-requires c κs =
+    c .before .before .before .before .before .before .before .before .before .before .before .before .before .before .before .before .before .before .pre
 
 same-length-2 : tie.Need-same-length-2
 same-length-2 c = same-size (c .before .before .before .before .put-lines .ensures .0)
@@ -70,7 +71,9 @@ put-last-requires c κs =
 same-length-4 : tie.Need-same-length-4
 same-length-4 c =
     let q = c .before .before in
-    put-length (q .put-last .ensures) ∙ same-size (q .before .before .before .before .before .before .before .before .before .before .before .before .before .before .before .before .before .before .before .before .before .put-lines .ensures .0)
+    put-length (q .put-last .ensures) ∙ same-size
+    (q .before .before .before .before .before .before .before .before .before .before .before .before .before .before .before .before .before .before
+    .before .before .before .put-lines .ensures .0)
 
 returns-4 : tie.Need-returns-4
 returns-4 c =
@@ -81,7 +84,8 @@ returns-4 c =
     let e = same-size v in
     let r = v .room in
     let h = f .if3 .left in
-    piece-last v (p .before .before .before .before .before .before .before .before .before .before .before .before .before .before .before .before .if1 .left) (f .before .if2 .left) (omega arith) (q .put-last .ensures)
+    piece-last v (p .before .before .before .before .before .before .before .before .before .before .before .before .before .before .before .before .if1 .left)
+    (f .before .if2 .left) (omega arith) (q .put-last .ensures)
 
 pub piece-spec : {M : Type 1} → statement M
 piece-spec =

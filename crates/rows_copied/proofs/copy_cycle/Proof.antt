@@ -30,7 +30,8 @@ same-length c = search needs
 returns : tie.Need-returns
 returns c =
     let a = c .before .before .before .before .before .before .before .args in
-    subst (λ (u : Use). Changed (copied u (a .i) (a .next) (a .k)) (a .c) (a .l .now) (c .before .before .copy-path .last .1 .0)) (sym (c .before .before .before .before .enum-told .given .1)) (c .before .before .copy-path .ensures)
+    subst (λ (u : Use). Changed (copied u (a .i) (a .next) (a .k)) (a .c) (a .l .now) (c .before .before .copy-path .last .1 .0))
+    (sym (c .before .before .before .before .enum-told .given .1)) (c .before .before .copy-path .ensures)
 
 same-length-2 : tie.Need-same-length-2
 same-length-2 c = search needs
@@ -38,7 +39,8 @@ same-length-2 c = search needs
 returns-2 : tie.Need-returns-2
 returns-2 c =
     let a = c .before .before .before .before .before .before .before .args in
-    subst (λ (u : Use). Changed (copied u (a .i) (a .next) (a .k)) (a .c) (a .l .now) (c .before .before .copy-path2 .last .1 .0)) (sym (c .before .before .before .before .enum-told2 .given .1)) (c .before .before .copy-path2 .ensures)
+    subst (λ (u : Use). Changed (copied u (a .i) (a .next) (a .k)) (a .c) (a .l .now) (c .before .before .copy-path2 .last .1 .0))
+    (sym (c .before .before .before .before .enum-told2 .given .1)) (c .before .before .copy-path2 .ensures)
 
 same-length-3 : tie.Need-same-length-3
 same-length-3 c = search needs
@@ -46,7 +48,8 @@ same-length-3 c = search needs
 returns-3 : tie.Need-returns-3
 returns-3 c =
     let a = c .before .before .before .before .before .before .before .args in
-    subst (λ (u : Use). Changed (copied u (a .i) (a .next) (a .k)) (a .c) (a .l .now) (c .before .before .copy-lone .last .1 .0)) (sym (c .before .before .before .before .enum-told3 .given .1)) (c .before .before .copy-lone .ensures)
+    subst (λ (u : Use). Changed (copied u (a .i) (a .next) (a .k)) (a .c) (a .l .now) (c .before .before .copy-lone .last .1 .0))
+    (sym (c .before .before .before .before .enum-told3 .given .1)) (c .before .before .copy-lone .ensures)
 
 pub copy-cycle-spec : {M : Type 1} → statement M
 copy-cycle-spec =

@@ -44,8 +44,11 @@ loop-less c = search needs
 loop-again : tie.Need-loop-again Inv-loop μ-loop
 loop-again c =
     let at = c .before .before .before .before in
-    let a = at .before .before .args in
-    (omega arith, running-turn (a .each) (a .i) (a .next) (a .k0) (a .l .now) (at .loop .j) (at .loop .k) (at .loop .l) _ _ (omega arith) (at .loop .inv .1) (c .before .copy-word .ensures) (c .next-use .ensures))
+    let a = at .before .before .args in (
+      omega arith,
+      running-turn (a .each) (a .i) (a .next) (a .k0) (a .l .now) (at .loop .j) (at .loop .k) (at .loop .l) _ _ (omega
+          arith) (at .loop .inv .1) (c .before .copy-word .ensures) (c .next-use .ensures),
+    )
 
 same-length : tie.Need-same-length Inv-loop μ-loop
 same-length c = c .before .loop .inv .1 .size

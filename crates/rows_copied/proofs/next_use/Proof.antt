@@ -14,7 +14,8 @@ add-result : tie.Need-add-result
 add-result c = search needs
 
 returns : tie.Need-returns
-returns c = let a = c .before .before .args in ap (λ (n : ℕ). a .k + n) (c .word-use .ensures .0) ∙ ap (λ (b : Bool). usesAfter b (a .i) (a .k) (a .s)) (sym (c .before .if1 .taken))
+returns c = let a = c .before .before .args in ap (λ (n : ℕ). a .k + n) (c .word-use .ensures .0)
+    ∙ ap (λ (b : Bool). usesAfter b (a .i) (a .k) (a .s)) (sym (c .before .if1 .taken))
 
 returns-2 : tie.Need-returns-2
 returns-2 c = search needs

@@ -21,8 +21,11 @@ returns : tie.Need-returns
 returns c =
     let i = c .before .before .before .before .before in
     let st = i .before .before in
-    let a = st .args in
-    (c .before .before .copy-run .ensures .0, pasted-short (a .steps .now) (a .base) (a .n) (a .from) (a .len) (a .out .now) (a .at) (st .pre) (i .if1 .taken) _ (c .before .before .copy-run .ensures .1))
+    let a = st .args in (
+      c .before .before .copy-run .ensures .0,
+      pasted-short (a .steps .now) (a .base) (a .n) (a .from) (a .len) (a .out .now) (a .at) (st .pre) (i .if1 .taken) _
+          (c .before .before .copy-run .ensures .1),
+    )
 
 add-copy-run-2 : tie.Need-add-copy-run-2
 add-copy-run-2 c = search needs
@@ -45,8 +48,12 @@ returns-2 c =
     let i = one .before .before .before in
     let st = i .before .before in
     let a = st .args in
-    let g = i .if1 .left in
-    (omega (arith, c .before .before .copy-run3 .ensures .0, one .copy-run2 .ensures .0), pasted-long (a .steps .now) (a .base) (a .n) (a .from) (a .len) (a .out .now) (a .at) (st .pre) g _ _ (one .copy-run2 .result) (one .copy-run2 .ensures .0) (one .copy-run2 .ensures .1) (c .before .before .copy-run3 .ensures .1))
+    let g = i .if1 .left in (
+      omega (arith, c .before .before .copy-run3 .ensures .0, one .copy-run2 .ensures .0),
+      pasted-long (a .steps .now) (a .base) (a .n) (a .from) (a .len)
+          (a .out .now) (a .at) (st .pre) g _ _ (one .copy-run2 .result) (one .copy-run2 .ensures .0) (one .copy-run2 .ensures .1)
+          (c .before .before .copy-run3 .ensures .1),
+    )
 
 pub copy-arc-spec : {M : Type 1} → statement M
 copy-arc-spec =

@@ -49,7 +49,8 @@ returns c =
     let f = at .before .args .flags .now in
     let l : length f ≡ 512 = at .before .pre .0 in
     let s = at .loop .inv .2 in
-    sym (take-all 512 (at .loop .out) (omega arith)) ∙ ap (λ (n : ℕ). take n (at .loop .out)) (sym e) ∙ at .loop .inv .1 .front ∙ ap (λ (n : ℕ). map not (take n f)) e ∙ ap (map not) (take-all 512 f (omega arith))
+    sym (take-all 512 (at .loop .out) (omega arith)) ∙ ap (λ (n : ℕ). take n (at .loop .out)) (sym e) ∙ at .loop .inv .1 .front
+    ∙ ap (λ (n : ℕ). map not (take n f)) e ∙ ap (map not) (take-all 512 f (omega arith))
 
 pub others-spec : {M : Type 1} → statement M
 others-spec =

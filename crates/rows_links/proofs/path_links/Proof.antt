@@ -52,7 +52,8 @@ loop-again c =
     let st = q .before .before .before .before .before .before in
     let i = q .before .loop .inv .1 in
     let k = p .put-link .kept .1 .1 .1 .1 .1 in
-    let w = path-turn _ _ (st .pre .1 .0) _ _ (q .before .loop .j) _ (q .loop-test .taken) (n .next-step .ensures) _ _ _ _ _ _ _ _ _ (i .put) (p .put-link .ensures) in
+    let w = path-turn _ _ (st .pre .1 .0) _ _ (q .before .loop .j) _ (q .loop-test .taken) (n .next-step .ensures) _ _ _ _ _ _ _ _ _ (i .put)
+    (p .put-link .ensures) in
     (omega arith, linking-on _ _ 1 _ (omega arith) i (k .0) (k .1 .0) w)
 
 same-length : tie.Need-same-length Inv-loop μ-loop
@@ -66,7 +67,8 @@ returns c =
     let st = c .before .before .before .before .before .before in
     let a = st .args in
     let n = path-length (a .c) (a .l .now) (st .pre .1 .0) in
-    put-as _ _ _ _ (take-all (c .before .loop .j) (passages (map halfedgeOf (take (a .c) (a .l .now)))) (omega arith)) _ _ _ _ _ _ (c .before .loop .inv .1 .put)
+    put-as _ _ _ _ (take-all (c .before .loop .j) (passages (map halfedgeOf (take (a .c) (a .l .now)))) (omega arith)) _ _ _ _ _ _
+    (c .before .loop .inv .1 .put)
 
 pub path-links-spec : {M : Type 1} → statement M
 path-links-spec =

@@ -38,7 +38,8 @@ add-sum c =
     let a = at .before .before .args in
     let l = drop (a .from) (a .counts .now) in
     let z = length-drop (a .from) (a .counts .now) in
-    let e = ap₂ _+_ (at .loop .inv .1) (c .places .ensures ∙ ap (placesOf (a .z)) (sym (getD-drop (a .from) (a .counts .now) (at .loop .i) 0))) ∙ sym (sum-more (placesOf (a .z)) l (at .loop .i) 0 (omega arith)) in
+    let e = ap₂ _+_ (at .loop .inv .1) (c .places .ensures ∙ ap (placesOf (a .z)) (sym (getD-drop (a .from) (a .counts .now) (at .loop .i) 0)))
+    ∙ sym (sum-more (placesOf (a .z)) l (at .loop .i) 0 (omega arith)) in
     let h = sum-le (placesOf (a .z)) l (at .loop .i + 1) (a .n) (omega arith) in
     record { fits = omega (arith, e, h, at .before .before .pre .1) }
 
@@ -54,7 +55,8 @@ loop-again c =
     let a = at .before .before .args in
     let l = drop (a .from) (a .counts .now) in
     let z = length-drop (a .from) (a .counts .now) in
-    let e = ap₂ _+_ (at .loop .inv .1) (c .places .ensures ∙ ap (placesOf (a .z)) (sym (getD-drop (a .from) (a .counts .now) (at .loop .i) 0))) ∙ sym (sum-more (placesOf (a .z)) l (at .loop .i) 0 (omega arith)) in
+    let e = ap₂ _+_ (at .loop .inv .1) (c .places .ensures ∙ ap (placesOf (a .z)) (sym (getD-drop (a .from) (a .counts .now) (at .loop .i) 0)))
+    ∙ sym (sum-more (placesOf (a .z)) l (at .loop .i) 0 (omega arith)) in
     (omega arith, e)
 
 returns : tie.Need-returns Inv-loop μ-loop

@@ -31,7 +31,8 @@ span-of-requires-2 c κs =
     let a = st .args in
     let e : a .row + 1 + (a .n - (a .row + 1)) ≡ a .n = omega (arith, st .pre .1 .0) in
     let g : c .span-of .result .first + c .span-of .result .count + c .span-of .result .rest ≡ total (placesOf 0) (take (a .n) (a .at .now)) =
-    ap (λ (s : Span). s .first + s .count + s .rest) (c .span-of .ensures) ∙ span-sum 0 (a .at .now) (rowSpan (a .n) (a .row)) ∙ ap (λ (k : ℕ). total (placesOf 0) (take k (a .at .now))) e
+    ap (λ (s : Span). s .first + s .count + s .rest) (c .span-of .ensures) ∙ span-sum 0 (a .at .now) (rowSpan (a .n) (a .row))
+    ∙ ap (λ (k : ℕ). total (placesOf 0) (take k (a .at .now))) e
     in
     (omega (arith, g, st .pre .1 .1 .0), rw g (st .pre .1 .1 .1 .1))
 

@@ -43,8 +43,12 @@ loop-again : tie.Need-loop-again Inv-loop μ-loop
 loop-again c =
     let at = c .before .before .before in
     let a = at .before .args in
-    let m = bit-most (getD (a .marks .now) (at .loop .i) false) in
-    (omega arith, omega (arith, m, c .one-if .ensures, at .loop .inv), sum-on bit (a .marks .now) (a .n) (at .loop .i) false (omega arith) (omega arith) (at .loop .sum) (at .loop .inv .2) _ (c .one-if .ensures))
+    let m = bit-most (getD (a .marks .now) (at .loop .i) false) in (
+      omega arith,
+      omega (arith, m, c .one-if .ensures, at .loop .inv),
+      sum-on bit (a .marks .now) (a .n) (at .loop .i) false (omega arith) (omega
+          arith) (at .loop .sum) (at .loop .inv .2) _ (c .one-if .ensures),
+    )
 
 returns : tie.Need-returns Inv-loop μ-loop
 returns c =

@@ -26,10 +26,12 @@ returns c =
     let a = k .before .before .args in
     let xs = picked (take (a .n) (a .marks .now)) (take (a .n) (a .ids .now)) in
     let e : length xs ≡ k .count-marked .result =
-    picked-length (take (a .n) (a .marks .now)) (take (a .n) (a .ids .now)) (length-take-le (a .n) (a .marks .now) (omega arith) ∙ sym (length-take-le (a .n) (a .ids .now) (omega arith)))
+    picked-length (take (a .n) (a .marks .now)) (take (a .n) (a .ids .now))
+    (length-take-le (a .n) (a .marks .now) (omega arith) ∙ sym (length-take-le (a .n) (a .ids .now) (omega arith)))
     ∙ sym (k .count-marked .ensures)
     in
-    filled-room xs (a .buffer .now) (k .count-marked .result) (sym e) (omega arith) _ (c .before .before .list-marked .ensures ∙ ap (λ (n : ℕ). xs ++ drop n (a .buffer .now)) (sym (k .count-marked .ensures)))
+    filled-room xs (a .buffer .now) (k .count-marked .result) (sym e) (omega arith) _
+    (c .before .before .list-marked .ensures ∙ ap (λ (n : ℕ). xs ++ drop n (a .buffer .now)) (sym (k .count-marked .ensures)))
 
 returns-2 : tie.Need-returns-2
 returns-2 c =
@@ -37,7 +39,8 @@ returns-2 c =
     let a = k .before .before .args in
     let xs = picked (take (a .n) (a .marks .now)) (take (a .n) (a .ids .now)) in
     let e : length xs ≡ k .count-marked .result =
-    picked-length (take (a .n) (a .marks .now)) (take (a .n) (a .ids .now)) (length-take-le (a .n) (a .marks .now) (omega arith) ∙ sym (length-take-le (a .n) (a .ids .now) (omega arith)))
+    picked-length (take (a .n) (a .marks .now)) (take (a .n) (a .ids .now))
+    (length-take-le (a .n) (a .marks .now) (omega arith) ∙ sym (length-take-le (a .n) (a .ids .now) (omega arith)))
     ∙ sym (k .count-marked .ensures)
     in
     filled-short xs (a .buffer .now) (k .count-marked .result) (sym e) (omega arith)

@@ -45,7 +45,8 @@ add-at c =
     let at = c .before .before .before .before .before .before .before .before in
     let s = at .before .before in
     let a = s .args in
-    let w = sum-within bit (a .marks .now) (a .n) (at .loop .i) false (omega arith) (omega arith) (at .loop .at) (at .loop .inv .2 .count) _ (c .one-if .ensures) in
+    let w = sum-within bit (a .marks .now) (a .n) (at .loop .i) false (omega arith) (omega arith) (at .loop .at) (at .loop .inv .2 .count) _
+    (c .one-if .ensures) in
     record { fits = omega (arith, w, s .pre, s .good) }
 
 add-i : tie.Need-add-i Inv-loop μ-loop
@@ -64,7 +65,8 @@ loop-again c =
     let w = sum-within bit (a .marks .now) (a .n) i false (omega arith) (omega arith) (at .loop .at) (at .loop .inv .2 .count) _ e in (
       omega arith,
       c .before .before .before .put-if .kept .1 .1 .0 ∙ at .loop .inv .1,
-      picking-turn (a .marks .now) (a .ids .now) (a .out .now) i (at .loop .at) (at .loop .out) false 0 (omega arith) (omega arith) (at .loop .inv .2) _ refl _ e (omega (arith, w, s .pre)) _
+      picking-turn (a .marks .now) (a .ids .now) (a .out .now) i (at .loop .at) (at .loop .out) false 0 (omega arith) (omega arith)
+          (at .loop .inv .2) _ refl _ e (omega (arith, w, s .pre)) _
           (c .before .before .before .put-if .ensures),
     )
 

@@ -30,14 +30,18 @@ returns c =
     let a = f .before .before .args in
     let l = length-take-le (a .n) (a .ids .now) (omega arith) in
     g .give-marked .ensures
-    ∙ row-found (take (a .n) (a .ids .now)) (take (a .n) (a .kinds .now)) (take (a .n) (a .starts .now)) (take (a .n) (a .ends .now)) (take (a .n) (a .counts .now)) (a .cycles .now) (a .steps .now) (a .id) (a .buffer .now) (f .find .result) (f .find .ensures) (omega (arith, l, m .before .before .if1 .taken)) _ (m .mark-star .ensures .0)
+    ∙ row-found (take (a .n) (a .ids .now)) (take (a .n) (a .kinds .now)) (take (a .n) (a .starts .now)) (take (a .n) (a .ends .now))
+    (take (a .n) (a .counts .now)) (a .cycles .now) (a .steps .now) (a .id) (a .buffer .now) (f .find .result) (f .find .ensures)
+    (omega (arith, l, m .before .before .if1 .taken)) _ (m .mark-star .ensures .0)
 
 returns-2 : tie.Need-returns-2
 returns-2 c =
     let f = c .before in
     let a = f .before .before .args in
     let l = length-take-le (a .n) (a .ids .now) (omega arith) in
-    row-missing (take (a .n) (a .ids .now)) (take (a .n) (a .kinds .now)) (take (a .n) (a .starts .now)) (take (a .n) (a .ends .now)) (take (a .n) (a .counts .now)) (a .cycles .now) (a .steps .now) (a .id) (a .buffer .now) (f .find .result) (f .find .ensures) (omega (arith, l, c .if1 .left))
+    row-missing (take (a .n) (a .ids .now)) (take (a .n) (a .kinds .now)) (take (a .n) (a .starts .now)) (take (a .n) (a .ends .now))
+    (take (a .n) (a .counts .now)) (a .cycles .now) (a .steps .now) (a .id) (a .buffer .now) (f .find .result) (f .find .ensures)
+    (omega (arith, l, c .if1 .left))
 
 pub star-rows-spec : {M : Type 1} → statement M
 star-rows-spec =

@@ -35,7 +35,8 @@ add-t13 c = search needs
 returns : tie.Need-returns
 returns c =
     let a = c .before .before .args in
-    ap₂ (λ (x y : ℕ). record { fore = a .e * 2; back = a .e * 2 + 1; n = 1; f1 = a .a * 2 + x; f2 = 0; b1 = a .a * 2 + y; b2 = 0 }) (c .before .bit-of .ensures .0) (c .bit-of2 .ensures .0)
+    ap₂ (λ (x y : ℕ). record { fore = a .e * 2; back = a .e * 2 + 1; n = 1; f1 = a .a * 2 + x; f2 = 0; b1 = a .a * 2 + y; b2 = 0 })
+    (c .before .bit-of .ensures .0) (c .bit-of2 .ensures .0)
 
 pub one-for-spec : {M : Type 1} → statement M
 one-for-spec =

@@ -29,8 +29,11 @@ returns c =
     let t = st .args .t in
     let s = st .args .s in
     let e = swap-fore t s (c .before .before .before .before .if1 .taken) in
-    let l = length-take-le (t .n) (t .f1 ∷ t .f2 ∷ []) (st .pre .0) in
-    (sym (ap length e ∙ l), subst (λ (y : List ℕ). Wrote (st .args .out .now) (st .args .at) y (c .before .before .put-two .last .0)) (sym e) (c .before .before .put-two .ensures))
+    let l = length-take-le (t .n) (t .f1 ∷ t .f2 ∷ []) (st .pre .0) in (
+      sym (ap length e ∙ l),
+      subst (λ (y : List ℕ). Wrote (st .args .out .now) (st .args .at) y
+          (c .before .before .put-two .last .0)) (sym e) (c .before .before .put-two .ensures),
+    )
 
 put-two-requires-2 : tie.Need-put-two-requires-2
 put-two-requires-2 c κs =
@@ -50,8 +53,11 @@ returns-2 c =
     let t = st .args .t in
     let s = st .args .s in
     let e = swap-back t s (c .before .before .before .before .before .before .if1 .left) (c .before .before .before .before .if2 .taken) in
-    let l = length-take-le (t .n) (t .b1 ∷ t .b2 ∷ []) (st .pre .0) in
-    (sym (ap length e ∙ l), subst (λ (y : List ℕ). Wrote (st .args .out .now) (st .args .at) y (c .before .before .put-two2 .last .0)) (sym e) (c .before .before .put-two2 .ensures))
+    let l = length-take-le (t .n) (t .b1 ∷ t .b2 ∷ []) (st .pre .0) in (
+      sym (ap length e ∙ l),
+      subst (λ (y : List ℕ). Wrote (st .args .out .now) (st .args .at) y
+          (c .before .before .put-two2 .last .0)) (sym e) (c .before .before .put-two2 .ensures),
+    )
 
 mul-out : tie.Need-mul-out
 mul-out c = search needs

@@ -6,7 +6,8 @@ use Rattle.rows_stretches.specs.declared.Stretch.{Stretch}
 use Rattle.rows_stretches.proofs.up_to.Statement.{statement}
 use Rattle.rows_stretches.proofs.up_to.Tie as tie
 
-with-length : (at count from : ℕ) {m n : ℕ} → m ≡ n → _≡_ {A = Stretch} (record { at = at; count = count; from = from; len = m }) (record { at = at; count = count; from = from; len = n })
+with-length : (at count from : ℕ) {m n : ℕ} → m ≡ n → _≡_ {A = Stretch} (record { at = at; count = count; from = from; len = m })
+    (record { at = at; count = count; from = from; len = n })
 with-length at count from {m} {n} e = ap (λ (k : ℕ). record { at = at; count = count; from = from; len = k }) e
 
 add-from : tie.Need-add-from

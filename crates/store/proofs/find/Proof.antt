@@ -17,7 +17,12 @@ abbrev μ-loop : tie.MeasureT-loop
 μ-loop ids n id lo₀ hi₀ lo hi = hi - lo
 
 loop-holds : tie.Need-loop-holds Inv-loop μ-loop
-loop-holds c = (omega arith, omega arith, halving-start (take (c .args .n) (c .args .ids .now)) (c .args .id) (c .args .n) (length-take-le (c .args .n) (c .args .ids .now) (omega arith)))
+loop-holds c = (
+  omega arith,
+  omega arith,
+  halving-start (take (c .args .n) (c .args .ids .now)) (c .args .id) (c .args .n) (length-take-le (c .args .n)
+      (c .args .ids .now) (omega arith)),
+)
 
 -- the rows that are searched, and the middle of those that are left
 module _ (at : tie.At-loop Inv-loop μ-loop) where

@@ -51,7 +51,8 @@ put-decimal-returns t c =
     let s = c .before .before in
     last-put (s .args .out .now) (s .args .at) (s .args .n) (c .if1 .taken)
 
-put-decimal-put-decimal-requires : (t : ℕ) → put-decimal-lts.Need-put-decimal-requires (put-decimal-below t, put-decimal.Post) (put-decimal-at t) put-decimal.Post
+put-decimal-put-decimal-requires : (t : ℕ) → put-decimal-lts.Need-put-decimal-requires (put-decimal-below t, put-decimal.Post)
+    (put-decimal-at t) put-decimal.Post
 put-decimal-put-decimal-requires t c κs =
     let s = c .before .before .before in
     let h = c .before .if1 .left in
@@ -69,13 +70,15 @@ put-decimal-slice-write-out-2 : (t : ℕ) → put-decimal-lts.Need-slice-write-o
 put-decimal-slice-write-out-2 t c =
     let p = c .before .before in
     let s = p .before .before .before .before in
-    stays-within (p .put-decimal .ensures .0) (more-room (s .args .out .now) (s .args .at) (s .args .n) (p .before .before .if1 .left) (s .pre .1)) (p .put-decimal .kept .1 .0)
+    stays-within (p .put-decimal .ensures .0) (more-room (s .args .out .now) (s .args .at) (s .args .n) (p .before .before .if1 .left) (s .pre .1))
+    (p .put-decimal .kept .1 .0)
 
 put-decimal-add-result-2 : (t : ℕ) → put-decimal-lts.Need-add-result-2 (put-decimal-below t, put-decimal.Post) (put-decimal-at t) put-decimal.Post
 put-decimal-add-result-2 t c =
     let p = c .before .before in
     let s = p .before .before .before .before in
-    let h = stays-within (p .put-decimal .ensures .0) (more-room (s .args .out .now) (s .args .at) (s .args .n) (p .before .before .if1 .left) (s .pre .1)) refl in
+    let h = stays-within (p .put-decimal .ensures .0) (more-room (s .args .out .now) (s .args .at) (s .args .n) (p .before .before .if1 .left) (s .pre .1))
+    refl in
     omega (arith, s .good .1 .0 .0)
 
 put-decimal-same-length-2 : (t : ℕ) → put-decimal-lts.Need-same-length-2 (put-decimal-below t, put-decimal.Post) (put-decimal-at t) put-decimal.Post
@@ -85,7 +88,8 @@ put-decimal-returns-2 : (t : ℕ) → put-decimal-lts.Need-returns-2 (put-decima
 put-decimal-returns-2 t c =
     let p = c .before .before in
     let s = p .before .before .before .before in
-    more-put (s .args .out .now) (s .args .at) (s .args .n) (p .before .before .if1 .left) (p .put-decimal .result) (p .put-decimal .last .1 .0) (p .put-decimal .ensures .0) (p .put-decimal .ensures .1)
+    more-put (s .args .out .now) (s .args .at) (s .args .n) (p .before .before .if1 .left) (p .put-decimal .result) (p .put-decimal .last .1 .0)
+    (p .put-decimal .ensures .0) (p .put-decimal .ensures .1)
 
 pub +put-decimal-spec : {M : Type 1} → statement M
 +put-decimal-spec =

@@ -72,7 +72,8 @@ returns c =
     let b = k .before .before .before .before .before in
     let a = b .before .before .before .before in
     let s = a .before .before .before .before in
-    put-as (put-then (a .put-bytes .ensures) (put-then (b .put-signed .ensures) (put-then (k .put-bytes2 .ensures) (d .put-field .ensures)))) (end-text _ (s .args .v) (s .args .cells) (back (s .args .v) (s .fits .v)))
+    put-as (put-then (a .put-bytes .ensures) (put-then (b .put-signed .ensures) (put-then (k .put-bytes2 .ensures) (d .put-field .ensures))))
+    (end-text _ (s .args .v) (s .args .cells) (back (s .args .v) (s .fits .v)))
 
 pub put-end-spec : {M : Type 1} → statement M
 put-end-spec =

@@ -65,7 +65,8 @@ returns c =
     let b = k .before .before .before .before in
     let a = b .before .before .before .before in
     let s = a .before .before .before in
-    put-as (put-then (a .put-field .ensures) (put-then (b .put-field2 .ensures) (put-then (k .put-field3 .ensures) (d .put-field4 .ensures)))) (line-text (s .args .number) (s .args .first) (s .args .new) (s .args .removed))
+    put-as (put-then (a .put-field .ensures) (put-then (b .put-field2 .ensures) (put-then (k .put-field3 .ensures) (d .put-field4 .ensures))))
+    (line-text (s .args .number) (s .args .first) (s .args .new) (s .args .removed))
 
 pub put-line-spec : {M : Type 1} → statement M
 put-line-spec =

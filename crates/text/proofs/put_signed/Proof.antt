@@ -45,7 +45,8 @@ returns c =
     let m = t .before in
     let s = m .before .before in
     let l = s .args .out .now in
-    let q = put-number (set l (s .args .at) 45) (s .args .at + 1) (m .magnitude .result) (p .put-decimal .last .1 .0) (p .put-decimal .result) (m .magnitude .ok) (p .put-decimal .ensures .0) (p .put-decimal .ensures .1) in
+    let q = put-number (set l (s .args .at) 45) (s .args .at + 1) (m .magnitude .result) (p .put-decimal .last .1 .0) (p .put-decimal .result)
+    (m .magnitude .ok) (p .put-decimal .ensures .0) (p .put-decimal .ensures .1) in
     put-as (put-then (put-byte l (s .args .at) 45) q) (signed-negative (s .args .v) (s .fits .v) (t .if1 .taken) (m .magnitude .result) (m .magnitude .ensures))
 
 put-decimal-requires-2 : tie.Need-put-decimal-requires-2
@@ -65,7 +66,8 @@ returns-2 c =
     let t = p .before .before in
     let m = t .before in
     let s = m .before .before in
-    let q = put-number (s .args .out .now) (s .args .at) (m .magnitude .result) (p .put-decimal2 .last .1 .0) (p .put-decimal2 .result) (m .magnitude .ok) (p .put-decimal2 .ensures .0) (p .put-decimal2 .ensures .1) in
+    let q = put-number (s .args .out .now) (s .args .at) (m .magnitude .result) (p .put-decimal2 .last .1 .0) (p .put-decimal2 .result) (m .magnitude .ok)
+    (p .put-decimal2 .ensures .0) (p .put-decimal2 .ensures .1) in
     put-within (omega arith) (put-as q (signed-plain (s .args .v) (s .fits .v) (t .if1 .left) (m .magnitude .result) (m .magnitude .ensures)))
 
 pub put-signed-spec : {M : Type 1} → statement M
