@@ -17,7 +17,7 @@ use Rattle.sound.proofs.Meaning.{sound-sheet}
 use Rattle.rows_star.proofs.Answers.{star-of-sheet}
 use Rattle.rows_euler.proofs.Meaning.{euler-of-sheet}
 use Rattle.answer.specs.Answers.{saidBy}
-use Rattle.struct_command.specs.Entries.{Commanded}
+use Rattle.core.specs.Entries.{Commanded}
 use Rattle.core.specs.Demands.{Call, calls, Ends, EntriesDemand3}
 
 right : Right calls

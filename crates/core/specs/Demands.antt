@@ -12,7 +12,7 @@ use Rattle.rows_star.specs.Calls.{starOf}
 use Rattle.rows_euler.specs.Calls.{eulerOf}
 use Rattle.answer.specs.declared.Answer.{Answer}
 use Rattle.struct_empty.specs.Entries.{Empty}
-use Rattle.struct_command.specs.Entries.{Commanded}
+use Rattle.core.specs.Entries.{Commanded}
 
 -- any bytes, with what the entry answered to them
 pub record Call : Type 0 where

@@ -6,8 +6,7 @@ ghost use Rattle.rows_euler.specs.Calls.{eulerAnswered, eulerOf};
 ghost use Rattle.file_write.specs.Writes.{writeAnswered as written, writeOf};
 ghost use Rattle.file_read.specs.Outcome.{FileRead};
 ghost use Rattle.struct_empty.specs.Entries.{Empty};
-ghost use Rattle.struct_command.specs.Entries.{Commanded};
-ghost use Rattle.core.specs.Entries.{restOf};
+ghost use Rattle.core.specs.Entries.{Commanded, restOf};
 use answer::Answer;
 use file_read::ReadAnswer;
 use file_write::Written;
@@ -26,7 +25,75 @@ pub fn empty() -> Drawing
 pub fn command(d: Drawing, script: &[u8]) -> Answer
     ensures { λ r. ⌜ Commanded d (now (script .entry)) r ⌝ }
 {
-    struct_command::command(d, script)
+    let mut next = d.next;
+    let mut count = d.count;
+    let mut ids = [0u32; 256];
+    let mut kinds = [0u32; 256];
+    let mut starts = [0u32; 256];
+    let mut ends = [0u32; 256];
+    let mut bends = [0u32; 256];
+    let mut counts = [0u32; 256];
+    let mut px = [0.0; 256];
+    let mut py = [0.0; 256];
+    let mut cycles = [0u32; 512];
+    let mut steps = [0u32; 2048];
+    let mut bx = [0.0; 2048];
+    let mut by = [0.0; 2048];
+    door::take_apart(
+        d,
+        &mut ids,
+        &mut kinds,
+        &mut starts,
+        &mut ends,
+        &mut bends,
+        &mut counts,
+        &mut px,
+        &mut py,
+        &mut cycles,
+        &mut steps,
+        &mut bx,
+        &mut by,
+    );
+    let l = entry_command::command(
+        &mut next,
+        &mut count,
+        &mut ids,
+        &mut kinds,
+        &mut starts,
+        &mut ends,
+        &mut bends,
+        &mut counts,
+        &mut px,
+        &mut py,
+        &mut cycles,
+        &mut steps,
+        &mut bx,
+        &mut by,
+        script,
+    );
+    let e = door::put_together(
+        next,
+        count,
+        &ids,
+        &kinds,
+        &starts,
+        &ends,
+        &bends,
+        &counts,
+        &px,
+        &py,
+        &cycles,
+        &steps,
+        &bx,
+        &by,
+    );
+    Answer {
+        number: l.number,
+        first: l.first,
+        new: l.new,
+        removed: l.removed,
+        drawing: e,
+    }
 }
 
 // The bytes after the command at the front of the script, or all of them at 1 and 2: a part of the caller's slice.

@@ -6,7 +6,7 @@ ghost use Rattle.complex.specs.Sound.{cellsMost, bendsMost};
 ghost use Rattle.store.specs.View.{bendCount, cycleCount};
 ghost use Rattle.store.specs.Index.{kindOf, shapeStart, shapeEnd};
 ghost use Rattle.lent.specs.Arrays.{shapeBy, positionsIn, heldBy, normal, Lengths, lent, entry, exit};
-ghost use Rattle.call_write.specs.Rows.{cellsIn};
+ghost use Rattle.call_cells.specs.Rows.{cellsIn};
 ghost use Rattle.door.specs.Apart.{Apart};
 ghost use Rattle.door.specs.Parts.{placedX, placedY, AllRows};
 use coordinate::Position;
@@ -128,7 +128,7 @@ fn cells_of(
     let mut out = [none; 256];
     let mut i: usize = 0;
     while i < 256 {
-        let c = call_write::cell_at(ids, kinds, starts, ends, bends, counts, px, py, i);
+        let c = call_cells::cell_at(ids, kinds, starts, ends, bends, counts, px, py, i);
         out[i] = c;
         i = i + 1;
     }

@@ -22,7 +22,7 @@ use Rattle.lent.specs.Replies.{Ready}
 use Rattle.lent.proofs.Replies.{drawing-of}
 use Rattle.lent.proofs.Sums.{ready-drawing}
 use Rattle.call_asked.specs.Entries.{starOn, writeOn}
-use Rattle.call_write.proofs.Files.{length-small, call-is}
+use Rattle.call_cells.proofs.Files.{length-small, call-is}
 
 either-most : (b : Bool) (y z : Filled) (n : ℕ) → y .count ≤ n → z .count ≤ n → cond b y z .count ≤ n
 either-most true y z n p q = p

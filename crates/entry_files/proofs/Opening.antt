@@ -21,7 +21,7 @@ use Rattle.sound.proofs.Meaning.{sound-sheet}
 use Rattle.answer.specs.declared.Totals.{Totals}
 use Rattle.lent.specs.Arrays.{Arrays, heldBy}
 use Rattle.lent.proofs.Sums.{ready-drawing}
-use Rattle.call_write.proofs.Files.{call-is}
+use Rattle.call_cells.proofs.Files.{call-is}
 use Rattle.call_read.specs.Taken.{FileIn}
 use Rattle.entry_files.specs.Calls.{isFile, drawn, starAt, eulerAs, eulerAt, again}
 

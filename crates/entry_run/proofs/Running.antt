@@ -10,8 +10,8 @@ use Rattle.store.specs.View.{sheetOf}
 use Rattle.lent.specs.Arrays.{Arrays, heldBy, soundArrays}
 use Rattle.entry_told.specs.Told.{lineWidth, lengthsEnd}
 use Rattle.entry_told.proofs.Going.{Going, start, turn, over}
-use Rattle.entry_turn.specs.Turns.{turnNumbers, SteppedIn}
-use Rattle.entry_turn.specs.declared.Turn.{Turn}
+use Rattle.entry_run.specs.Turns.{turnNumbers, SteppedIn}
+use Rattle.entry_run.specs.declared.Turn.{Turn}
 use Rattle.entry_run.specs.Runs.{TurnedIn, RanIn}
 
 -- its numbers put from a place on

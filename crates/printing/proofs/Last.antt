@@ -17,7 +17,7 @@ use Rattle.lent.proofs.Replies.{drawing-of}
 use Rattle.lent.proofs.Sums.{ready-sizes}
 use Rattle.text.specs.Texts.{lastMost, endText}
 use Rattle.text.proofs.Puts.{end-few}
-use Rattle.printing_lines.specs.Lines.{lastText}
+use Rattle.printing.specs.Lines.{lastText}
 
 module _ (a : Arrays) (w : T (soundArrays a)) (l : Lengths a) where
   cells-count : a .count ≡ length (sheetOf (heldBy a) .cells)

@@ -1,3 +1,4 @@
+pub mod Lines
 pub mod Fronts
 pub mod Last
 pub mod Pieces

@@ -16,8 +16,8 @@ use Rattle.run_turns.specs.Runs.{runFrom}
 use Rattle.run_turns.proofs.Progress.{run-none}
 use Rattle.text.specs.Texts.{lineMost, lastMost, TextPut}
 use Rattle.text.proofs.Puts.{put-then}
-use Rattle.printing_lines.specs.Lines.{lastText, runText, LinesPut}
-use Rattle.printing_lines.proofs.Lines.{same-size}
+use Rattle.printing.specs.Lines.{lastText, runText, LinesPut}
+use Rattle.printing.proofs.Lines.{same-size}
 use Rattle.printing.specs.Texts.{toPrint, LongPut, Pieced}
 use Rattle.printing.specs.declared.Printed.{Printed}
 use Rattle.printing.proofs.Fronts.{front-text, front}

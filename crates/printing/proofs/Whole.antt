@@ -13,7 +13,7 @@ use Rattle.lent.specs.Arrays.{Arrays, heldBy}
 use Rattle.run_turns.specs.Runs.{runFrom}
 use Rattle.run_turns.proofs.Progress.{run-empty}
 use Rattle.text.proofs.Puts.{output-text}
-use Rattle.printing_lines.specs.Lines.{runText}
+use Rattle.printing.specs.Lines.{runText}
 use Rattle.printing.specs.Texts.{toPrint, PieceCall, Pieces, printedBy, PrintsAll}
 
 -- ---- at the start

@@ -13,7 +13,7 @@ use Rattle.lent.specs.Arrays.{Arrays, heldBy, soundArrays}
 use Rattle.call_asked.specs.Entries.{EmptyIn}
 use Rattle.run_turns.specs.Runs.{runFrom}
 use Rattle.text.specs.Texts.{lineMost}
-use Rattle.printing_lines.specs.Lines.{runText}
+use Rattle.printing.specs.Lines.{runText}
 use Rattle.printing.specs.declared.Printed.{Printed}
 
 -- what is still to be printed for a script, where the drawing is s and the bytes from `at` on are left

@@ -1,15 +1,17 @@
 // What the program `edit` prints, piece by piece, in a lent buffer.
 ghost use mathlib.Core.Path.{_≡_};
-ghost use Prim.Native.Nat.{_+_, _≤_};
+ghost use Prim.Native.Nat.{_+_, _≤_, _<_};
 ghost use lib.Dec.{T};
 ghost use lib.ListN.{length};
 ghost use Rattle.store.specs.View.{sheetOf};
 ghost use Rattle.lent.specs.Arrays.{heldBy, soundArrays, lent, entry, exit};
-ghost use Rattle.text.specs.Texts.{lastMost, TextPut};
-ghost use Rattle.printing_lines.specs.Lines.{lastText};
+ghost use Rattle.text.specs.Texts.{lineMost, lastMost, TextPut};
+ghost use Rattle.printing.specs.Lines.{lastText, LinesPut};
 ghost use Rattle.printing.specs.Texts.{LongPut, Pieced};
 
 const SCRIPT_MOST: usize = 65536;
+// The most bytes of a command's line.
+const LINE_MOST: usize = 44;
 // The most bytes of the end line.
 const LAST_MOST: usize = 35;
 
@@ -25,6 +27,67 @@ pub struct Printed {
     pub at: usize,
     pub count: usize,
     pub last: bool,
+}
+
+// The place of the script after the lines that were put, and the place after them.
+struct Lined {
+    at: usize,
+    end: usize,
+}
+
+// The lines of a script's commands from a place on, until no byte is left, one is not read, or the next might not fit.
+fn put_lines(
+    next: &mut u32,
+    count: &mut usize,
+    ids: &mut [u32; 256],
+    kinds: &mut [u32; 256],
+    starts: &mut [u32; 256],
+    ends: &mut [u32; 256],
+    bends: &mut [u32; 256],
+    counts: &mut [u32; 256],
+    px: &mut [f64; 256],
+    py: &mut [f64; 256],
+    cycles: &mut [u32; 512],
+    steps: &mut [u32; 2048],
+    bx: &mut [f64; 2048],
+    by: &mut [f64; 2048],
+    script: &[u8],
+    from: usize,
+    out: &mut [u8],
+) -> Lined
+    requires { ⌜ T (soundArrays (lent (now next) (now count) ids kinds starts ends bends counts px py cycles steps bx by)) ⌝ }
+    ensures { λ r. ⌜ LinesPut (entry (now (next .entry)) (now (count .entry)) ids kinds starts ends bends counts px py cycles steps bx by) (now (script .entry)) from (exit (now (next .exit)) (now (count .exit)) ids kinds starts ends bends counts px py cycles steps bx by) (now (out .entry)) (now (out .exit)) (r .at) (r .end) ⌝ }
+    ensures { λ r. ⌜ (r .at < length (now (script .entry)) → length (now (out .exit)) < r .end + lineMost) ⌝ }
+{
+    let mut at = from;
+    let mut end: usize = 0;
+    while at < script.len() {
+        if out.len() - end < LINE_MOST {
+            return Lined { at, end };
+        }
+        let t = entry_run::step_at(
+            next,
+            count,
+            ids,
+            kinds,
+            starts,
+            ends,
+            bends,
+            counts,
+            px,
+            py,
+            cycles,
+            steps,
+            bx,
+            by,
+            script,
+            at,
+        );
+        let l = t.line;
+        end = text::put_line(l.number, l.first, l.new, l.removed, out, end);
+        at = t.end;
+    }
+    Lined { at, end }
 }
 
 // The end line of the drawing in sound arrays; the place after it.
@@ -131,7 +194,7 @@ pub fn piece(
     if SCRIPT_MOST < script.len() {
         return too_long(at, out);
     }
-    let p = printing_lines::put_lines(
+    let p = put_lines(
         next,
         count,
         ids,

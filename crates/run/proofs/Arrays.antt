@@ -19,7 +19,7 @@ use Rattle.call_asked.specs.Entries.{EmptyIn}
 use Rattle.run_turns.specs.Runs.{runFrom}
 use Rattle.run_turns.proofs.Progress.{run-empty}
 use Rattle.core.proofs.Demand.{ends-after}
-use Rattle.run_on.specs.Runs.{RanOn}
+use Rattle.run.specs.Runs.{RanOn}
 use Rattle.run.specs.Runs.{RanAll}
 use Rattle.run.specs.declared.Ran.{Ran}
 

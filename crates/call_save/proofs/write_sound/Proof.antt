@@ -3,7 +3,7 @@ use borrow.Author.Needs.{needs}
 use denote.Ref.{now}
 use mathlib.Core.Path.{sym, _∙_}
 use Rattle.lent.specs.Arrays.{Arrays, lent}
-use Rattle.call_write.proofs.Files.{length-small, call-is}
+use Rattle.call_cells.proofs.Files.{length-small, call-is}
 use Rattle.call_save.proofs.write_sound.Statement.{statement}
 use Rattle.call_save.proofs.write_sound.Tie as tie
 

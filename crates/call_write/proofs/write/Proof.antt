@@ -14,7 +14,7 @@ use Rattle.file_parts.proofs.Laying.{put-as, put-then, room-first, room-then}
 use Rattle.file_write.proofs.Filing.{next-spells, filled-put, filled-short}
 use Rattle.lent.specs.Arrays.{Arrays, lent, heldBy}
 use Rattle.lent.proofs.Sums.{ready-sizes}
-use Rattle.call_write.proofs.Files.{ready-writable, ready-all, file-parts, call-is}
+use Rattle.call_cells.proofs.Files.{ready-writable, ready-all, file-parts, call-is}
 use Rattle.call_write.proofs.write.Statement.{statement}
 use Rattle.call_write.proofs.write.Tie as tie
 

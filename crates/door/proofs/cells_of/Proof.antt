@@ -5,7 +5,7 @@ use mathlib.Core.Path.{_≡_, refl, sym, _∙_}
 use native.Mathlib.Omega.{arith}
 use lib.ListN.{length, take, length-set}
 use Rattle.lent.proofs.Held.{cells-length}
-use Rattle.call_write.specs.Rows.{cellsIn, pastCell}
+use Rattle.call_cells.specs.Rows.{cellsIn, pastCell}
 use Rattle.door.proofs.Fronts.{front-turn, front-all}
 use Rattle.door.proofs.cells_of.Statement.{statement}
 use Rattle.door.proofs.cells_of.Tie as tie

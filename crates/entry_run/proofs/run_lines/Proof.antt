@@ -4,7 +4,7 @@ use native.Mathlib.Omega.{arith}
 use denote.Ref.{now}
 use lib.ListN.{length}
 use Rattle.lent.specs.Arrays.{Arrays, lent}
-use Rattle.entry_turn.proofs.Turning.{arraysOf}
+use Rattle.entry_run.proofs.Turning.{arraysOf}
 use Rattle.entry_told.proofs.Going.{same-size, line-room}
 use Rattle.entry_run.proofs.Running.{Come, come-start, come-turn, come-end, few-so-far}
 use Rattle.entry_run.proofs.run_lines.Statement.{statement}

@@ -5,7 +5,7 @@ use denote.Ref.{now}
 use mathlib.Core.Path.{_∙_}
 use Rattle.lent.specs.Arrays.{Arrays, lent}
 use Rattle.text.proofs.Puts.{put-length}
-use Rattle.printing_lines.proofs.Lines.{same-size}
+use Rattle.printing.proofs.Lines.{same-size}
 use Rattle.printing.proofs.Pieces.{piece-more, piece-last, piece-long}
 use Rattle.printing.proofs.piece.Statement.{statement}
 use Rattle.printing.proofs.piece.Tie as tie
