@@ -1,3 +1,4 @@
 pub mod Parting
 pub mod OpenCuts
 pub mod RingCuts
+pub mod Cuts

@@ -4,7 +4,7 @@ use native.Mathlib.Omega.{arith}
 use mathlib.Core.Path.{_≡_, refl, sym, ap, _∙_, subst}
 use mathlib.Core.Bool.{true}
 use mathlib.Core.List.{List, [], _∷_}
-use mathlib.Core.Logic.{_⊎_, inr}
+use mathlib.Core.Logic.{inr}
 use lib.Dec.{T}
 use lib.ListN.{length}
 use Rattle.number.specs.Readers.{spread}
@@ -17,7 +17,7 @@ use Rattle.complex.specs.Commands.{result}
 use Rattle.complex.specs.Sound.{over, stepsIn}
 use Rattle.store.specs.Sheet.{allReal}
 use Rattle.store.specs.Places.{entryCycles}
-use Rattle.store.specs.View.{sheetOf, Fits, cycleTotal, stepTotal}
+use Rattle.store.specs.View.{sheetOf, Fits}
 use Rattle.store.specs.Edits.{appended}
 use Rattle.sound.proofs.Meaning.{sound-fits}
 use Rattle.rows_new.specs.Runs.{runAt, runsOf}
@@ -41,11 +41,11 @@ use Rattle.kernel_swap.specs.Swaps.{SwappedIn}
 use Rattle.kernel_swap.proofs.Lent.{withPools}
 use Rattle.kernel_bends.specs.Turned.{movedLast}
 use Rattle.kernel_bends.proofs.Last.{twice-first, twice-second}
-use Rattle.kernel_drop.specs.Gone.{EdgeRow, RowGone}
+use Rattle.kernel_drop.specs.Gone.{RowGone}
 use Rattle.kind_cut_plan.specs.declared.Plan.{Plan}
 use Rattle.kind_cut_plan.specs.OpenPlans.{OpenGoes}
 use Rattle.kind_cut_edge.proofs.Parting as part
-use Rattle.kind_cut_edge.proofs.Parting.{Parted, cut-obeyed}
+use Rattle.kind_cut_edge.proofs.Parting.{SwapAsks, Parted, cut-obeyed}
 
 module _ (a : Arrays) (l : Lengths a) (w : T (soundArrays a)) (e q : ℕ) (r : Plan) (g : OpenGoes a e q r) where
   pub place-in : q / 2 + q % 2 ≤ r .m
@@ -55,12 +55,7 @@ module _ (a : Arrays) (l : Lengths a) (w : T (soundArrays a)) (e q : ℕ) (r : P
   pub edge-in : e < 65536
   edge-in = edge-small (heldBy a) (held-sizes a l) e (r .row) (r .base) (r .m) q (g .cuts) (r .s) (r .f) (g .ends)
 
-  pub swap-asks : (t : Swap) → t ≡ twoFor e (a .next + 1) (a .next + 2)
-      → Fits (heldBy a) × (Lengths a × ((r .cycles ≡ cycleTotal (heldBy a))
-      × ((t .n ≤ 2) × ((allReal (spread entryCycles (reshape (rewired sameVertex (swapHalf t)) (sheetOf (heldBy a) .cells))) ≡ true)
-      × ((over stepsIn (reshape (rewired sameVertex (swapHalf t)) (sheetOf (heldBy a) .cells)) ≤ 2048) × ((r .steps ≡ stepTotal (heldBy a))
-      × (((t .n ≤ 1) × (r .uses ≡ 0)) ⊎ ((1 ≤ t .n) × (over stepsIn
-      (reshape (rewired sameVertex (swapHalf t)) (sheetOf (heldBy a) .cells)) ≡ r .uses + r .steps)))))))))
+  pub swap-asks : (t : Swap) → t ≡ twoFor e (a .next + 1) (a .next + 2) → SwapAsks a (r .cycles) (r .steps) (r .uses) t
   swap-asks t et =
       let d = heldBy a in
       let z = held-sizes a l in
@@ -96,9 +91,6 @@ module _ (a : Arrays) (l : Lengths a) (w : T (soundArrays a)) (e q : ℕ) (r : P
       )
 
   module _ (cy st : List ℕ) (sw : SwappedIn (twoFor e (a .next + 1) (a .next + 2)) a (withPools a cy st)) where
-    pub mid-row : EdgeRow (withPools a cy st) (r .row) (r .base) (r .m) (r .bends)
-    mid-row = part.mid-row a l w e q r (g .cuts) (g .row) _ cy st sw
-
     module _ (b : Arrays) (en : b .next ≡ a .next) (gone : RowGone (withPools a cy st) (r .row) (r .base) (r .m) (r .bends) (q / 2) (q / 2 + q % 2) b) where
       abbrev bs : List Position
       bs = runsOf (heldBy a .bends) (partRun (r .p) (r .base) (q / 2))

@@ -4,18 +4,23 @@ use native.Mathlib.Omega.{arith}
 use mathlib.Core.Path.{_≡_, refl, sym, ap, ap₂, _∙_, subst}
 use mathlib.Core.Bool.{Bool, true, false, cond}
 use mathlib.Core.List.{List, _∷_}
+use mathlib.Core.Logic.{_⊎_}
 use lib.Dec.{T, eqb}
 use lib.ListN.{length, set, take, replicate}
 use borrow.Author.Tests.{ne-eqb}
+use Rattle.number.specs.Readers.{spread}
 use Rattle.coordinate.specs.declared.Position.{Position}
 use Rattle.complex.specs.Lists.{total}
 use Rattle.complex.specs.Cells.{Figure, vertex, openEdge, Sheet, Halfedge}
 use Rattle.complex.specs.Edits.{reshape, rewired, sameVertex, others}
+use Rattle.complex.specs.Sound.{over, stepsIn}
 use Rattle.complex.specs.Decode.{cutEdge}
 use Rattle.complex.specs.Commands.{result}
 use Rattle.store.specs.declared.Cell.{Cell}
 use Rattle.store.specs.declared.Drawing.{Drawing}
-use Rattle.store.specs.View.{sheetOf, Fits, bendTotal, bendCount}
+use Rattle.store.specs.Sheet.{allReal}
+use Rattle.store.specs.Places.{entryCycles}
+use Rattle.store.specs.View.{sheetOf, Fits, cycleTotal, stepTotal, bendTotal, bendCount}
 use Rattle.store.specs.Edits.{placesOf, appended, withEntries}
 use Rattle.store.proofs.Lists.{places-sum}
 use Rattle.sound.proofs.Meaning.{sound-fits}
@@ -44,8 +49,13 @@ use Rattle.kernel_drop.specs.Gone.{EdgeRow, RowGone}
 use Rattle.kernel_drop.proofs.Gone.{row-range}
 use Rattle.kind_cut_plan.specs.declared.Plan.{Plan}
 
-pub swapped-as : {t u : Swap} {a b : Arrays} → t ≡ u → SwappedIn t a b → SwappedIn u a b
-swapped-as {a = a} {b = b} e h = subst (λ (v : Swap). SwappedIn v a b) e h
+-- what the swap t asks of a with c cycles and m steps, which become u more
+abbrev pub SwapAsks : Arrays → ℕ → ℕ → ℕ → Swap → Type 0
+SwapAsks a c m u t =
+    Fits (heldBy a) × (Lengths a × ((c ≡ cycleTotal (heldBy a))
+    × ((t .n ≤ 2) × ((allReal (spread entryCycles (reshape (rewired sameVertex (swapHalf t)) (sheetOf (heldBy a) .cells))) ≡ true)
+    × ((over stepsIn (reshape (rewired sameVertex (swapHalf t)) (sheetOf (heldBy a) .cells)) ≤ 2048) × ((m ≡ stepTotal (heldBy a))
+    × (((t .n ≤ 1) × (u ≡ 0)) ⊎ ((1 ≤ t .n) × (over stepsIn (reshape (rewired sameVertex (swapHalf t)) (sheetOf (heldBy a) .cells)) ≡ u + m)))))))))
 
 -- k rows are left of n, and m cells came
 came-outcome : (next n k m : ℕ) (out : Drawing) → 1 ≤ m → out .next ≡ next + m → out .count ≡ k + m
@@ -78,9 +88,6 @@ module _ (a : Arrays) (l : Lengths a) (w : T (soundArrays a)) (e q : ℕ) (r : P
   module _ (t : Swap) (cy st : List ℕ) (sw : SwappedIn t a (withPools a cy st)) where
     abbrev mid : Arrays
     mid = withPools a cy st
-
-    pub mid-row : EdgeRow (withPools a cy st) (r .row) (r .base) (r .m) (r .bends)
-    mid-row = record { below = er .below; from = er .from; own = er .own; none = er .none; all = er .all }
 
     module _ (i j : ℕ) (ij : i ≤ j) (jm : j ≤ r .m) (b : Arrays) (gone : RowGone (withPools a cy st) (r .row) (r .base) (r .m) (r .bends) i j b) where
       pub left : (σ : Halfedge → List Halfedge) → swapHalf t ≡ σ → sheetOf (heldBy b) ≡ remade (others e) (rewired sameVertex σ) (sheetOf (heldBy a))

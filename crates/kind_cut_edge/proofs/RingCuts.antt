@@ -1,26 +1,21 @@
 -- 0A of a closed edge: the arrays hold the drawing with the edge cut. Assumes nothing.
 use Prim.Native.Nat.{ℕ, _+_, _-_, _/_, _%_, _<_, _≤_}
 use native.Mathlib.Omega.{arith}
-use mathlib.Core.Path.{_≡_, refl, sym, ap, ap₂, _∙_}
-use mathlib.Core.Bool.{true, false}
+use mathlib.Core.Path.{_≡_, refl, sym, ap, ap₂, _∙_, subst}
+use mathlib.Core.Bool.{false}
 use mathlib.Core.List.{List, [], _++_}
-use mathlib.Core.Logic.{_⊎_}
 use lib.Dec.{T}
 use lib.ListN.{length, take}
-use Rattle.number.specs.Readers.{spread}
 use Rattle.coordinate.specs.declared.Position.{Position}
-use Rattle.complex.specs.Edits.{reshape, rewired, sameVertex, others, inPlaceOf}
-use Rattle.complex.specs.Sound.{over, stepsIn}
+use Rattle.complex.specs.Edits.{rewired, sameVertex, others, inPlaceOf}
 use Rattle.complex.specs.Decode.{cutEdge}
 use Rattle.complex.specs.Commands.{result}
-use Rattle.store.specs.Sheet.{allReal}
-use Rattle.store.specs.Places.{entryCycles}
-use Rattle.store.specs.View.{sheetOf, Fits, cycleTotal, stepTotal}
+use Rattle.store.specs.View.{sheetOf}
 use Rattle.sound.proofs.Meaning.{sound-fits}
 use Rattle.rows_new.specs.Runs.{runAt, runsOf}
 use Rattle.rows_new.specs.Appends.{remade}
 use Rattle.rows_new.proofs.RunLists.{run-take}
-use Rattle.rows_steps.specs.Swap.{swapHalf, oneFor}
+use Rattle.rows_steps.specs.Swap.{oneFor}
 use Rattle.rows_steps.specs.declared.Swap.{Swap}
 use Rattle.rows_steps.proofs.Swaps.{one-for}
 use Rattle.ask_cut_edge.specs.Cuts.{closedRuns}
@@ -36,11 +31,11 @@ use Rattle.kernel_swap.proofs.Lent.{withPools}
 use Rattle.kernel_swap.proofs.Asking.{one-asks}
 use Rattle.kernel_bends.specs.Turned.{movedLast}
 use Rattle.kernel_bends.proofs.Last.{run-add, twice-second, twice-last}
-use Rattle.kernel_drop.specs.Gone.{EdgeRow, RowGone}
+use Rattle.kernel_drop.specs.Gone.{RowGone}
 use Rattle.kind_cut_plan.specs.declared.Plan.{Plan}
 use Rattle.kind_cut_plan.specs.RingPlans.{RingGoes}
 use Rattle.kind_cut_edge.proofs.Parting as part
-use Rattle.kind_cut_edge.proofs.Parting.{Parted, cut-obeyed}
+use Rattle.kind_cut_edge.proofs.Parting.{SwapAsks, Parted, cut-obeyed}
 
 module _ (a : Arrays) (l : Lengths a) (w : T (soundArrays a)) (e q : ℕ) (r : Plan) (g : RingGoes a e q r) where
   pub place-in : q / 2 < r .m
@@ -50,18 +45,12 @@ module _ (a : Arrays) (l : Lengths a) (w : T (soundArrays a)) (e q : ℕ) (r : P
   pub edge-in : e < 65536
   edge-in = edge-small (heldBy a) (held-sizes a l) e (r .row) (r .base) (r .m) q (g .cuts) (g .closed)
 
-  pub swap-asks : (t : Swap) → t ≡ oneFor e (a .next + 1) false
-      → Fits (heldBy a) × (Lengths a × ((r .cycles ≡ cycleTotal (heldBy a))
-      × ((t .n ≤ 2) × ((allReal (spread entryCycles (reshape (rewired sameVertex (swapHalf t)) (sheetOf (heldBy a) .cells))) ≡ true)
-      × ((over stepsIn (reshape (rewired sameVertex (swapHalf t)) (sheetOf (heldBy a) .cells)) ≤ 2048) × ((r .steps ≡ stepTotal (heldBy a))
-      × (((t .n ≤ 1) × (_≡_ {A = ℕ} 0 0)) ⊎ ((1 ≤ t .n) × (over stepsIn
-      (reshape (rewired sameVertex (swapHalf t)) (sheetOf (heldBy a) .cells)) ≡ 0 + r .steps)))))))))
-  swap-asks t et = one-asks a e (a .next + 1) false t et (r .cycles) (r .steps) l (sound-fits (heldBy a) (drawing-of a w)) (g .cycles) (g .steps)
+  pub swap-asks : (t : Swap) → t ≡ oneFor e (a .next + 1) false → SwapAsks a (r .cycles) (r .steps) (r .uses) t
+  swap-asks t et =
+      subst (λ (u : ℕ). SwapAsks a (r .cycles) (r .steps) u t) (sym (g .uses))
+      (one-asks a e (a .next + 1) false t et (r .cycles) (r .steps) l (sound-fits (heldBy a) (drawing-of a w)) (g .cycles) (g .steps))
 
   module _ (cy st : List ℕ) (sw : SwappedIn (oneFor e (a .next + 1) false) a (withPools a cy st)) where
-    pub mid-row : EdgeRow (withPools a cy st) (r .row) (r .base) (r .m) (r .bends)
-    mid-row = part.mid-row a l w e q r (g .cuts) (g .row) _ cy st sw
-
     module _ (b : Arrays) (en : b .next ≡ a .next) (gone : RowGone (withPools a cy st) (r .row) (r .base) (r .m) (r .bends) 0 (q / 2 + 1) b) where
       -- the loop's bends
       abbrev round : List Position
@@ -126,7 +115,7 @@ module _ (a : Arrays) (l : Lengths a) (w : T (soundArrays a)) (e q : ℕ) (r : P
           refl (sheetOf (heldBy b)) left)
           round-are (omega (arith, below, most))
 
-      -- what put_end asks
+      -- what put_parts asks
       pub loop-fits : (b .count + 1 < 256) × (a .next + 1 < 65536)
       loop-fits = (looped .cells, omega (arith, looped .ids, en))
 

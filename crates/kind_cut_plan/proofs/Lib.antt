@@ -1,3 +1,4 @@
 pub mod Late
 pub mod RingPlans
 pub mod OpenPlans
+pub mod Plans

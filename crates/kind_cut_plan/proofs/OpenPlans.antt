@@ -46,9 +46,9 @@ use Rattle.ask_cut_edge.proofs.OpenAnswer.{uses-are, open-live, ends-found, ask
 use Rattle.lent.specs.Arrays.{Arrays, shapeBy, shapeAt, positionIn, heldBy, rowsBy, soundArrays, Lengths}
 use Rattle.lent.proofs.Held.{held-sizes, held-indexes, positions-at}
 use Rattle.lent.proofs.Replies.{rows-of, drawing-of}
+use Rattle.lent.proofs.Sums.{ready-cycles, ready-steps}
 use Rattle.kernel_keep.proofs.Rows.{cell-at}
-use Rattle.kind_cut_plan.specs.OpenPlans.{OpenPlanned}
-use Rattle.kind_cut_plan.proofs.Late.{cycles-are, steps-are}
+use Rattle.kind_cut_plan.specs.Plans.{Planned}
 
 -- ---- a vertex's row
 vertex-kind : (x : Figure) → T (isVertex (some x)) → kindOf (shapeOf x) ≡ 0
@@ -199,8 +199,9 @@ module _ (a : Arrays) (l : Lengths a) (w : T (soundArrays a)) where
               omega (arith, y, v, b1, b2, ss, st)
 
           pub planned : (uses : ℕ) → uses ≡ total (stepUse e) (cyclesFrom (take (t .cycles) (a .cycles)) (a .steps))
-              → OpenPlanned a e q (record {
+              → Planned a e q (record {
                 no = 0;
+                two = true;
                 row = row;
                 base = base;
                 m = m;
@@ -221,8 +222,8 @@ module _ (a : Arrays) (l : Lengths a) (w : T (soundArrays a)) where
                       ends = ends;
                       placed = ep;
                       row = record { below = cuts .below; from = eb; own = em; none = none-own; all = ap (λ (j : Totals). j .bends) et };
-                      cycles = cycles-are a l w t et;
-                      steps = steps-are a l w t et;
+                      cycles = ready-cycles a t (record { sound = w; long = l; sums = et });
+                      steps = ready-steps a t (record { sound = w; long = l; sums = et });
                       grows = grown ∙ ap (λ (j : ℕ). j + t .steps) (sym eu′);
                       asked = subst (Asked (heldBy a) (cutEdge e q)) r0 pass;
                     };

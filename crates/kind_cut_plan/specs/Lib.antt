@@ -1,3 +1,4 @@
-pub mod Plans
+pub mod Kinds
 pub mod RingPlans
 pub mod OpenPlans
+pub mod Plans

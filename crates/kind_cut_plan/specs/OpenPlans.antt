@@ -11,7 +11,6 @@ use Rattle.ask_cut_edge.specs.Cuts.{EdgeCuts, OpenEnds, CutPlaced}
 use Rattle.lent.specs.Arrays.{Arrays, heldBy}
 use Rattle.kernel_drop.specs.Gone.{EdgeRow}
 use Rattle.kind_cut_plan.specs.declared.Plan.{Plan}
-use Rattle.kind_cut_plan.specs.Plans.{Planned}
 
 -- what 0A of the open edge e at place q needs
 pub record OpenGoes (a : Arrays) (e q : ℕ) (r : Plan) : Type 0 where
@@ -24,6 +23,3 @@ pub record OpenGoes (a : Arrays) (e q : ℕ) (r : Plan) : Type 0 where
   pub grows : over stepsIn (reshape (rewired sameVertex (inTwo e (a .next + 1) (a .next + 2))) (sheetOf (heldBy a) .cells))
       ≡ r .uses + r .steps
   pub asked : Asked (heldBy a) (cutEdge e q) 0
-
-abbrev pub OpenPlanned : Arrays → ℕ → ℕ → Plan → Type 0
-OpenPlanned a e q r = Planned a e q r (OpenGoes a e q r)

@@ -10,7 +10,6 @@ use Rattle.ask_cut_edge.specs.Cuts.{EdgeCuts, closedPlace}
 use Rattle.lent.specs.Arrays.{Arrays, heldBy}
 use Rattle.kernel_drop.specs.Gone.{EdgeRow}
 use Rattle.kind_cut_plan.specs.declared.Plan.{Plan}
-use Rattle.kind_cut_plan.specs.Plans.{Planned}
 
 -- what 0A of the closed edge e at place q needs
 pub record RingGoes (a : Arrays) (e q : ℕ) (r : Plan) : Type 0 where
@@ -20,7 +19,5 @@ pub record RingGoes (a : Arrays) (e q : ℕ) (r : Plan) : Type 0 where
   pub row : EdgeRow a (r .row) (r .base) (r .m) (r .bends)
   pub cycles : r .cycles ≡ cycleTotal (heldBy a)
   pub steps : r .steps ≡ stepTotal (heldBy a)
+  pub uses : r .uses ≡ 0
   pub asked : Asked (heldBy a) (cutEdge e q) 0
-
-abbrev pub RingPlanned : Arrays → ℕ → ℕ → Plan → Type 0
-RingPlanned a e q r = Planned a e q r (RingGoes a e q r)

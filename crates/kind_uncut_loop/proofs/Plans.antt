@@ -13,7 +13,7 @@ use Rattle.complex.specs.Sound.{idsEnd, cellsMost, cyclesMost, stepsMost, bends
 use Rattle.complex.specs.Decode.{uncut}
 use Rattle.complex.specs.Uncut.{loop, uncutCase}
 use Rattle.complex.specs.Commands.{result}
-use Rattle.complex.specs.Answer.{no}
+use Rattle.complex.specs.Answer.{no, asked3}
 use Rattle.complex.proofs.Bools.{both}
 use Rattle.complex.proofs.Asked.{answered-no}
 use Rattle.store.specs.Index.{rowOf}
@@ -32,8 +32,7 @@ use Rattle.lent.specs.Replies.{Ready}
 use Rattle.lent.proofs.Sums.{ready-drawing, ready-sizes, ready-indexes, ready-totals, ready-looks}
 use Rattle.kernel_drop.specs.Gone.{EdgeRow, BareRow}
 use Rattle.kind_cut_plan.proofs.OpenPlans.{end-place}
-use Rattle.kind_uncut_loop.specs.declared.Plan.{Plan}
-use Rattle.kind_uncut_loop.specs.Uncutting.{LoopPlanned}
+use Rattle.kind_uncut_loop.specs.Uncutting.{LoopGoes}
 
 -- the row of a cell that is there
 pub live-row : (a : Arrays) (t : Totals) → Ready a t → (i row : ℕ) → row ≡ rowOf i (take (a .count) (a .ids))
@@ -68,14 +67,10 @@ module _ (a : Arrays) (t : Totals) (y : Ready a t) (v e : ℕ) (h : uncutCase (s
     says : Asked (heldBy a) (uncut v) r
     says = loop-asked (heldBy a) (ready-sizes a t y) (ready-drawing a t y) v e h (rowsBy a) (ready-indexes a t y) t (ready-totals a t y) r er
 
-    pub planned-no : (q : Plan) → q .no ≡ r → (r ≡ 0 → ⊥) → LoopPlanned a t v e q
-    planned-no q en nz =
-        record {
-          refused =
-              λ z. answer (heldBy a) (ready-sizes a t y) (ready-drawing a t y) (uncut v) r says
-              ∙ answered-no (sheetOf (heldBy a)) (result (sheetOf (heldBy a)) (uncut v)) r nz ∙ ap (λ (k : ℕ). no k (sheetOf (heldBy a))) (sym en);
-          goes = λ z. absurd (nz (sym en ∙ z));
-        }
+    pub refuses : (r ≡ 0 → ⊥) → asked3 (sheetOf (heldBy a)) (uncut v) ≡ no r (sheetOf (heldBy a))
+    refuses nz =
+        answer (heldBy a) (ready-sizes a t y) (ready-drawing a t y) (uncut v) r says
+        ∙ answered-no (sheetOf (heldBy a)) (result (sheetOf (heldBy a)) (uncut v)) r nz
 
     module _ (r0 : r ≡ 0) (rv re : ℕ) (ev : rv ≡ rowOf v (take (a .count) (a .ids))) (ee : re ≡ rowOf e (take (a .count) (a .ids)))
         (p : Position) (ep : p ≡ positionIn (a .px) (a .py) rv) (base : ℕ) (eb : base ≡ total (placesOf 0) (take re (a .bends))) (m : ℕ)
@@ -113,18 +108,14 @@ module _ (a : Arrays) (t : Totals) (y : Ready a t) (v e : ℕ) (h : uncutCase (s
             all = ap (λ (u : Totals). u .bends) (y .sums);
           }
 
-      pub planned : LoopPlanned a t v e (record { no = 0; vertex = rv; row = re; base = base; m = m; p = p })
-      planned =
+      pub goes-by : LoopGoes a t v e (record { vertex = rv; row = re; base = base; m = m; p = p })
+      goes-by =
           record {
-            refused = λ i. absurd (i refl);
-            goes =
-                λ i. record {
-                  looped =
-                      looped-needs (heldBy a) (ready-sizes a t y) (ready-drawing a t y) v e h r says r0 (rowsBy a) (ready-indexes a t y) rv re ev ee p
-                      (ep ∙ end-place a (y .long) (y .sound) v rv ev vertex-is) base m eb em;
-                  bare = bare;
-                  edge = edge;
-                  room = omega (arith, late-bends (a .next) 1 (changedBy (sizesBy t) (moreLess (sized 0 0 0 1) (sized 1 0 0 0))) (sym er ∙ r0));
-                  asked = subst (Asked (heldBy a) (uncut v)) r0 says;
-                };
+            looped =
+                looped-needs (heldBy a) (ready-sizes a t y) (ready-drawing a t y) v e h r says r0 (rowsBy a) (ready-indexes a t y) rv re ev ee p
+                (ep ∙ end-place a (y .long) (y .sound) v rv ev vertex-is) base m eb em;
+            bare = bare;
+            edge = edge;
+            room = omega (arith, late-bends (a .next) 1 (changedBy (sizesBy t) (moreLess (sized 0 0 0 1) (sized 1 0 0 0))) (sym er ∙ r0));
+            asked = subst (Asked (heldBy a) (uncut v)) r0 says;
           }

@@ -37,8 +37,7 @@ use Rattle.kernel_swap.proofs.Lent.{withPools}
 use Rattle.kernel_swap.proofs.Asking.{one-swapped}
 use Rattle.kernel_drop.specs.Gone.{EdgeRow, BareRow, PairGone}
 use Rattle.kernel_drop.proofs.Gone.{row-range}
-use Rattle.kind_uncut_loop.specs.declared.Plan.{Plan}
-use Rattle.kind_uncut_loop.specs.Uncutting.{LoopGoes}
+use Rattle.kind_uncut_loop.specs.Uncutting.{Plan, LoopGoes}
 
 more-one : (n m : ℕ) → n ≡ m → suc n ≡ m + 1
 more-one n m e = omega (arith, e)

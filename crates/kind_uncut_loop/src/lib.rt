@@ -4,71 +4,8 @@ ghost use Rattle.complex.specs.Uncut.{loop, uncutCase};
 ghost use Rattle.store.specs.View.{sheetOf};
 ghost use Rattle.lent.specs.Arrays.{heldBy, lent, entry, exit};
 ghost use Rattle.lent.specs.Replies.{Ready, Obeyed};
-ghost use Rattle.kind_uncut_loop.specs.Uncutting.{LoopPlanned};
 use answer::Totals;
-use coordinate::Position;
 use lent::Line;
-
-// What is found before a loop's vertex goes: the number of the question that says no, or the rows of the vertex and of the edge,
-// where the edge's bends stand, and where the vertex lies.
-pub struct Plan {
-    pub no: u32,
-    pub vertex: usize,
-    pub row: usize,
-    pub base: usize,
-    pub m: usize,
-    pub p: Position,
-}
-
-// Questions 7 and 8 of 0E at a vertex with both ends of the edge e.
-fn loop_plan(
-    next: u32,
-    count: usize,
-    ids: &[u32; 256],
-    kinds: &[u32; 256],
-    starts: &[u32; 256],
-    ends: &[u32; 256],
-    bends: &[u32; 256],
-    counts: &[u32; 256],
-    px: &[f64; 256],
-    py: &[f64; 256],
-    cycles: &[u32; 512],
-    steps: &[u32; 2048],
-    bx: &[f64; 2048],
-    by: &[f64; 2048],
-    t: Totals,
-    v: u32,
-    e: u32,
-) -> Plan
-    requires { ⌜ Ready (lent next count ids kinds starts ends bends counts px py cycles steps bx by) t ⌝ }
-    requires { ⌜ uncutCase (sheetOf (heldBy (lent next count ids kinds starts ends bends counts px py cycles steps bx by))) v ≡ loop e ⌝ }
-    ensures { λ r. ⌜ LoopPlanned (entry next count ids kinds starts ends bends counts px py cycles steps bx by) t v e r ⌝ }
-{
-    let no = ask_uncut_vertex::bend_no(next, t, 1);
-    if no != 0 {
-        return Plan {
-            no,
-            vertex: 0,
-            row: 0,
-            base: 0,
-            m: 0,
-            p: Position { x: 0.0, y: 0.0 },
-        };
-    }
-    let vertex = store::find(ids, count, v);
-    let row = store::find(ids, count, e);
-    let p = lent::vertex_at(px, py, vertex);
-    let base = rows_spans::bend_start(bends, row);
-    let m = store::wide(bends[row]);
-    Plan {
-        no: 0,
-        vertex,
-        row,
-        base,
-        m,
-        p,
-    }
-}
 
 // 0E at a vertex with both ends of the edge e: the vertex becomes the first bend of a closed edge, e's bends follow it, and e's
 // halfedges become those of the new edge.
@@ -97,29 +34,15 @@ pub fn looped(
 {
     let n = *count;
     let id = *next;
-    let c = loop_plan(
-        id,
-        n,
-        ids,
-        kinds,
-        starts,
-        ends,
-        bends,
-        counts,
-        px,
-        py,
-        cycles,
-        steps,
-        bx,
-        by,
-        t,
-        v,
-        e,
-    );
-    let no = c.no;
+    let no = ask_uncut_vertex::bend_no(id, t, 1);
     if no != 0 {
         return lent::line_of(no);
     }
+    let vertex = store::find(ids, n, v);
+    let row = store::find(ids, n, e);
+    let p = lent::vertex_at(px, py, vertex);
+    let base = rows_spans::bend_start(bends, row);
+    let m = store::wide(bends[row]);
     let w = rows_steps::one_for(e, id, false);
     kernel_swap::swap_steps(
         id,
@@ -141,7 +64,6 @@ pub fn looped(
         0,
         w,
     );
-    let m = c.m;
     let k = kernel_drop::drop_pair(
         id,
         n,
@@ -157,12 +79,12 @@ pub fn looped(
         steps,
         bx,
         by,
-        c.vertex,
-        c.row,
-        c.base,
+        vertex,
+        row,
+        base,
         m,
         t.bends,
-        c.p,
+        p,
     );
     lent::put_row(
         ids,
