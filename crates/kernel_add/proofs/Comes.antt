@@ -3,6 +3,7 @@ use Prim.Native.Nat.{ℕ, _+_, _-_}
 use native.Mathlib.Omega.{arith}
 use mathlib.Core.Path.{_≡_, refl, sym, ap, _∙_, subst}
 use mathlib.Core.Bool.{true, cond}
+use mathlib.Core.List.{List}
 use lib.Dec.{eqb}
 use lib.ListN.{set}
 use Rattle.complex.specs.Cells.{Figure}
@@ -26,10 +27,15 @@ use Rattle.lent.proofs.Sums.{ready-rows, ready-drawing, ready-sizes, ready-inde
 use Rattle.lent.specs.Growing.{withRow}
 use Rattle.kernel_add.specs.Comes.{oneNew}
 
--- o are b with the row that `add_row` says
-pub row-added : (o b : Arrays) (k s e n c : ℕ) → (o .next ≡ b .next + 1) × ((o .count ≡ b .count + 1) × ((o .ids ≡ set (b .ids) (b .count) (b .next))
+-- what `add_row` says of b, with the old numbers of cycles, and of o
+abbrev RowIn : Arrays → Arrays → List ℕ → ℕ → ℕ → ℕ → ℕ → ℕ → Type 0
+RowIn o b old k s e n c =
+    (o .next ≡ b .next + 1) × ((o .count ≡ b .count + 1) × ((o .ids ≡ set (b .ids) (b .count) (b .next))
     × ((o .kinds ≡ set (b .kinds) (b .count) k) × ((o .starts ≡ set (b .starts) (b .count) s) × ((o .ends ≡ set (b .ends) (b .count) e)
-    × ((o .bends ≡ set (b .bends) (b .count) n) × (o .counts ≡ set (b .counts) (b .count) c)))))))
+    × ((o .bends ≡ set (b .bends) (b .count) n) × (o .counts ≡ set old (b .count) c)))))))
+
+-- o are b with that row
+pub row-added : (o b : Arrays) (k s e n c : ℕ) → RowIn o b (b .counts) k s e n c
     → o .cycles ≡ b .cycles → o .steps ≡ b .steps → o .bx ≡ b .bx → o .by ≡ b .by → o ≡ withRow b k s e n c (o .px) (o .py)
 row-added o b k s e n c w cs ss xs ys =
     let y = w .1 .1 in
@@ -49,6 +55,15 @@ row-added o b k s e n c w cs ss xs ys =
       bx = xs i;
       by = ys i;
     }
+
+-- the same, where the old numbers of cycles are those of b
+pub row-recounted : (o b : Arrays) (old : List ℕ) (k s e n c : ℕ) → old ≡ b .counts
+    → RowIn o b old k s e n c
+    → o .cycles ≡ b .cycles → o .steps ≡ b .steps → o .bx ≡ b .bx → o .by ≡ b .by → o ≡ withRow b k s e n c (o .px) (o .py)
+row-recounted o b old k s e n c h w =
+    let y = w .1 .1 .1 in
+    row-added o b k s e n c
+    (w .0, (w .1 .0, (w .1 .1 .0, (y .0, (y .1 .0, (y .1 .1 .0, (y .1 .1 .1 .0, y .1 .1 .1 .1 ∙ ap (λ (l : List ℕ). set l (b .count) c) h)))))))
 
 one-outcome : (next n : ℕ) (out : Drawing) → out .next ≡ next + 1 → out .count ≡ n + 1 → answerBy (oneNew next) out ≡ outcome next n out
 one-outcome next n out e f =

@@ -1,43 +1,26 @@
--- An edge and a face that come in lent arrays. Assumes nothing.
-use native.Mathlib.Numerals.{add-one}
-use Prim.Native.Nat.{ℕ, _+_, _≤_, _<_}
-use mathlib.Core.Path.{_≡_, refl, sym, ap, ap₂, subst, _∙_}
-use mathlib.Core.List.{List, _++_, map, append-assoc, _∷_, []}
+-- A face that comes in lent arrays, with the cycles of a list. Assumes nothing.
+use Prim.Native.Nat.{ℕ, _+_, _≤_}
+use mathlib.Core.Path.{_≡_, refl, sym, ap, ap₂, _∙_}
+use mathlib.Core.List.{List, _++_, map}
 use native.Mathlib.Omega.{arith}
-use lib.Ieee.{Float}
-use lib.ListN.{length, take, length-map, length-set, set, drop}
-use lib.Seq.{paste, take-paste, length-paste, length-take-le, set-split}
-use Rattle.coordinate.specs.declared.Position.{Position}
+use lib.ListN.{length, take, length-map}
+use lib.Seq.{paste, take-paste, length-paste, length-take-le}
 use Rattle.number.specs.Readers.{spread}
-use Rattle.bends.specs.Bends.{positionsAt}
-use Rattle.bends.proofs.Laws.{positions-length}
-use Rattle.complex.specs.Cells.{Cycle, closedEdge, face}
-use Rattle.store.specs.declared.Shape.the-variants.{Face}
+use Rattle.complex.specs.Cells.{face}
 use Rattle.store.specs.Places.{numOf, cycleWords}
-use Rattle.store.specs.View.{sheetOf, bendTotal, cycleTotal, stepTotal, widthSum}
+use Rattle.store.specs.View.{sheetOf}
 use Rattle.store.specs.Edits.{appended}
 use Rattle.store.specs.Pools.{Held}
-use Rattle.store.proofs.Grow.{append, no-more}
 use Rattle.rows_spans.specs.declared.Used.{Used}
 use Rattle.rows_spans.specs.Building.{built}
 use Rattle.rows_spans.proofs.Building.{built-held}
-use Rattle.rows_new.specs.Appends.{withCell}
 use Rattle.rows_new.proofs.Bends.{Grew}
-use Rattle.answer.specs.declared.Totals.{Totals}
 use Rattle.lent.specs.Arrays.{Arrays, heldBy, Lengths}
 use Rattle.lent.specs.Replies.{Holds}
-use Rattle.lent.specs.Growing.{withClosed, withFace}
-use Rattle.lent.proofs.Held.{held-sizes}
-use Rattle.lent.proofs.Sums.{bends-held, cycles-held, steps-held}
-use Rattle.lent.proofs.Grown.{closed-long, closed-normal, closed-cycles, face-long, face-held, face-normal}
-use Rattle.kernel_add.specs.Comes.{BendsPut}
-use Rattle.kernel_add.proofs.Put.{withPlaced, placed-long, closed-grew}
-use Rattle.kernel_part.specs.Rounds.{HoldsIn, RingRoom, PartRoom}
-
--- a number put down is a run of one
-pub set-pasted : (l : List ℕ) (at x : ℕ) (xs : List ℕ) → at < length l → set l at x ≡ paste l at (x ∷ xs) 1
-set-pasted l at x xs h =
-    set-split l at x h ∙ ap (λ (k : ℕ). take at l ++ (x ∷ drop k l)) (sym (add-one at)) ∙ sym (append-assoc (take at l) (x ∷ []) (drop (at + 1) l))
+use Rattle.lent.specs.Growing.{withFace}
+use Rattle.lent.proofs.Grown.{face-long, face-normal}
+use Rattle.kernel_add.proofs.Faces.{withPools, pools-long, face-grew}
+use Rattle.kernel_part.specs.Rounds.{PartRoom}
 
 -- arrays whose parts are equal
 pub same-arrays : (a b : Arrays) → a .next ≡ b .next → a .count ≡ b .count → a .ids ≡ b .ids → a .kinds ≡ b .kinds → a .starts ≡ b .starts → a .ends ≡ b .ends
@@ -62,79 +45,8 @@ same-arrays a b e1 e2 e3 e4 e5 e6 e7 e8 e9 e10 e11 e12 e13 e14 =
       by = e14 i;
     }
 
--- ---- the edge
-module _ (b : Arrays) (t : Totals) (script : List ℕ) (k first : ℕ) (w : RingRoom b t script k first) where
-  abbrev bs : List Position
-  bs = positionsAt script first k
-
-  bends-are : t .bends ≡ bendTotal (heldBy b)
-  bends-are = ap (λ (u : Totals). u .bends) (w .sums) ∙ bends-held b (w .long) (w .rows)
-
-  pub ring-bends : t .bends + k ≤ 2048
-  ring-bends = omega (arith, bends-are, w .room .bends, positions-length script first k)
-
-  module _ (us vs : List Float) (p : BendsPut (b .bx) (b .by) (t .bends) (positionsAt script first k) k us vs) where
-    abbrev ringed : Arrays
-    ringed = withClosed (withPlaced b us vs) k
-
-    long : Lengths (withPlaced b us vs)
-    long = placed-long b (w .long) bs k (t .bends) (positions-length script first k) bends-are us vs p
-
-    cycles-stay : cycleTotal (heldBy ringed) ≡ t .cycles
-    cycles-stay = closed-cycles (withPlaced b us vs) long k (w .room .cells)
-        ∙ sym (ap (λ (u : Totals). u .cycles) (w .sums) ∙ cycles-held b (w .long) (w .rows))
-
-    steps-stay : stepTotal (heldBy ringed) ≡ t .steps
-    steps-stay =
-        ap (λ (n : ℕ). widthSum (take n (b .cycles))) (closed-cycles (withPlaced b us vs) long k (w .room .cells))
-        ∙ sym (ap (λ (u : Totals). u .steps) (w .sums) ∙ steps-held b (w .long) (w .rows))
-
-    pub ring-holds : (o : Arrays) → o .next ≡ ringed .next → o .count ≡ ringed .count → o .ids ≡ ringed .ids → o .kinds ≡ ringed .kinds
-        → o .starts ≡ ringed .starts → o .ends ≡ ringed .ends
-        → o .bends ≡ ringed .bends → o .counts ≡ ringed .counts → o .px ≡ b .px → o .py ≡ b .py → o .cycles ≡ b .cycles → o .steps ≡ b .steps → o .bx ≡ us
-        → o .by ≡ vs
-        → HoldsIn (appended (sheetOf (heldBy b)) (closedEdge (positionsAt script first k))) (t .cycles) (t .steps) o
-    ring-holds o e1 e2 e3 e4 e5 e6 e7 e8 e9 e10 e11 e12 e13 e14 =
-        let g = closed-grew b (w .long) bs k (t .bends) (positions-length script first k) bends-are us vs p (w .room) in
-        subst (HoldsIn (appended (sheetOf (heldBy b)) (closedEdge bs)) (t .cycles) (t .steps))
-        (sym (same-arrays o ringed e1 e2 e3 e4 e5 e6 e7 e8 e9 e10 e11 e12 e13 e14))
-        (record {
-          holds = record {
-            sheet = g .0;
-            fits = g .1;
-            long = closed-long (withPlaced b us vs) long k;
-            rows = closed-normal (withPlaced b us
-                vs) long k (w .room .cells) (w .rows);
-          };
-          cycles = cycles-stay;
-          steps = steps-stay;
-        })
-
 -- ---- the face
--- the arrays with other cycles and steps
-abbrev pub withPools : Arrays → List ℕ → List ℕ → Arrays
-withPools a cs ss =
-    record {
-      next = a .next;
-      count = a .count;
-      ids = a .ids;
-      kinds = a .kinds;
-      starts = a .starts;
-      ends = a .ends;
-      bends = a .bends;
-      counts = a .counts;
-      px = a .px;
-      py = a .py;
-      cycles = cs;
-      steps = ss;
-      bx = a .bx;
-      by = a .by;
-    }
-
 module _ (b : Arrays) (c p : ℕ) (numbers : List ℕ) (u : Used) (places : List ℕ) (w : PartRoom b c p numbers u places) where
-  abbrev ks : List Cycle
-  ks = built numbers u places
-
   held-list : Held (built numbers u places) numbers (u .cycles) places (u .steps)
   held-list = built-held (built numbers u places) numbers u places (record { list = refl; building = w .building })
 
@@ -150,61 +62,37 @@ module _ (b : Arrays) (c p : ℕ) (numbers : List ℕ) (u : Used) (places : List
   pub part-steps : (u .steps ≤ length places) × (p + u .steps ≤ length (b .steps))
   part-steps = (held-list .placesRoom, omega (arith, w .steps, w .room .steps, steps-many, w .long .steps))
 
-  module _ (cs ss : List ℕ) (es : cs ≡ paste (b .cycles) c numbers (u .cycles)) (et : ss ≡ paste (b .steps) p places (u .steps)) where
-    abbrev parted : Arrays
-    parted = withFace (withPools b cs ss) (u .cycles)
-
-    pools-long : Lengths (withPools b cs ss)
-    pools-long =
-        let l = w .long in
-        record {
-          ids = l .ids;
-          kinds = l .kinds;
-          starts = l .starts;
-          ends = l .ends;
-          bends = l .bends;
-          counts = l .counts;
-          px = l .px;
-          py = l .py;
-          cycles = ap length es ∙ length-paste (b .cycles) c numbers (u .cycles) (part-cycles .1) (part-cycles .0) ∙ l .cycles;
-          steps = ap length et ∙ length-paste (b .steps) p places (u .steps) (part-steps .1) (part-steps .0) ∙ l .steps;
-          bx = l .bx;
-          by = l .by;
-        }
+  -- the list stands after what was in use
+  module _ (cs ss : List ℕ) (lc : length cs ≡ 512) (ls : length ss ≡ 2048) (fc : take (c + u .cycles) cs ≡ take c (b .cycles) ++ take (u .cycles) numbers)
+      (fs : take (p + u .steps) ss ≡ take p (b .steps) ++ take (u .steps) places) where
+    long : Lengths (withPools b cs ss)
+    long = pools-long b (w .long) cs ss lc ls
 
     grew : Grew (heldBy b) (face (built numbers u places)) (heldBy (withFace (withPools b cs ss) (u .cycles)))
     grew =
-        let d = heldBy b in
-        let z = held-sizes b (w .long) in
-        let m = w .room in
-        let l = pools-long in
-        let ln = length-map ks numOf in
-        let ic : cycleTotal d + length (map numOf ks) ≡ c + u .cycles = omega (arith, w .cycles, cycles-many) in
-        let is : stepTotal d + length (spread cycleWords ks) ≡ p + u .steps = omega (arith, w .steps, steps-many) in
-        let x : take (cycleTotal d + length (map numOf ks)) cs ≡ take (cycleTotal d) (b .cycles) ++ map numOf ks =
-        ap₂ take ic es ∙ take-paste (b .cycles) c numbers (u .cycles) (omega (arith, part-cycles .1)) (part-cycles .0)
-        ∙ ap₂ (λ (i : ℕ) (q : List ℕ). take i (b .cycles) ++ q) (w .cycles) (held-list .lengths) in
-        let y : take (stepTotal d + length (spread cycleWords ks)) ss ≡ take (stepTotal d) (b .steps) ++ spread cycleWords ks =
-        ap₂ take is et ∙ take-paste (b .steps) p places (u .steps) (omega (arith, part-steps .1)) (part-steps .0)
-        ∙ ap₂ (λ (i : ℕ) (q : List ℕ). take i (b .steps) ++ q) (w .steps) (held-list .places) in
-        let g =
-        append d z (m .fits) (m .cells) (face ks) cs ss (d .bends)
-        (record { cells = length-set (d .cells) (d .count) _ ∙ z .cells; cycles = l .cycles; steps = l .steps; bends = z .bends })
-        (omega (arith, m .cycles, ln)) x (m .steps) y (m .bends) (no-more (d .bends) (bendTotal d)) (held-list .real) in
-        let e : u .cycles ≡ length ks = sym (sym ln ∙ cycles-many) in
-        let q : heldBy (withFace (withPools b cs ss) (u .cycles)) ≡ withCell (heldBy (withPools b cs ss)) (Face (length ks)) =
-        face-held (withPools b cs ss) l (u .cycles) (m .cells) ∙ ap (λ (n : ℕ). withCell (heldBy (withPools b cs ss)) (Face n)) e in
-        subst (Grew d (face ks)) (sym q) g
+        face-grew b (w .long) cs ss lc ls (built numbers u places) (u .cycles) (sym (length-map (built numbers u places) numOf) ∙ cycles-many)
+        (held-list .real) (w .room)
+        (ap₂ (λ (i j : ℕ). take (i + j) cs) (sym (w .cycles)) cycles-many ∙ fc
+        ∙ ap₂ (λ (i : ℕ) (q : List ℕ). take i (b .cycles) ++ q) (w .cycles) (held-list .lengths))
+        (ap₂ (λ (i j : ℕ). take (i + j) ss) (sym (w .steps)) steps-many ∙ fs
+        ∙ ap₂ (λ (i : ℕ) (q : List ℕ). take i (b .steps) ++ q) (w .steps) (held-list .places))
 
-    pub part-holds : (o : Arrays) → o .next ≡ parted .next → o .count ≡ parted .count → o .ids ≡ parted .ids → o .kinds ≡ parted .kinds
-        → o .starts ≡ parted .starts → o .ends ≡ parted .ends
-        → o .bends ≡ parted .bends → o .counts ≡ parted .counts → o .px ≡ b .px → o .py ≡ b .py → o .cycles ≡ cs → o .steps ≡ ss → o .bx ≡ b .bx → o .by ≡ b .by
-        → Holds (appended (sheetOf (heldBy b)) (face (built numbers u places))) o
-    part-holds o e1 e2 e3 e4 e5 e6 e7 e8 e9 e10 e11 e12 e13 e14 =
-        subst (Holds (appended (sheetOf (heldBy b)) (face ks))) (sym (same-arrays o parted e1 e2 e3 e4 e5 e6 e7 e8 e9 e10 e11 e12 e13 e14))
-        (record {
+    pub part-holds : Holds (appended (sheetOf (heldBy b)) (face (built numbers u places))) (withFace (withPools b cs ss) (u .cycles))
+    part-holds =
+        record {
           sheet = grew .0;
           fits = grew .1;
-          long = face-long (withPools b cs ss) pools-long (u .cycles);
-          rows = face-normal (withPools b cs ss) pools-long (u .cycles) (w .room .cells) (w .rows);
-        })
+          long = face-long (withPools b cs ss) long (u .cycles);
+          rows = face-normal (withPools b cs ss) long (u .cycles) (w .room .cells) (w .rows);
+        }
+
+  -- the list is copied there
+  pub pasted-holds : (cs ss : List ℕ) → cs ≡ paste (b .cycles) c numbers (u .cycles) → ss ≡ paste (b .steps) p places (u .steps)
+      → Holds (appended (sheetOf (heldBy b)) (face (built numbers u places))) (withFace (withPools b cs ss) (u .cycles))
+  pasted-holds cs ss ec es =
+      let i = part-cycles in
+      let j = part-steps in
+      part-holds cs ss (ap length ec ∙ length-paste (b .cycles) c numbers (u .cycles) (i .1) (i .0) ∙ w .long .cycles)
+      (ap length es ∙ length-paste (b .steps) p places (u .steps) (j .1) (j .0) ∙ w .long .steps)
+      (ap (take (c + u .cycles)) ec ∙ take-paste (b .cycles) c numbers (u .cycles) (omega (arith, i .1)) (i .0))
+      (ap (take (p + u .steps)) es ∙ take-paste (b .steps) p places (u .steps) (omega (arith, j .1)) (j .0))

@@ -1,14 +1,19 @@
--- A new edge, where 3 to 6 got a yes and n is what 7 and 8 say: it is refused, or has room and comes. Assumes nothing.
+-- A new edge: refused for its bends; or, where 3 to 6 got a yes and n is what 7 and 8 say, refused, or with room it comes. Assumes nothing.
 use Prim.Native.Nat.{ℕ, _+_, _<_, _≤_}
 use native.Mathlib.Omega.{arith}
+use borrow.Author.Tests.{not-true}
 use mathlib.Core.Path.{_≡_, refl, sym, _∙_}
+use mathlib.Core.Bool.{Bool, true, not}
 use mathlib.Core.List.{List}
 use lib.Ieee.{Float}
 use lib.ListN.{length}
 use Rattle.coordinate.specs.declared.Position.{Position}
+use Rattle.coordinate.specs.Bounds.{within}
+use Rattle.complex.specs.Lists.{all}
 use Rattle.complex.specs.Cells.{openEdge, closedEdge}
-use Rattle.complex.specs.Decode.{create}
-use Rattle.complex.proofs.Asked.{Passed}
+use Rattle.complex.specs.Decode.{Command, create}
+use Rattle.complex.specs.Commands.{positions}
+use Rattle.complex.proofs.Asked.{Passed, no-3, out-bends}
 use Rattle.store.specs.View.{sheetOf, bendTotal}
 use Rattle.rows_new.specs.Appends.{CellRoom}
 use Rattle.answer.specs.declared.Totals.{Totals}
@@ -20,11 +25,16 @@ use Rattle.lent.specs.declared.Line.{Line}
 use Rattle.lent.specs.Growing.{withRow, withOpen, withClosed}
 use Rattle.lent.specs.Replies.{lineOf, Ready, Obeyed}
 use Rattle.lent.proofs.Grown.{open-long, open-normal, closed-long, closed-normal}
-use Rattle.lent.proofs.Sums.{ready-rows, ready-bends}
+use Rattle.lent.proofs.Sums.{ready-rows, ready-bends, ready-no}
 use Rattle.kernel_add.specs.Comes.{oneNew, BendsPut}
 use Rattle.kernel_add.proofs.Comes.{obeyed-full, came-room, obeyed-came}
 use Rattle.kernel_add.proofs.Put.{withPlaced, placed-long, open-grew, closed-grew}
 use Rattle.kind_create.specs.Edges.{EdgeRow, openRow, closedRow, edgeBy}
+
+-- b is what `bends_within` says of the positions of q
+pub bends-out : (a : Arrays) (t : Totals) → Ready a t → (q : Command) (b : Bool) → b ≡ all within (positions q) → not b ≡ true → (l : Line) → l ≡ lineOf 3
+    → Obeyed a q a l
+bends-out a t r q b e n l el = ready-no a t r q 3 l el (no-3 _ q (out-bends q (sym e ∙ not-true b n)))
 
 module _ (a : Arrays) (t : Totals) (r : Ready a t) (bs : List Position) (k : ℕ) (lk : length bs ≡ k) (m : ℕ) (em : m ≡ k) (n : ℕ)
     (en : n ≡ lateNo (a .next) 1 (changedBy (sizesBy t) (moreLess (sized 1 0 0 m) nothing))) where

@@ -1,10 +1,10 @@
 -- 04: the arrays with a face more, whose cycles and steps are put after those in use. Assumes nothing.
 use Prim.Native.Nat.{ℕ, _+_, _≤_, min}
 use native.Mathlib.Omega.{arith}
-use mathlib.Core.Path.{_≡_, refl, sym, ap, _∙_, subst}
+use mathlib.Core.Path.{_≡_, refl, sym, ap, _∙_}
 use mathlib.Core.Bool.{true}
 use mathlib.Core.List.{List, _++_, map}
-use lib.ListN.{length, take, drop, length-append, length-map, length-set}
+use lib.ListN.{length, take, drop, length-append, length-map}
 use lib.Seq.{sets, length-sets, sets-eq, take-at, length-take-le}
 use Rattle.number.specs.Readers.{spread}
 use Rattle.complex.specs.Lists.{total}
@@ -12,14 +12,12 @@ use Rattle.complex.specs.Cells.{Cycle, face}
 use Rattle.complex.specs.Sound.{stepCount}
 use Rattle.complex.specs.Decode.{create, readCycle}
 use Rattle.complex.proofs.Asked.{Passed}
-use Rattle.store.specs.declared.Shape.the-variants.{Face}
 use Rattle.store.specs.Sheet.{allReal}
 use Rattle.store.specs.Places.{numOf, cycleWords}
-use Rattle.store.specs.View.{sheetOf, cycleTotal, stepTotal, bendTotal}
+use Rattle.store.specs.View.{sheetOf, cycleTotal, stepTotal}
 use Rattle.store.proofs.Encode.{all-places}
-use Rattle.store.proofs.Grow.{append, no-more}
 use Rattle.sound.specs.Rows.{rowsOf}
-use Rattle.rows_new.specs.Appends.{CellRoom, withCell}
+use Rattle.rows_new.specs.Appends.{CellRoom}
 use Rattle.rows_new.proofs.Bends.{Grew}
 use Rattle.decode_parts.specs.Lists.{cyclesRead, Stand}
 use Rattle.decode_parts.proofs.Stands.{stand-length}
@@ -35,11 +33,11 @@ use Rattle.lent.specs.Arrays.{Arrays, heldBy, rowsBy, Lengths}
 use Rattle.lent.specs.declared.Line.{Line}
 use Rattle.lent.specs.Growing.{withFace}
 use Rattle.lent.specs.Replies.{lineOf, Ready, Obeyed}
-use Rattle.lent.proofs.Held.{held-sizes}
-use Rattle.lent.proofs.Grown.{face-long, face-held, face-normal}
+use Rattle.lent.proofs.Grown.{face-long, face-normal}
 use Rattle.lent.proofs.Sums.{ready-rows, ready-drawing, ready-sizes, ready-indexes, ready-cycles, ready-steps, ready-no}
 use Rattle.kernel_add.specs.Comes.{oneNew}
 use Rattle.kernel_add.proofs.Comes.{obeyed-full, came-room, obeyed-came}
+use Rattle.kernel_add.proofs.Faces.{withPools, pools-long, face-grew}
 
 -- the front, where numbers are put after it
 sets-front : (l vs : List ℕ) (i : ℕ) → i + length vs ≤ length l → take (i + length vs) (sets l i vs) ≡ take i l ++ vs
@@ -47,66 +45,23 @@ sets-front l vs i h =
     let n : length (take i l ++ vs) ≡ i + length vs = length-append (take i l) vs ∙ ap (λ (k : ℕ). k + length vs) (length-take-le i l (omega (arith, h))) in
     ap (take (i + length vs)) (sets-eq vs l i h) ∙ take-at (take i l ++ vs) (drop (i + length vs) l) (i + length vs) n
 
--- the arrays with other cycles and steps
-abbrev pub withPools : Arrays → List ℕ → List ℕ → Arrays
-withPools a cs ss =
-    record {
-      next = a .next;
-      count = a .count;
-      ids = a .ids;
-      kinds = a .kinds;
-      starts = a .starts;
-      ends = a .ends;
-      bends = a .bends;
-      counts = a .counts;
-      px = a .px;
-      py = a .py;
-      cycles = cs;
-      steps = ss;
-      bx = a .bx;
-      by = a .by;
-    }
-
 -- ---- the face
-module _ (a : Arrays) (l : Lengths a) (ks : List Cycle) (k c p : ℕ) (lk : length ks ≡ k) (ec : c ≡ cycleTotal (heldBy a)) (ep : p ≡ stepTotal (heldBy a))
-    (re : allReal ks ≡ true)
+module _ (a : Arrays) (l : Lengths a) (ks : List Cycle) (m : CellRoom (heldBy a) (face ks)) (k c p : ℕ) (lk : length ks ≡ k)
+    (ec : c ≡ cycleTotal (heldBy a)) (ep : p ≡ stepTotal (heldBy a)) (re : allReal ks ≡ true)
     (cs ss : List ℕ) (es : cs ≡ sets (a .cycles) c (map numOf ks)) (et : ss ≡ sets (a .steps) p (spread cycleWords ks)) where
-  pub pools-long : Lengths (withPools a cs ss)
-  pools-long =
-      record {
-        ids = l .ids;
-        kinds = l .kinds;
-        starts = l .starts;
-        ends = l .ends;
-        bends = l .bends;
-        counts = l .counts;
-        px = l .px;
-        py = l .py;
-        cycles = ap length es ∙ length-sets (a .cycles) c (map numOf ks) ∙ l .cycles;
-        steps = ap length et ∙ length-sets (a .steps) p (spread cycleWords ks) ∙ l .steps;
-        bx = l .bx;
-        by = l .by;
-      }
+  long : Lengths (withPools a cs ss)
+  long =
+      pools-long a l cs ss (ap length es ∙ length-sets (a .cycles) c (map numOf ks) ∙ l .cycles)
+      (ap length et ∙ length-sets (a .steps) p (spread cycleWords ks) ∙ l .steps)
 
-  pub face-grew : CellRoom (heldBy a) (face ks) → Grew (heldBy a) (face ks) (heldBy (withFace (withPools a cs ss) k))
-  face-grew m =
+  grew : Grew (heldBy a) (face ks) (heldBy (withFace (withPools a cs ss) k))
+  grew =
       let d = heldBy a in
-      let z = held-sizes a l in
-      let b = pools-long in
-      let ln = length-map ks numOf in
-      let u : take (cycleTotal d + length (map numOf ks)) cs ≡ take (cycleTotal d) (a .cycles) ++ map numOf ks =
-      ap (take (cycleTotal d + length (map numOf ks))) (es ∙ ap (λ (i : ℕ). sets (a .cycles) i (map numOf ks)) ec)
-      ∙ sets-front (a .cycles) (map numOf ks) (cycleTotal d) (omega (arith, m .cycles, ln, l .cycles)) in
-      let v : take (stepTotal d + length (spread cycleWords ks)) ss ≡ take (stepTotal d) (a .steps) ++ spread cycleWords ks =
-      ap (take (stepTotal d + length (spread cycleWords ks))) (et ∙ ap (λ (i : ℕ). sets (a .steps) i (spread cycleWords ks)) ep)
-      ∙ sets-front (a .steps) (spread cycleWords ks) (stepTotal d) (omega (arith, m .steps, l .steps)) in
-      let g =
-      append d z (m .fits) (m .cells) (face ks) cs ss (d .bends)
-      (record { cells = length-set (d .cells) (d .count) _ ∙ z .cells; cycles = b .cycles; steps = b .steps; bends = z .bends })
-      (omega (arith, m .cycles, ln)) u (m .steps) v (m .bends) (no-more (d .bends) (bendTotal d)) re in
-      let q : heldBy (withFace (withPools a cs ss) k) ≡ withCell (heldBy (withPools a cs ss)) (Face (length ks)) =
-      face-held (withPools a cs ss) b k (m .cells) ∙ ap (λ (n : ℕ). withCell (heldBy (withPools a cs ss)) (Face n)) (sym lk) in
-      subst (Grew d (face ks)) (sym q) g
+      face-grew a l cs ss (long .cycles) (long .steps) ks k lk re m
+      (ap (take (cycleTotal d + length (map numOf ks))) (es ∙ ap (λ (i : ℕ). sets (a .cycles) i (map numOf ks)) ec)
+      ∙ sets-front (a .cycles) (map numOf ks) (cycleTotal d) (omega (arith, m .cycles, length-map ks numOf, l .cycles)))
+      (ap (take (stepTotal d + length (spread cycleWords ks))) (et ∙ ap (λ (i : ℕ). sets (a .steps) i (spread cycleWords ks)) ep)
+      ∙ sets-front (a .steps) (spread cycleWords ks) (stepTotal d) (omega (arith, m .steps, l .steps)))
 
 -- ---- 04
 module _ (a : Arrays) (t : Totals) (r : Ready a t) (s : List ℕ) (first k : ℕ) (stand : Stand readCycle s first k) where
@@ -158,8 +113,8 @@ module _ (a : Arrays) (t : Totals) (r : Ready a t) (s : List ℕ) (first k : ℕ
             let c = ready-cycles a t r in
             let p = ready-steps a t r in
             let re : allReal ks ≡ true = reals-read k (drop first s) (drop (stand .end) s) ks (stand .reach .read) in
-            let lb = pools-long a (r .long) ks k (t .cycles) (t .steps) count c p re cs ss es et in
+            let lb = long a (r .long) ks face-room k (t .cycles) (t .steps) count c p re cs ss es et in
             let b = withPools a cs ss in
             obeyed-came a t r (face ks) passed q late y (withFace b k) (face-long b lb k) refl refl
             (face-normal b lb k (face-room .cells) (ready-rows a t r))
-            (face-grew a (r .long) ks k (t .cycles) (t .steps) count c p re cs ss es et face-room)
+            (grew a (r .long) ks face-room k (t .cycles) (t .steps) count c p re cs ss es et)

@@ -4,3 +4,4 @@ pub mod Edits
 pub mod Moved
 pub mod Arcs
 pub mod Splits
+pub mod Runs

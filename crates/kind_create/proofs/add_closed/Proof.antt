@@ -1,6 +1,6 @@
 -- `add_closed` meets its contract: questions 3 and 5, then the edge. Assumes nothing.
 use borrow.Author.Needs.{needs}
-use borrow.Author.Tests.{not-true, not-false}
+use borrow.Author.Tests.{not-false}
 use mathlib.Core.Path.{_≡_, sym, _∙_}
 use mathlib.Core.List.{List}
 use lib.ListN.{length}
@@ -10,11 +10,12 @@ use Rattle.bends.specs.Bends.{positionsAt}
 use Rattle.bends.proofs.Laws.{positions-length}
 use Rattle.complex.specs.Cells.{Figure, closedEdge}
 use Rattle.complex.specs.Decode.{create}
-use Rattle.complex.proofs.Asked.{early-bends, out-bends, no-3, no-5}
+use Rattle.complex.proofs.Asked.{early-bends, no-5}
 use Rattle.ask_create.proofs.Create.{closed-four, closed-five, closed-passed}
 use Rattle.lent.specs.Arrays.{Arrays, lent, heldBy}
 use Rattle.lent.proofs.Sums.{ready-no}
 use Rattle.kind_create.specs.Edges.{closedRow}
+use Rattle.kind_create.proofs.Edges.{bends-out}
 use Rattle.kind_create.proofs.add_closed.Statement.{statement}
 use Rattle.kind_create.proofs.add_closed.Tie as tie
 
@@ -38,9 +39,7 @@ returns : tie.Need-returns
 returns c =
     let w = c .before .before in
     let s = w .before .before in
-    let q = create (edge s) in
-    ready-no (arrays s) (s .args .t) (s .pre .0) q 3 _ (c .line-of .ensures)
-    (no-3 _ q (out-bends q (sym (w .bends-within .ensures) ∙ not-true _ (c .before .if1 .taken))))
+    bends-out (arrays s) (s .args .t) (s .pre .0) (create (edge s)) _ (w .bends-within .ensures) (c .before .if1 .taken) _ (c .line-of .ensures)
 
 returns-2 : tie.Need-returns-2
 returns-2 c =

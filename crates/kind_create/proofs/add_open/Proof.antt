@@ -1,6 +1,6 @@
 -- `add_open` meets its contract: questions 3 and 4, then the edge. Assumes nothing.
 use borrow.Author.Needs.{needs}
-use borrow.Author.Tests.{not-true, not-false, eq-eqb, ne-eqb}
+use borrow.Author.Tests.{not-false, eq-eqb, ne-eqb}
 use Prim.Native.Nat.{ℕ}
 use mathlib.Core.Path.{_≡_, sym, _∙_}
 use mathlib.Core.Bool.{true}
@@ -13,7 +13,7 @@ use Rattle.bends.specs.Bends.{positionsAt}
 use Rattle.complex.specs.Lists.{all}
 use Rattle.complex.specs.Cells.{Figure, openEdge, cellAt, isVertex}
 use Rattle.complex.specs.Decode.{create}
-use Rattle.complex.proofs.Asked.{early-bends, out-bends, no-3, no-4, Passed}
+use Rattle.complex.proofs.Asked.{early-bends, no-4, Passed}
 use Rattle.store.specs.View.{sheetOf}
 use Rattle.sound.specs.Looks.{indexValue}
 use Rattle.answer.proofs.Asked.{kind-vertex}
@@ -21,6 +21,7 @@ use Rattle.ask_create.proofs.Create.{open-four-start, open-four-end, open-passe
 use Rattle.lent.specs.Arrays.{Arrays, lent, heldBy, rowsBy}
 use Rattle.lent.proofs.Sums.{ready-drawing, ready-sizes, ready-fits, ready-indexes, ready-looks, ready-no}
 use Rattle.kind_create.specs.Edges.{openRow}
+use Rattle.kind_create.proofs.Edges.{bends-out}
 use Rattle.kind_create.proofs.add_open.Statement.{statement}
 use Rattle.kind_create.proofs.add_open.Tie as tie
 
@@ -50,9 +51,7 @@ returns : tie.Need-returns
 returns c =
     let w = c .before .before in
     let s = w .before .before in
-    let q = create (edge s) in
-    ready-no (arrays s) (s .args .t) (s .pre .0) q 3 _ (c .line-of .ensures)
-    (no-3 _ q (out-bends q (sym (w .bends-within .ensures) ∙ not-true _ (c .before .if1 .taken))))
+    bends-out (arrays s) (s .args .t) (s .pre .0) (create (edge s)) _ (w .bends-within .ensures) (c .before .if1 .taken) _ (c .line-of .ensures)
 
 value-at-requires : tie.Need-value-at-requires
 value-at-requires c κs =

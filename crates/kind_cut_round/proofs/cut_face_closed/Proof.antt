@@ -1,25 +1,21 @@
 -- `cut_face_closed` meets its contract: questions 3 to 5, 7 and 8, then the cut. Assumes nothing.
 use borrow.Author.Needs.{needs}
-use borrow.Author.Tests.{not-true, not-false, eq-eqb, ne-eqb}
+use borrow.Author.Tests.{not-true, not-false}
 use Prim.Native.Nat.{ℕ}
-use mathlib.Core.Path.{_≡_, refl, sym, ap, _∙_}
-use mathlib.Core.Bool.{true, false}
+use mathlib.Core.Path.{_≡_, refl, sym, _∙_}
+use mathlib.Core.Bool.{true}
 use mathlib.Core.List.{List}
 use native.Mathlib.Omega.{arith}
-use lib.Dec.{lit≤, eqb}
-use lib.ListN.{take}
+use lib.Dec.{lit≤}
 use denote.Ref.{now}
 use Rattle.number.specs.Readers.{all}
 use Rattle.coordinate.specs.Bounds.{within}
 use Rattle.bends.specs.Bends.{positionsAt}
-use Rattle.complex.specs.Lists.{places}
 use Rattle.complex.specs.Decode.{cutFaceClosed}
 use Rattle.complex.proofs.Asked.{no-3, out-bends}
-use Rattle.store.specs.Index.{valueAt}
 use Rattle.answer.proofs.Asked.{next-in}
 use Rattle.decode_parts.specs.Lists.{numbersRead}
 use Rattle.law_cut_face.specs.Rounds.{roundNo}
-use Rattle.law_cut_face.proofs.Rounds.{no-face, no-bend, no-rise, no-none}
 use Rattle.lent.specs.Arrays.{Arrays, lent, heldBy, rowsBy}
 use Rattle.lent.proofs.Sums.{ready-fits, ready-drawing, ready-looks, ready-small, ready-no}
 use Rattle.kind_cut_round.proofs.Asking.{closed-no, closed-refused, closed-cuts, closed-obeyed}
@@ -49,96 +45,47 @@ returns c =
     ready-no (arrays s) (s .args .t) (s .pre .0) q 3 _ (c .line-of .ensures)
     (no-3 _ q (out-bends q (sym (b .bends-within .ensures) ∙ not-true _ (c .before .if1 .taken))))
 
-value-at-requires : tie.Need-value-at-requires
-value-at-requires c κs =
-    let s = c .before .before .before .before .before .before .before in
-    let a = arrays s in
-    (ready-fits a (s .args .t) (s .pre .0) .cells, (s .pre .0 .long .ids, (s .pre .0 .long .kinds, ready-looks a (s .args .t) (s .pre .0) .rising)))
+round-no-requires : tie.Need-round-no-requires
+round-no-requires c κs =
+    let s = c .before .before .before .before .before .before .before .before in
+    let r = s .pre .0 in (
+      record {
+        few = ready-fits (arrays s) (s .args .t) r .cells;
+        idsSize = r .long .ids;
+        kindsSize = r .long .kinds;
+        countsSize = r .long .counts;
+        rising = ready-looks (arrays s) (s .args .t) r .rising;
+      },
+      s .pre .1 .1,
+    )
+
+-- where questions 4 and 5 are answered
+abbrev start : tie.After-round-no → tie.Start
+start x = x .before .before .before .before .before .before .before .before .before
+
+in-range : (x : tie.After-round-no) → all within (positionsAt (start x .args .script .now) (start x .args .first) (start x .args .k)) ≡ true
+in-range x = let e = x .before .before .before .before .before .before in sym (e .before .bends-within .ensures) ∙ not-false _ (e .if1 .left)
 
 line-of-requires-2 : tie.Need-line-of-requires-2
 line-of-requires-2 c κs = search needs
 
--- where the kind of f is known
-abbrev start : tie.After-value-at → tie.Start
-start v = v .before .before .before .before .before .before .before .before
-
-in-range : (v : tie.After-value-at) → all within (positionsAt (start v .args .script .now) (start v .args .first) (start v .args .k)) ≡ true
-in-range v = sym (v .before .before .before .before .before .before .bends-within .ensures) ∙ not-false _ (v .before .before .before .before .before .if1 .left)
-
-is-kind : (v : tie.After-value-at) → eqb
-    (valueAt 4 (take (now (start v .args .count)) (now (start v .args .ids))) (take (now (start v .args .count)) (now (start v .args .kinds)))
-    (start v .args .f)) 3 ≡ eqb (v .value-at .result) 3
-is-kind v = ap (λ (n : ℕ). eqb n 3) (sym (v .value-at .ensures))
-
 returns-2 : tie.Need-returns-2
 returns-2 c =
-    let v = c .before .before in
-    let s = start v in
+    let x = c .before .before in
+    let s = start x in
     closed-no (arrays s) (s .args .t) (s .pre .0) (s .args .script .now) (s .args .f) (s .args .k) (s .args .first) (s .args .moved) (s .args .place)
-    (in-range v) 4
-    (no-face (rowsBy (arrays s)) (now (s .args .count)) (s .args .f) (s .args .k) (named s) (is-kind v ∙ ne-eqb _ 3 (c .before .if2 .taken)))
-    (λ z. omega (arith, z)) _ (c .line-of2 .ensures)
+    (in-range x) (x .round-no .result) (x .round-no .ensures) (c .before .if2 .taken) _ (c .line-of2 .ensures)
 
-line-of-requires-3 : tie.Need-line-of-requires-3
-line-of-requires-3 c κs = search needs
-
-returns-3 : tie.Need-returns-3
-returns-3 c =
-    let e = c .before .before in
-    let v = e .before in
-    let s = start v in
-    closed-no (arrays s) (s .args .t) (s .pre .0) (s .args .script .now) (s .args .f) (s .args .k) (s .args .first) (s .args .moved) (s .args .place)
-    (in-range v) 5
-    (no-bend (rowsBy (arrays s)) (now (s .args .count)) (s .args .f) (s .args .k) (named s) (is-kind v ∙ eq-eqb _ 3 (e .if2 .left))
-    (eq-eqb (s .args .k) 0 (c .before .if3 .taken))) (λ z. omega (arith, z)) _ (c .line-of3 .ensures)
-
-value-at-requires-2 : tie.Need-value-at-requires-2
-value-at-requires-2 c κs =
-    let s = c .before .before .before .before .before .before .before .before .before .before .before .before in
-    let a = arrays s in
-    (ready-fits a (s .args .t) (s .pre .0) .cells, (s .pre .0 .long .ids, (s .pre .0 .long .counts, ready-looks a (s .args .t) (s .pre .0) .rising)))
-
-moved-rise-requires : tie.Need-moved-rise-requires
-moved-rise-requires c κs = let s = c .before .before .before .before .before .before .before .before .before .before .before .before .before in s .pre .1 .1
-
-line-of-requires-4 : tie.Need-line-of-requires-4
-line-of-requires-4 c κs = search needs
-
-returns-4 : tie.Need-returns-4
-returns-4 c =
-    let r = c .before .before in
-    let y = r .before in
-    let b = y .before .before .before in
-    let e = b .before in
-    let v = e .before in
-    let s = start v in
-    closed-no (arrays s) (s .args .t) (s .pre .0) (s .args .script .now) (s .args .f) (s .args .k) (s .args .first) (s .args .moved) (s .args .place)
-    (in-range v) 5
-    (no-rise (rowsBy (arrays s)) (now (s .args .count)) (s .args .f) (s .args .k) (named s) (is-kind v ∙ eq-eqb _ 3 (e .if2 .left))
-    (ne-eqb (s .args .k) 0 (b .if3 .left))
-    (ap (places 0 (named s)) (sym (y .value-at2 .ensures)) ∙ sym (r .moved-rise .ensures) ∙ not-true _ (c .before .if4 .taken))) (λ z. omega (arith, z)) _
-    (c .line-of4 .ensures)
-
--- questions 4 and 5 got a yes
-none-no : (d : tie.Else4) → let s = start (d .before .before .before .before .before .before .before) in
-    0 ≡ roundNo (rowsBy (arrays s)) (now (s .args .count)) (s .args .f) (s .args .k) (named s)
-none-no d =
-    let r = d .before in
-    let y = r .before in
-    let b = y .before .before .before in
-    let e = b .before in
-    let v = e .before in
-    let s = start v in
-    no-none (rowsBy (arrays s)) (now (s .args .count)) (s .args .f) (s .args .k) (named s) (is-kind v ∙ eq-eqb _ 3 (e .if2 .left))
-    (ne-eqb (s .args .k) 0 (b .if3 .left))
-    (ap (places 0 (named s)) (sym (y .value-at2 .ensures)) ∙ sym (r .moved-rise .ensures) ∙ not-false _ (d .if4 .left))
+-- both got a yes
+none-no : (d : tie.Else2) → let s = start (d .before) in 0 ≡ roundNo (rowsBy (arrays s)) (now (s .args .count)) (s .args .f) (s .args .k) (named s)
+none-no d = sym (d .if2 .left) ∙ d .before .round-no .ensures
 
 wide-requires : tie.Need-wide-requires
 wide-requires c κs = search needs
 
 late-no-requires : tie.Need-late-no-requires
 late-no-requires c κs =
-    let s = c .before .before .before .before .before .before .before .before .before .before .before .before .before .before .before .before in
+    let s = c .before .before .before .before .before .before .before .before .before .before .before in
     let a = arrays s in (
       next-in (heldBy a) (ready-drawing a (s .args .t)
           (s .pre .0)),
@@ -152,19 +99,18 @@ late-no-requires c κs =
       ),
     )
 
-line-of-requires-5 : tie.Need-line-of-requires-5
-line-of-requires-5 c κs = search needs
+line-of-requires-3 : tie.Need-line-of-requires-3
+line-of-requires-3 c κs = search needs
 
-returns-5 : tie.Need-returns-5
-returns-5 c =
+returns-3 : tie.Need-returns-3
+returns-3 c =
     let l = c .before .before in
     let x = l .before in
     let d = x .before in
-    let v = d .before .before .before .before .before .before .before in
-    let s = start v in
+    let s = start (d .before) in
     closed-refused (arrays s) (s .args .t) (s .pre .0) (s .args .script .now) (s .args .f) (s .args .k) (s .args .first) (s .args .moved) (s .args .place)
-    (in-range v) (none-no d) (x .wide .result) (x .wide .ensures) (l .late-no .result) (l .late-no .ensures) (c .before .if5 .taken) _
-    (c .line-of5 .ensures)
+    (in-range (d .before)) (none-no d) (x .wide .result) (x .wide .ensures) (l .late-no .result) (l .late-no .ensures) (c .before .if3 .taken) _
+    (c .line-of3 .ensures)
 
 cut-round-requires : tie.Need-cut-round-requires
 cut-round-requires c κs =
@@ -172,25 +118,23 @@ cut-round-requires c κs =
     let l = g .before in
     let x = l .before in
     let d = x .before in
-    let v = d .before .before .before .before .before .before .before in
-    let s = start v in (
+    let s = start (d .before) in (
       s .pre .0,
       closed-cuts (arrays s) (s .args .t) (s .pre .0) (s .args .script .now) (s .args .f) (s .args .k) (s .args .first) (s .args .moved)
-          (s .args .place) (in-range v) (none-no d) (x .wide .result) (x .wide .ensures) (l .late-no .result) (l .late-no .ensures) (g .if5 .left)
+          (s .args .place) (in-range (d .before)) (none-no d) (x .wide .result) (x .wide .ensures) (l .late-no .result) (l .late-no .ensures) (g .if3 .left)
           (s .pre .1 .0) (s .pre .1 .1),
     )
 
-returns-6 : tie.Need-returns-6
-returns-6 c =
+returns-4 : tie.Need-returns-4
+returns-4 c =
     let g = c .before .before .before .before .before .before .before .before .before .before .before .before .before in
     let l = g .before in
     let x = l .before in
     let d = x .before in
-    let v = d .before .before .before .before .before .before .before in
-    let s = start v in
+    let s = start (d .before) in
     let w = c .cut-round .ensures in
     closed-obeyed (arrays s) (s .args .t) (s .pre .0) (s .args .script .now) (s .args .f) (s .args .k) (s .args .first) (s .args .moved) (s .args .place)
-    (in-range v) (none-no d) (x .wide .result) (x .wide .ensures) (l .late-no .result) (l .late-no .ensures) (g .if5 .left) _ (w .0) (w .1 .0)
+    (in-range (d .before)) (none-no d) (x .wide .result) (x .wide .ensures) (l .late-no .result) (l .late-no .ensures) (g .if3 .left) _ (w .0) (w .1 .0)
     (w .1 .1) _ refl
 
 pub cut-face-closed-spec : {M : Type 1} → statement M
@@ -200,18 +144,12 @@ cut-face-closed-spec =
     bends-within-requires
     line-of-requires
     returns
-    value-at-requires
+    round-no-requires
     line-of-requires-2
     returns-2
-    line-of-requires-3
-    returns-3
-    value-at-requires-2
-    moved-rise-requires
-    line-of-requires-4
-    returns-4
     wide-requires
     late-no-requires
-    line-of-requires-5
-    returns-5
+    line-of-requires-3
+    returns-3
     cut-round-requires
-    returns-6)
+    returns-4)

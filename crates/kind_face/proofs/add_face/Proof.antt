@@ -1,6 +1,7 @@
 -- `add_face` meets its contract: questions 4 and 6, then 7 and 8, then the cycles, the steps and the row. Assumes nothing.
 use borrow.Author.Needs.{needs}
 use native.Mathlib.Omega.{arith}
+use mathlib.Core.Path.{refl}
 use lib.Dec.{lit≤}
 use denote.Ref.{now}
 use Rattle.complex.specs.Cells.{face}
@@ -9,6 +10,8 @@ use Rattle.decode_parts.specs.Lists.{cyclesRead}
 use Rattle.answer.proofs.Asked.{next-in}
 use Rattle.lent.specs.Arrays.{Arrays, lent, heldBy}
 use Rattle.lent.proofs.Sums.{ready-drawing, ready-small}
+use Rattle.kernel_add.proofs.Comes.{row-added}
+use Rattle.kernel_add.proofs.Faces.{withPools}
 use Rattle.kind_face.proofs.Face.{face-rowed, obeyed-asked, obeyed-face-full, face-room, face-space, obeyed-face}
 use Rattle.kind_face.proofs.add_face.Statement.{statement}
 use Rattle.kind_face.proofs.add_face.Tie as tie
@@ -123,30 +126,12 @@ returns-3 c =
     let cs = p .put-cycles .last .1 .1 .1 .0 in
     let ss = p .put-cycles .last .1 .1 .1 .1 .1 .0 in
     let w = c .add-row .ensures in
-    let y = w .1 .1 .1 in
     obeyed-face a (s .args .t) (s .pre .0) (now (s .args .script)) (s .args .first) (s .args .k) (s .pre .1) (f .face-no .result) (f .face-no .ensures)
     (e .if1 .left) (l .before .wide .result) (m .count-cycle-steps .result) (l .cell-no .result) (l .before .wide .ensures) (m .count-cycle-steps .ensures)
     (l .cell-no .ensures)
     (g .if2 .left)
     cs ss (p .put-cycles .ensures .1 .0) (p .put-cycles .ensures .1 .1)
-    _
-    (λ i. record {
-      next = w .1 .0 i;
-      count = w .1 .1 .0 i;
-      ids = y .0 i;
-      kinds = y .1 .0 i;
-      starts = y .1 .1 .0 i;
-      ends = y .1 .1 .1 .0 i;
-      bends = y .1 .1 .1 .1 .0 i;
-      counts = y .1 .1 .1 .1 .1 i;
-      px = a .px;
-      py = a .py;
-      cycles = cs;
-      steps = ss;
-      bx = a .bx;
-      by = a .by;
-    })
-    _ (w .0)
+    _ (row-added _ (withPools a cs ss) 3 0 0 0 (s .args .k) (w .1) refl refl refl refl) _ (w .0)
 
 pub add-face-spec : {M : Type 1} → statement M
 add-face-spec =
