@@ -2,7 +2,7 @@
 use Prim.Native.Nat.{ℕ, suc, _+_, _-_, _<_, _≤_}
 use mathlib.Core.Path.{_≡_, ap, ap₂, sym, subst, _∙_}
 use mathlib.Core.Bool.{Bool, false}
-use mathlib.Core.List.{List, [], _∷_, _++_, append-assoc}
+use mathlib.Core.List.{List, _∷_, _++_, append-assoc}
 use native.Mathlib.Omega.{arith}
 use native.Mathlib.Numerals.{add-one}
 use lib.ListN.{length, take, drop, getD, set, length-append, length-drop, take-append-drop}
@@ -17,7 +17,7 @@ use Rattle.store.proofs.Lists.{sum-append, sum-more, sum-le, kept-append}
 use Rattle.rows_spans.specs.declared.Used.{Used}
 use Rattle.rows_spans.specs.declared.Spans.{Spans}
 use Rattle.rows_spans.specs.Building.{Building, Built, built, RoomFor}
-use Rattle.rows_spans.proofs.Building.{cycles-append}
+use Rattle.rows_spans.proofs.Building.{cycles-append, built-none}
 use Rattle.rows_spans.proofs.Splicing.{run-take}
 use Rattle.rows_corners.specs.Faces.{Within, cyclesAt}
 use Rattle.rows_corners.proofs.Lists.{built-as, built-then, at-length}
@@ -75,12 +75,10 @@ module _ {cycles steps : List ℕ} {t : Spans} (w : Within cycles steps t) (flag
     ahead-is : cyclesFrom (take c own) held ≡ take c ks
     ahead-is = sym (take-cycles c (take n own) held ∙ ap (λ (l : List ℕ). cyclesFrom l held) (take-take c n own h))
 
-    pub ahead-asks : {numbers places : List ℕ} {u : Used} → RoomFor (length numbers) (length places) (ahead flags c ks) → Built [] numbers u places
-        → CopyAsks cycles (t .cycles .first) c steps (t .steps .first) flags numbers u places
-    ahead-asks {numbers} {places} {u} room b =
-        let z = built-size b in
-        let z0 = z .0 in
-        let z1 = z .1 in
+    ahead-asks : {N M : ℕ} → RoomFor N M (ahead flags c ks) → {numbers places : List ℕ} → length numbers ≡ N → length places ≡ M
+        → CopyAsks cycles (t .cycles .first) c steps (t .steps .first) flags numbers (record { cycles = 0; steps = 0 }) places
+    ahead-asks room {numbers} {places} zc zs =
+        let b = built-none numbers places (omega (arith, room .fewCounts)) (omega (arith, room .fewSteps)) in
         let i = w .inCycles in
         let lc = w .cyclesSize in
         let ls = w .stepsSize in
@@ -93,10 +91,9 @@ module _ {cycles steps : List ℕ} {t : Spans} (w : Within cycles steps t) (flag
         let rs = room .steps in
         (b .building, (omega arith, (omega arith, (omega arith, (omega arith, omega arith)))))
 
-    pub ahead-built : {numbers places numbers′ places′ : List ℕ} {u u′ : Used} → Built [] numbers u places
-        → Built (built numbers u places ++ kept (take c flags) (cyclesFrom (take c own) held)) numbers′ u′ places′
-        → Built (ahead flags c ks) numbers′ u′ places′
-    ahead-built b₀ b = built-as (ap (kept (take c flags)) ahead-is) (built-then (kept (take c flags) (cyclesFrom (take c own) held)) b₀ b)
+    ahead-built : {numbers places : List ℕ} {u : Used} → Built (kept (take c flags) (cyclesFrom (take c own) held)) numbers u places
+        → Built (ahead flags c ks) numbers u places
+    ahead-built b = built-as (ap (kept (take c flags)) ahead-is) b
 
   -- ---- the cycles after c, which stands at p
   module _ (c : ℕ) (h : c < n) (p : Place) (ep : p ≡ placeOf cycles t c) where
@@ -188,9 +185,16 @@ module _ {cycles steps : List ℕ} {t : Spans} (w : Within cycles steps t) (flag
         ∙ kept-append (take c flags) (false ∷ take (n - (c + 1)) (drop (c + 1) flags)) (take c ks) (x ∷ drop (c + 1) ks) (lf ∙ sym lk)
         ∙ sym (append-assoc before (one x) after)
 
+    -- those before it as they are copied
+    abbrev copied : List Cycle
+    copied = kept (take c flags) (cyclesFrom (take c own) held)
+
+    fronted : {numbers places : List ℕ} {u : Used} → Built copied numbers u places → Built before numbers u places
+    fronted b = ahead-built c (omega arith) b
+
     module _ {numbers places numbers′ places′ : List ℕ} {u u′ : Used} where
-      pub new-built : Built before numbers u places → Built (built numbers u places ++ one x) numbers′ u′ places′ → Built (before ++ one x) numbers′ u′ places′
-      new-built a b = built-then (one x) a b
+      pub new-built : Built copied numbers u places → Built (built numbers u places ++ one x) numbers′ u′ places′ → Built (before ++ one x) numbers′ u′ places′
+      new-built a b = built-then (one x) (fronted a) b
 
       pub about-built : Built (before ++ one x) numbers u places → Built (built numbers u places ++ after) numbers′ u′ places′
           → Built (kept (take n flags) (set ks c x)) numbers′ u′ places′
@@ -210,16 +214,20 @@ module _ {cycles steps : List ℕ} {t : Spans} (w : Within cycles steps t) (flag
           let f = sum-append stepCount before (one x) in
           omega (arith, room .steps)
 
-      pub before-room : RoomFor N M before
+      before-room : RoomFor N M before
       before-room =
           let a = all-cycles in
           let b = all-steps in
           record { fewCounts = room .fewCounts; fewSteps = room .fewSteps; cycles = omega arith; steps = omega arith }
 
+      pub before-asks : {numbers places : List ℕ} → length numbers ≡ N → length places ≡ M
+          → CopyAsks cycles (t .cycles .first) c steps (t .steps .first) flags numbers (record { cycles = 0; steps = 0 }) places
+      before-asks lc ls = ahead-asks c (omega arith) before-room lc ls
+
       module _ {numbers places : List ℕ} {u : Used} (lc : length numbers ≡ N) (ls : length places ≡ M) where
-        pub new-room : Built before numbers u places → (u .cycles < length numbers) × (u .steps + stepCount x ≤ length places)
+        pub new-room : Built copied numbers u places → (u .cycles < length numbers) × (u .steps + stepCount x ≤ length places)
         new-room b =
-            let z = built-size b in
+            let z = built-size (fronted b) in
             let z0 = z .0 in
             let z1 = z .1 in
             let a = all-cycles in

@@ -2,13 +2,13 @@
 use Prim.Native.Nat.{ℕ, _+_, _*_, _≤_}
 use mathlib.Core.Path.{_≡_, ap, sym, _∙_}
 use mathlib.Core.Bool.{Bool, false}
-use mathlib.Core.List.{List, [], _∷_, _++_, map}
+use mathlib.Core.List.{List, _∷_, _++_, map}
 use native.Mathlib.Omega.{arith}
-use lib.ListN.{length, take, getD, set, length-append, length-map}
+use lib.ListN.{length, take, drop, getD, set, length-append, length-map}
 use Rattle.complex.specs.Lists.{one, distance}
 use Rattle.complex.specs.Cells.{Halfedge, Cycle, path}
 use Rattle.complex.specs.Sound.{stepCount}
-use Rattle.store.specs.View.{halfedgeOf}
+use Rattle.store.specs.View.{halfedgeOf, cyclesFrom}
 use Rattle.store.specs.Edits.{kept}
 use Rattle.rows_spans.specs.declared.Used.{Used}
 use Rattle.rows_spans.specs.declared.Spans.{Spans}
@@ -16,20 +16,13 @@ use Rattle.rows_spans.specs.Building.{Built, built, RoomFor}
 use Rattle.rows_corners.specs.Faces.{Within, cyclesAt}
 use Rattle.rows_corners.specs.Arcs.{arcOf, ArcRoom, CopyRoom}
 use Rattle.rows_corners.proofs.Arcs.{arc-length}
-use Rattle.rows_corners.proofs.Lists.{built-as, built-then}
+use Rattle.rows_corners.proofs.Lists.{built-as}
 use Rattle.rows_split.specs.declared.Place.{Place}
 use Rattle.rows_split.specs.Parts.{cycleAt, nearCycle, Cornered}
 use Rattle.rows_split.proofs.Arcs.{corner-most, distance-most, near-is}
-use Rattle.rows_split.proofs.Places.{built-size, steps-within, cornered-room, kept-asks}
+use Rattle.rows_split.proofs.Places.{steps-within, cornered-room, kept-asks}
 use Rattle.kernel_arcs.specs.Lists.{ahead}
-use Rattle.kernel_arcs.proofs.Lists.{CopyAsks, new-room}
-
-pub none-used : {numbers places : List ℕ} {u : Used} → Built [] numbers u places → u ≡ record { cycles = 0; steps = 0 }
-none-used b =
-    let z = built-size b in
-    let p = z .0 in
-    let q = z .1 in
-    λ i. record { cycles = p i; steps = q i }
+use Rattle.kernel_arcs.proofs.Lists.{CopyAsks, new-room, new-built}
 
 copy-asks : {cycles steps : List ℕ} {from k step : ℕ} {skip : List Bool} {numbers places : List ℕ} {u : Used}
     → CopyRoom cycles steps from k step skip numbers u places → CopyAsks cycles from k steps step skip numbers u places
@@ -65,6 +58,9 @@ module _ {cycles steps : List ℕ} {t : Spans} {c : ℕ} {p : Place} {s1 s2 : �
   abbrev before : List Cycle
   before = ahead flags c (cyclesAt cycles steps t)
 
+  abbrev copied : List Cycle
+  copied = kept (take c flags) (cyclesFrom (take c (drop (t .cycles .first) cycles)) (drop (t .steps .first) steps))
+
   in-steps : p .at + p .m ≤ length steps
   in-steps = steps-within steps (k1 .within .stepsSize) p (cornered-room cycles steps t c p s1 k1)
 
@@ -87,7 +83,7 @@ module _ {cycles steps : List ℕ} {t : Spans} {c : ℕ} {p : Place} {s1 s2 : �
       ap stepCount (sym arc-is) ∙ length-append (map halfedgeOf (arc len)) ending
       ∙ ap (λ (n : ℕ). n + 1) (length-map (arc len) halfedgeOf ∙ arc-long)
 
-  module _ {numbers places : List ℕ} {u : Used} (b : Built before numbers u places) where
+  module _ {numbers places : List ℕ} {u : Used} (b : Built copied numbers u places) where
     pub near-asks : length numbers ≡ N → length places ≡ M → ArcRoom steps (p .at) (p .m) s1 len numbers u places
     near-asks lc ls =
         let r = new-room (k1 .within) flags fs c (k1 .cycle) st new room lc ls b in
@@ -106,4 +102,5 @@ module _ {cycles steps : List ℕ} {t : Spans} {c : ℕ} {p : Place} {s1 s2 : �
     pub near-put : {numbers′ places′ : List ℕ} {u′ : Used}
         → Built (built numbers u places ++ one (path (map halfedgeOf (arc len) ++ ending))) numbers′ u′ places′
         → Built (before ++ one new) numbers′ u′ places′
-    near-put d = built-as (ap (λ (y : Cycle). before ++ one y) arc-is) (built-then (one (path (map halfedgeOf (arc len) ++ ending))) b d)
+    near-put d =
+        new-built (k1 .within) flags fs c (k1 .cycle) st new b (built-as (ap (λ (y : Cycle). built numbers u places ++ one y) arc-is) d)

@@ -1,11 +1,11 @@
 ghost use mathlib.Core.Path.{_≡_};
 ghost use mathlib.Core.Bool.{false};
-ghost use mathlib.Core.List.{_∷_, [], _++_, map};
+ghost use mathlib.Core.List.{_∷_, _++_, map};
 ghost use Prim.Native.Nat.{_+_, _<_, _≤_};
 ghost use lib.ListN.{length, take, getD, set};
 ghost use Rattle.complex.specs.Lists.{total, one};
 ghost use Rattle.complex.specs.Cells.{path};
-ghost use Rattle.complex.specs.Sound.{idsEnd, cyclesMost, stepsMost, stepCount};
+ghost use Rattle.complex.specs.Sound.{idsEnd, stepCount};
 ghost use Rattle.store.specs.View.{halfedgeOf, width};
 ghost use Rattle.store.specs.Edits.{kept};
 ghost use Rattle.rows_spans.specs.Building.{Building, Built, built, RoomFor};
@@ -14,56 +14,12 @@ ghost use Rattle.rows_corners.specs.Faces.{Within, cyclesAt};
 ghost use Rattle.rows_corners.specs.Arcs.{arcOf, ArcRoom};
 ghost use Rattle.rows_split.specs.Along.{nearSide, farSide, bridge};
 ghost use Rattle.rows_split.specs.Parts.{placeOf, cycleAt, nearCycle, farCycle, bridgeCycle, Cornered, SplitParting, Joining, Bridging};
-ghost use Rattle.kernel_arcs.specs.Lists.{ahead, behind};
+ghost use Rattle.kernel_arcs.specs.Lists.{behind};
 use rows_spans::Spans;
 use rows_spans::Used;
 use rows_split::Place;
 
 // ---- lists under construction in lent arrays
-
-// No cycle yet.
-fn start(numbers: &[u32], places: &[u32]) -> Used
-    requires { ⌜ length (now numbers) ≤ cyclesMost ⌝ }
-    requires { ⌜ length (now places) ≤ stepsMost ⌝ }
-    ensures { λ r. ⌜ Built [] (now (numbers .entry)) r (now (places .entry)) ⌝ }
-{
-    Used {
-        cycles: 0,
-        steps: 0,
-    }
-}
-
-// The cycles of a span before cycle c that are not flagged.
-fn ahead(
-    cycles: &[u32; 512],
-    steps: &[u32; 2048],
-    t: Spans,
-    flags: &[bool],
-    c: u32,
-    numbers: &mut [u32],
-    places: &mut [u32],
-) -> Used
-    requires { ⌜ Within (now cycles) (now steps) t ⌝ }
-    requires { ⌜ c ≤ t .cycles .count ⌝ }
-    requires { ⌜ t .cycles .count ≤ length (now flags) ⌝ }
-    requires { ⌜ RoomFor (length (now numbers)) (length (now places)) (ahead (now flags) c (cyclesAt (now cycles) (now steps) t)) ⌝ }
-    ensures { λ r. ⌜ Built (ahead (now (flags .entry)) c (cyclesAt (now (cycles .entry)) (now (steps .entry)) t)) (now (numbers .exit)) r (now (places .exit)) ⌝ }
-{
-    let k = t.cycles;
-    let s = t.steps;
-    let none = start(numbers, places);
-    kernel_lists::copy_cycles(
-        cycles,
-        k.first,
-        c as usize,
-        steps,
-        s.first,
-        flags,
-        numbers,
-        places,
-        none,
-    )
-}
 
 // A list with the cycles of a span after cycle c, which stands at p, that are not flagged.
 fn behind(
@@ -86,13 +42,12 @@ fn behind(
     requires { ⌜ u .steps + total stepCount (behind (now flags) (t .cycles .count) c (cyclesAt (now cycles) (now steps) t)) ≤ length (now places) ⌝ }
     ensures { λ r. ⌜ Built (built (now (numbers .entry)) u (now (places .entry)) ++ behind (now (flags .entry)) (t .cycles .count) c (cyclesAt (now (cycles .entry)) (now (steps .entry)) t)) (now (numbers .exit)) r (now (places .exit)) ⌝ }
 {
-    let k = t.cycles;
     let next = c as usize + 1;
     let end = rows_corners::after(p.at, p.m as usize);
     kernel_lists::copy_cycles(
         cycles,
-        k.first + next,
-        k.count - next,
+        t.cycles.first + next,
+        t.cycles.count - next,
         steps,
         end,
         &flags[next..],
@@ -150,7 +105,21 @@ pub fn near_side(
     let m = p.m as usize;
     let s = s1 as usize;
     let len = rows_split::between(m, s, s2 as usize);
-    let a = ahead(cycles, steps, t, flags, c, numbers, places);
+    let none = Used {
+        cycles: 0,
+        steps: 0,
+    };
+    let a = kernel_lists::copy_cycles(
+        cycles,
+        t.cycles.first,
+        c as usize,
+        steps,
+        t.steps.first,
+        flags,
+        numbers,
+        places,
+        none,
+    );
     let b = and_arc(steps, p.at, m, s, len, 2 * e + 1, numbers, places, a);
     behind(cycles, steps, t, flags, c, p, numbers, places, b)
 }
@@ -180,16 +149,17 @@ pub fn far_side(
     let m = p.m as usize;
     let s = s2 as usize;
     let len = rows_split::between(m, s1 as usize, s);
-    let none = start(numbers, places);
+    let none = Used {
+        cycles: 0,
+        steps: 0,
+    };
     let u = and_arc(steps, p.at, m, s, m - len, 2 * e, numbers, places, none);
-    let k = t.cycles;
-    let w = t.steps;
     kernel_lists::copy_cycles(
         cycles,
-        k.first,
-        k.count,
+        t.cycles.first,
+        t.cycles.count,
         steps,
-        w.first,
+        t.steps.first,
         flags,
         numbers,
         places,
@@ -287,7 +257,21 @@ pub fn bridge_list(
     let mut flags = [false; 512];
     let i = c2 as usize;
     flags[i] = true;
-    let a = ahead(cycles, steps, t, &flags, c1, numbers, places);
+    let none = Used {
+        cycles: 0,
+        steps: 0,
+    };
+    let a = kernel_lists::copy_cycles(
+        cycles,
+        t.cycles.first,
+        c1 as usize,
+        steps,
+        t.steps.first,
+        &flags,
+        numbers,
+        places,
+        none,
+    );
     let b = and_joined(steps, p, s1, q, s2, e, numbers, places, a);
     behind(cycles, steps, t, &flags, c1, p, numbers, places, b)
 }

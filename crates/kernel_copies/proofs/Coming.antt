@@ -1,12 +1,13 @@
 -- Rows that come after the last, all of one shape, and their bends. Assumes nothing.
-use Prim.Native.Nat.{ℕ, _+_, _-_, _*_, _%_, _<_, _≤_}
+use Prim.Native.Nat.{ℕ, zero, suc, _+_, _-_, _*_, _%_, _<_, _≤_}
 use native.Mathlib.Omega.{arith}
+use native.Mathlib.Numerals.{add-one}
 use borrow.Author.Tests.{ne-eqb}
 use native.Mathlib.Nat.{mod-self, mod-add-mod}
 use mathlib.Core.Path.{_≡_, refl, sym, ap, ap₂, _∙_, subst}
 use mathlib.Core.Bool.{true, false, cond}
 use mathlib.Core.List.{List}
-use lib.Ieee.{Float}
+use lib.Ieee.{Float, nan}
 use lib.Dec.{T, eqb}
 use lib.ListN.{length, getD, set, take, length-set}
 use lib.Seq.{paste, paste-zero}
@@ -36,7 +37,7 @@ use Rattle.lent.specs.Arrays.{Arrays, shapeBy, shapeAt, positionIn, positionsIn
 use Rattle.lent.specs.Growing.{withRow}
 use Rattle.lent.proofs.Held.{all-at, cells-shape, cells-told, held-sizes, told, positions-at, positions-set, positions-length, place-other, place-same}
 use Rattle.lent.proofs.Grown.{row-long, row-held, row-normal}
-use Rattle.kernel_copies.specs.Copies.{RowsCome, CopiesCome, UsesCopied}
+use Rattle.kernel_copies.specs.Copies.{filled, numbered, RowsPut, CopiesCome, UsesCopied}
 
 -- ---- places in a round
 pub round-next : (j i k r : ℕ) → i ≡ j % k → r ≡ (i + 1) % k → r ≡ (j + 1) % k
@@ -63,9 +64,38 @@ bend-put us₀ vs₀ us vs us′ vs′ base n first k i j p l₀ m₀ l m e ei h
     ap₂ positionsIn eu ev ∙ positions-set us vs (base + j) p ∙ ap (set ps (base + j)) at
     ∙ bend-more ps₀ ps base n first k j p e h (omega (arith, g, z, l₀)) t
 
+-- ---- the lists of rows, one turn at a time
+fill-more : {A : Type 0} {m m′ : List A} (l : List A) (at : ℕ) (x : A) (i : ℕ) → m ≡ filled l at x i → m′ ≡ set m (at + i) x → m′ ≡ filled l at x (i + 1)
+fill-more {A} l at x i e f = f ∙ ap (λ (q : List A). set q (at + i) x) e ∙ ap (filled l at x) (sym (add-one i))
+
+pub rows-turn : {next count row i : ℕ} {is ks ss es bs cs : List ℕ} {us vs : List Float} {is′ ks′ ss′ es′ bs′ cs′ : List ℕ} {us′ vs′ : List Float}
+    → RowsPut next count row i is ks ss es bs cs us vs is′ ks′ ss′ es′ bs′ cs′ us′ vs′
+    → {id : ℕ} → id ≡ next + i → {p : Position} → p ≡ positionIn us vs row
+    → {is″ ks″ ss″ es″ bs″ cs″ : List ℕ} {us″ vs″ : List Float} → is″ ≡ set is′ (count + i) id → ks″ ≡ set ks′ (count + i) (getD ks row 0)
+    → ss″ ≡ set ss′ (count + i) (getD ss row 0) → es″ ≡ set es′ (count + i) (getD es row 0) → bs″ ≡ set bs′ (count + i) (getD bs row 0)
+    → cs″ ≡ set cs′ (count + i) (getD cs row 0) → us″ ≡ set us′ (count + i) (p .x) → vs″ ≡ set vs′ (count + i) (p .y)
+    → RowsPut next count row (i + 1) is ks ss es bs cs us vs is″ ks″ ss″ es″ bs″ cs″ us″ vs″
+rows-turn {next} {count} {row} {i} {is} {ks} {ss} {es} {bs} {cs} {us} {vs} {is′} {ks′} {ss′} {es′} {bs′} {cs′} {us′} {vs′} r ei ep e k s f b c u v =
+    record {
+      ids = e ∙ ap₂ (λ (q : List ℕ) (n : ℕ). set q (count + i) n) (r .ids) ei ∙ ap (numbered is count next) (sym (add-one i));
+      kinds = fill-more ks count (getD ks row 0) i (r .kinds) k;
+      starts = fill-more ss count (getD ss row 0) i (r .starts) s;
+      ends = fill-more es count (getD es row 0) i (r .ends) f;
+      bends = fill-more bs count (getD bs row 0) i (r .bends) b;
+      counts = fill-more cs count (getD cs row 0) i (r .counts) c;
+      px = fill-more us count (getD us row nan) i (r .px) (u ∙ ap (λ (q : Position). set us′ (count + i) (q .x)) ep);
+      py = fill-more vs count (getD vs row nan) i (r .py) (v ∙ ap (λ (q : Position). set vs′ (count + i) (q .y)) ep);
+    }
+
 -- ---- a row more
+-- b has i of n rows of the shape s more, with the next ids
+pub record RowsCome (a : Arrays) (s : Shape) (n i : ℕ) (b : Arrays) : Type 0 where
+  pub held : heldBy b ≡ withCells (heldBy a) (a .next + i) (a .count + i) (paste (heldBy a .cells) (a .count) (copyCells (a .next) s n) i)
+  pub long : Lengths b
+  pub rows : normal b ≡ true
+
 module _ (a : Arrays) (s : Shape) (n : ℕ) where
-  pub rows-none : Lengths a → normal a ≡ true → (b : Arrays) → b ≡ a → RowsCome a s n 0 b
+  rows-none : Lengths a → normal a ≡ true → (b : Arrays) → b ≡ a → RowsCome a s n 0 b
   rows-none l m b e =
       let p : a .next ≡ a .next + 0 = omega arith in
       let q : a .count ≡ a .count + 0 = omega arith in
@@ -111,7 +141,7 @@ module _ (a : Arrays) (s : Shape) (n : ℕ) where
         ∙ (λ j. withCells d (pn j) (pc j) (put j))
         ∙ ap (λ (q : Drawing). withCells q (a .next + (i + 1)) (a .count + (i + 1)) (paste cs (a .count) (copyCells (a .next) s n) (i + 1))) (r .held)
 
-    pub rows-more : (b′ : Arrays) → b′ ≡ after → RowsCome a s n (i + 1) b′
+    rows-more : (b′ : Arrays) → b′ ≡ after → RowsCome a s n (i + 1) b′
     rows-more b′ e =
         record {
           held = ap heldBy e ∙ held-more;
@@ -121,9 +151,58 @@ module _ (a : Arrays) (s : Shape) (n : ℕ) where
         }
 
 -- the row that is copied
-pub row-ok : (a : Arrays) → normal a ≡ true → (row : ℕ) → row < a .count
+row-ok : (a : Arrays) → normal a ≡ true → (row : ℕ) → row < a .count
     → rowNormal (getD (a .kinds) row 0) (getD (a .starts) row 0) (getD (a .ends) row 0) (getD (a .bends) row 0) (getD (a .counts) row 0) ≡ true
 row-ok a m row h = all-at (normalAt (a .kinds) (a .starts) (a .ends) (a .bends) (a .counts)) (a .count) row h m
+
+-- the arrays with other rows
+abbrev withRows : Arrays → ℕ → ℕ → List ℕ → List ℕ → List ℕ → List ℕ → List ℕ → List ℕ → List Float → List Float → Arrays
+withRows a next n is ks ss es bs cs us vs =
+    record {
+      next = next;
+      count = n;
+      ids = is;
+      kinds = ks;
+      starts = ss;
+      ends = es;
+      bends = bs;
+      counts = cs;
+      px = us;
+      py = vs;
+      cycles = a .cycles;
+      steps = a .steps;
+      bx = a .bx;
+      by = a .by;
+    }
+
+module _ (a : Arrays) (l : Lengths a) (m : normal a ≡ true) (row n : ℕ) (h : row < a .count) (hc : a .count + n ≤ 256) where
+  -- with i rows more
+  abbrev grown : ℕ → ℕ → ℕ → Arrays
+  grown i next k =
+      withRows a next k (numbered (a .ids) (a .count) (a .next) i) (filled (a .kinds) (a .count) (getD (a .kinds) row 0) i)
+      (filled (a .starts) (a .count) (getD (a .starts) row 0) i) (filled (a .ends) (a .count) (getD (a .ends) row 0) i)
+      (filled (a .bends) (a .count) (getD (a .bends) row 0) i) (filled (a .counts) (a .count) (getD (a .counts) row 0) i)
+      (filled (a .px) (a .count) (getD (a .px) row nan) i) (filled (a .py) (a .count) (getD (a .py) row nan) i)
+
+  some-rows : (i : ℕ) → i ≤ n → RowsCome a (shapeAt a row) n i (grown i (a .next + i) (a .count + i))
+  some-rows zero g =
+      let e : a .next + 0 ≡ a .next = omega arith in
+      let f : a .count + 0 ≡ a .count = omega arith in
+      rows-none a (shapeAt a row) n l m _ (λ j. grown 0 (e j) (f j))
+  some-rows (suc i) g =
+      let e : a .next + suc i ≡ a .next + i + 1 = omega arith in
+      let f : a .count + suc i ≡ a .count + i + 1 = omega arith in
+      subst (λ (k : ℕ). RowsCome a (shapeAt a row) n k (grown (suc i) (a .next + suc i) (a .count + suc i))) (add-one i)
+      (rows-more a (shapeAt a row) n i (grown i (a .next + i) (a .count + i)) (some-rows i (omega arith)) l (omega arith) hc refl refl
+      (getD (a .kinds) row 0) (getD (a .starts) row 0) (getD (a .ends) row 0) (getD (a .bends) row 0) (getD (a .counts) row 0)
+      (positionIn (a .px) (a .py) row) refl (row-ok a m row h) _ (λ j. grown (suc i) (e j) (f j)))
+
+  pub rows-come : {is ks ss es bs cs : List ℕ} {us vs : List Float}
+      → RowsPut (a .next) (a .count) row n (a .ids) (a .kinds) (a .starts) (a .ends) (a .bends) (a .counts) (a .px) (a .py) is ks ss es bs cs us vs
+      → RowsCome a (shapeAt a row) n n (withRows a (a .next + n) (a .count + n) is ks ss es bs cs us vs)
+  rows-come r =
+      subst (RowsCome a (shapeAt a row) n n) (sym (λ j. withRows a (a .next + n) (a .count + n) (r .ids j) (r .kinds j) (r .starts j) (r .ends j) (r .bends j)
+      (r .counts j) (r .px j) (r .py j))) (some-rows n (omega arith))
 
 -- ---- copies of a cell
 -- the arrays with other bends

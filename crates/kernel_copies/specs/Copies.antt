@@ -1,26 +1,40 @@
 -- Copies of cells in lent arrays. Definitions only.
-use Prim.Native.Nat.{ℕ, _+_}
+use Prim.Native.Nat.{ℕ, zero, suc, _+_}
 use mathlib.Core.Path.{_≡_}
 use mathlib.Core.Bool.{true}
-use lib.ListN.{replicate}
-use lib.Seq.{paste}
+use mathlib.Core.List.{List}
+use lib.Ieee.{Float, nan}
+use lib.ListN.{getD, set, replicate}
 use Rattle.complex.specs.Edits.{reshape}
 use Rattle.complex.specs.Uses.{onUses}
-use Rattle.store.specs.declared.Shape.{Shape}
 use Rattle.store.specs.View.{sheetOf, Fits}
-use Rattle.store.specs.Edits.{withCells, withEntries}
+use Rattle.store.specs.Edits.{withEntries}
 use Rattle.rows_new.specs.Appends.{appendedAll, figureAt}
-use Rattle.rows_new.specs.Copies.{copyCells}
 use Rattle.rows_uses.specs.declared.Use.{Use}
 use Rattle.rows_uses.specs.Uses.{usesIn}
 use Rattle.rows_copied.specs.Copying.{copied}
 use Rattle.lent.specs.Arrays.{Arrays, heldBy, normal, Lengths}
 
--- b has i of n rows of the shape s more, with the next ids
-pub record RowsCome (a : Arrays) (s : Shape) (n i : ℕ) (b : Arrays) : Type 0 where
-  pub held : heldBy b ≡ withCells (heldBy a) (a .next + i) (a .count + i) (paste (heldBy a .cells) (a .count) (copyCells (a .next) s n) i)
-  pub long : Lengths b
-  pub rows : normal b ≡ true
+-- x put n times from a place on, and the n numbers from x on
+abbrev pub filled : {A : Type 0} → List A → ℕ → A → ℕ → List A
+filled l at x zero = l
+filled l at x (suc n) = set (filled l at x n) (at + n) x
+
+abbrev pub numbered : List ℕ → ℕ → ℕ → ℕ → List ℕ
+numbered l at x zero = l
+numbered l at x (suc n) = set (numbered l at x n) (at + n) (x + n)
+
+-- the lists of rows have i more like the one in a row, after the last, with the next ids
+pub record RowsPut (next count row i : ℕ) (is ks ss es bs cs : List ℕ) (us vs : List Float) (is′ ks′ ss′ es′ bs′ cs′ : List ℕ) (us′ vs′ : List Float)
+    : Type 0 where
+  pub ids : is′ ≡ numbered is count next i
+  pub kinds : ks′ ≡ filled ks count (getD ks row 0) i
+  pub starts : ss′ ≡ filled ss count (getD ss row 0) i
+  pub ends : es′ ≡ filled es count (getD es row 0) i
+  pub bends : bs′ ≡ filled bs count (getD bs row 0) i
+  pub counts : cs′ ≡ filled cs count (getD cs row 0) i
+  pub px : us′ ≡ filled us count (getD us row nan) i
+  pub py : vs′ ≡ filled vs count (getD vs row nan) i
 
 -- b holds a's drawing with n copies of the cell in a row
 pub record CopiesCome (a : Arrays) (row n : ℕ) (b : Arrays) : Type 0 where

@@ -11,8 +11,8 @@ ghost use Rattle.store.specs.View.{sheetOf, Fits, cycleTotal, bendTotal};
 ghost use Rattle.rows_new.specs.Runs.{runAt};
 ghost use Rattle.rows_new.specs.Copies.{repeated};
 ghost use Rattle.rows_new.specs.Requirements.{CopiesRoom};
-ghost use Rattle.lent.specs.Arrays.{heldBy, shapeAt, positionsIn, normal, Lengths, lent, entry, exit};
-ghost use Rattle.kernel_copies.specs.Copies.{RowsCome, CopiesCome, UsesCopied};
+ghost use Rattle.lent.specs.Arrays.{heldBy, positionsIn, normal, Lengths, lent, entry, exit};
+ghost use Rattle.kernel_copies.specs.Copies.{RowsPut, CopiesCome, UsesCopied};
 use rows_uses::Use;
 
 // The place after i of k places in a round.
@@ -64,19 +64,13 @@ fn put_rows(
     counts: &mut [u32; 256],
     px: &mut [f64; 256],
     py: &mut [f64; 256],
-    cycles: &[u32; 512],
-    steps: &[u32; 2048],
-    bx: &[f64; 2048],
-    by: &[f64; 2048],
     row: usize,
     n: usize,
 )
-    requires { ⌜ Lengths (lent next count ids kinds starts ends bends counts px py cycles steps bx by) ⌝ }
-    requires { ⌜ normal (lent next count ids kinds starts ends bends counts px py cycles steps bx by) ≡ true ⌝ }
     requires { ⌜ row < count ⌝ }
     requires { ⌜ count + n ≤ cellsMost ⌝ }
     requires { ⌜ next + n ≤ idsEnd ⌝ }
-    ensures { λ _. ⌜ RowsCome (entry next count ids kinds starts ends bends counts px py cycles steps bx by) (shapeAt (entry next count ids kinds starts ends bends counts px py cycles steps bx by) row) n n (exit (next + n) (count + n) ids kinds starts ends bends counts px py cycles steps bx by) ⌝ }
+    ensures { λ _. ⌜ RowsPut next count row n (now (ids .entry)) (now (kinds .entry)) (now (starts .entry)) (now (ends .entry)) (now (bends .entry)) (now (counts .entry)) (now (px .entry)) (now (py .entry)) (now (ids .exit)) (now (kinds .exit)) (now (starts .exit)) (now (ends .exit)) (now (bends .exit)) (now (counts .exit)) (now (px .exit)) (now (py .exit)) ⌝ }
 {
     let kind = kinds[row];
     let start = starts[row];
@@ -148,10 +142,6 @@ pub fn put_copies(
         counts,
         px,
         py,
-        cycles,
-        steps,
-        bx,
-        by,
         row,
         n,
     );

@@ -1,52 +1,59 @@
 -- Lists of cycles of a face put together in two lent arrays. Definitions only.
-use Prim.Native.Nat.{ℕ, _+_, _-_, _≤_}
+use Prim.Native.Nat.{ℕ, _+_, _-_, _<_, _≤_}
 use mathlib.Core.Path.{_≡_}
-use mathlib.Core.List.{List, _++_}
-use lib.ListN.{length, take, drop, set}
+use mathlib.Core.List.{List}
+use lib.ListN.{length, take, drop}
 use Rattle.complex.specs.Cells.{Cycle}
 use Rattle.complex.specs.Sound.{cyclesMost, stepsMost}
-use Rattle.complex.specs.Uncut.{pathOr}
 use Rattle.store.specs.View.{widthSum, cyclesFrom}
 use Rattle.rows_spans.specs.declared.Used.{Used}
-use Rattle.rows_spans.specs.Building.{Building, built, RoomFor}
+use Rattle.rows_spans.specs.Building.{Building, RoomFor}
 use Rattle.rows_stretches.specs.declared.Stretch.{Stretch}
 use Rattle.rows_stretches.specs.declared.Place.{Place}
-use Rattle.rows_stretches.specs.Paths.{stretchOf, InCycle, listAt, Lies}
+use Rattle.rows_stretches.specs.Paths.{InCycle, Lies, putAt}
+use Rattle.kernel_paths.specs.declared.Run.{Run}
+use Rattle.kernel_paths.specs.declared.Sides.{Sides}
 
--- k cycles from a given one on have the m steps from a given one on, and a list has room for them
-pub record RunRoom (cycles : List ℕ) (first k : ℕ) (steps : List ℕ) (from m : ℕ)
-    (numbers : List ℕ) (u : Used) (places : List ℕ) : Type 0 where
+-- the cycles of a run
+abbrev pub runOf : List ℕ → List ℕ → Run → List Cycle
+runOf cycles steps r = cyclesFrom (take (r .count) (drop (r .first) cycles)) (drop (r .from) steps)
+
+-- a run lies in a drawing's arrays, and a list has room for it
+pub record RunRoom (cycles steps : List ℕ) (r : Run) (numbers : List ℕ) (u : Used) (places : List ℕ) : Type 0 where
   pub building : Building numbers u places
   pub cyclesSize : length cycles ≡ cyclesMost
   pub stepsSize : length steps ≡ stepsMost
-  pub inCycles : first + k ≤ cyclesMost
-  pub inSteps : from + m ≤ stepsMost
-  pub wide : widthSum (take k (drop first cycles)) ≡ m
-  pub cycleRoom : u .cycles + k ≤ length numbers
-  pub stepRoom : u .steps + m ≤ length places
+  pub inCycles : r .first + r .count ≤ cyclesMost
+  pub inSteps : r .from + r .len ≤ stepsMost
+  pub wide : widthSum (take (r .count) (drop (r .first) cycles)) ≡ r .len
+  pub cycleRoom : u .cycles + r .count ≤ length numbers
+  pub stepRoom : u .steps + r .len ≤ length places
 
--- the cycles of a face before one of them, and after it
-abbrev pub aheadList : List ℕ → List ℕ → Place → List Cycle
-aheadList cycles steps p = cyclesFrom (take (p .cycle) (drop (p .spans .cycles .first) cycles)) (drop (p .spans .steps .first) steps)
+-- a cycle stands among those of its face, and these in a drawing's arrays
+pub record Inside (p : Place) : Type 0 where
+  pub cycle : p .cycle < p .spans .cycles .count
+  pub start : p .spans .steps .first ≤ p .at
+  pub end : p .at + p .count ≤ p .spans .steps .first + p .spans .steps .count
+  pub inCycles : p .spans .cycles .first + p .spans .cycles .count ≤ cyclesMost
+  pub inSteps : p .spans .steps .first + p .spans .steps .count ≤ stepsMost
 
-abbrev pub behindList : List ℕ → List ℕ → Place → List Cycle
-behindList cycles steps p =
-    cyclesFrom (take (p .spans .cycles .count - (p .cycle + 1)) (drop (p .spans .cycles .first + (p .cycle + 1)) cycles))
-    (drop (p .at + p .count) steps)
+-- the runs before it and after it
+abbrev pub sidesOf : Place → Sides
+sidesOf p =
+    record {
+      ahead = record { first = p .spans .cycles .first; count = p .cycle; from = p .spans .steps .first; len = p .at - p .spans .steps .first };
+      behind =
+          record {
+            first = p .spans .cycles .first + (p .cycle + 1);
+            count = p .spans .cycles .count - (p .cycle + 1);
+            from = p .at + p .count;
+            len = p .spans .steps .first + p .spans .steps .count - (p .at + p .count);
+          };
+    }
 
--- a list has room for the cycles ks of the face of p
-pub record RunJoins (cycles steps : List ℕ) (p : Place) (ks : List Cycle)
-    (numbers : List ℕ) (u : Used) (places : List ℕ) : Type 0 where
+-- arrays of n counts and m steps have room for the cycles of the face of p, with two stretches or v alone in the place of p
+pub record Puts (cycles steps : List ℕ) (p : Place) (a b : Stretch) (v n m : ℕ) : Type 0 where
   pub lies : Lies cycles steps p
-  pub building : Building numbers u places
-  pub room : RoomFor (length numbers) (length places) (built numbers u places ++ ks)
-
--- a list has room for the cycles of the face of p, with two stretches or v alone in the place of p
-pub record Puts (cycles steps : List ℕ) (p : Place) (a b : Stretch) (v : ℕ)
-    (numbers : List ℕ) (u : Used) (places : List ℕ) : Type 0 where
-  pub lies : Lies cycles steps p
-  pub building : Building numbers u places
   pub first : InCycle a
   pub second : InCycle b
-  pub room : RoomFor (length numbers) (length places)
-      (built numbers u places ++ set (listAt cycles steps p) (p .cycle) (pathOr v (stretchOf steps a ++ stretchOf steps b)))
+  pub room : RoomFor n m (putAt cycles steps p a b v)

@@ -1,108 +1,71 @@
-ghost use mathlib.Core.List.{[], _++_};
-ghost use Prim.Native.Nat.{_≤_};
-ghost use lib.ListN.{length, take, drop, set};
-ghost use Rattle.complex.specs.Lists.{one, without};
-ghost use Rattle.complex.specs.Uncut.{pathOr};
-ghost use Rattle.store.specs.View.{cyclesFrom};
-ghost use Rattle.complex.specs.Sound.{cyclesMost, stepsMost};
+ghost use mathlib.Core.Path.{_≡_};
+ghost use mathlib.Core.List.{_++_};
+ghost use lib.ListN.{length};
+ghost use Rattle.complex.specs.Lists.{one};
 ghost use Rattle.rows_spans.specs.Building.{Built, built, RoomFor};
-ghost use Rattle.rows_stretches.specs.Paths.{stretchOf, PathRoom, listAt, Besides, mergedList, Merging, partedList, Parting, ringedList, Ringing};
-ghost use Rattle.kernel_paths.specs.Runs.{RunRoom, aheadList, behindList, RunJoins, Puts};
+ghost use Rattle.rows_stretches.specs.Paths.{pathOf, PathRoom, othersAt, putAt, Besides, mergedList, Merging, partedList, Parting, ringedList, Ringing};
+ghost use Rattle.kernel_paths.specs.Runs.{runOf, RunRoom, Inside, sidesOf, Puts};
 use rows_spans::Used;
 use rows_stretches::Place;
 use rows_stretches::Stretch;
 
-// Nothing of two arrays is in use yet.
-fn no_cycles(numbers: &[u32], places: &[u32]) -> Used
-    requires { ⌜ length (now numbers) ≤ cyclesMost ⌝ }
-    requires { ⌜ length (now places) ≤ stepsMost ⌝ }
-    ensures { λ r. ⌜ Built [] (now (numbers .entry)) r (now (places .entry)) ⌝ }
+// Cycles of a face one after another: where they begin and how many there are, and the same of their steps.
+struct Run {
+    first: usize,
+    count: usize,
+    from: usize,
+    len: usize,
+}
+
+// The cycles of a face before one of them, and those after it.
+struct Sides {
+    ahead: Run,
+    behind: Run,
+}
+
+// The cycles about p.
+fn about(p: Place) -> Sides
+    requires { ⌜ Inside p ⌝ }
+    ensures { λ r. ⌜ r ≡ sidesOf p ⌝ }
 {
-    Used {
-        cycles: 0,
-        steps: 0,
+    let next = p.cycle + 1;
+    let end = p.at + p.count;
+    let a = Run {
+        first: p.spans.cycles.first,
+        count: p.cycle,
+        from: p.spans.steps.first,
+        len: p.at - p.spans.steps.first,
+    };
+    let b = Run {
+        first: p.spans.cycles.first + next,
+        count: p.spans.cycles.count - next,
+        from: end,
+        len: p.spans.steps.first + p.spans.steps.count - end,
+    };
+    Sides {
+        ahead: a,
+        behind: b,
     }
 }
 
-// A list with k cycles more, from a given one on, of m steps in all.
+// A list with the cycles of a run more.
 fn copy_cycles(
     cycles: &[u32; 512],
-    first: usize,
-    k: usize,
     steps: &[u32; 2048],
-    from: usize,
-    m: usize,
+    r: Run,
     numbers: &mut [u32],
     places: &mut [u32],
     u: Used,
 ) -> Used
-    requires { ⌜ RunRoom (now cycles) first k (now steps) from m (now numbers) u (now places) ⌝ }
-    ensures { λ r. ⌜ Built (built (now (numbers .entry)) u (now (places .entry)) ++ cyclesFrom (take k (drop first (now (cycles .entry)))) (drop from (now (steps .entry)))) (now (numbers .exit)) r (now (places .exit)) ⌝ }
+    requires { ⌜ RunRoom (now cycles) (now steps) r (now numbers) u (now places) ⌝ }
+    ensures { λ x. ⌜ Built (built (now (numbers .entry)) u (now (places .entry)) ++ runOf (now (cycles .entry)) (now (steps .entry)) r) (now (numbers .exit)) x (now (places .exit)) ⌝ }
 {
-    let c = rows_spans::copy_run(cycles, first, k, numbers, u.cycles);
-    let s = rows_spans::copy_run(steps, from, m, places, u.steps);
+    let c = rows_spans::copy_run(cycles, r.first, r.count, numbers, u.cycles);
+    let s = rows_spans::copy_run(steps, r.from, r.len, places, u.steps);
     Used {
         cycles: c,
         steps: s,
     }
-}
-
-// A list with the cycles of a face before p more.
-fn copy_ahead(
-    cycles: &[u32; 512],
-    steps: &[u32; 2048],
-    p: Place,
-    numbers: &mut [u32],
-    places: &mut [u32],
-    u: Used,
-) -> Used
-    requires { ⌜ RunJoins (now cycles) (now steps) p (aheadList (now cycles) (now steps) p) (now numbers) u (now places) ⌝ }
-    ensures { λ r. ⌜ Built (built (now (numbers .entry)) u (now (places .entry)) ++ aheadList (now (cycles .entry)) (now (steps .entry)) p) (now (numbers .exit)) r (now (places .exit)) ⌝ }
-{
-    let t = p.spans;
-    let k = t.cycles;
-    let s = t.steps;
-    copy_cycles(
-        cycles,
-        k.first,
-        p.cycle,
-        steps,
-        s.first,
-        p.at - s.first,
-        numbers,
-        places,
-        u,
-    )
-}
-
-// A list with the cycles of a face after p more.
-fn copy_behind(
-    cycles: &[u32; 512],
-    steps: &[u32; 2048],
-    p: Place,
-    numbers: &mut [u32],
-    places: &mut [u32],
-    u: Used,
-) -> Used
-    requires { ⌜ RunJoins (now cycles) (now steps) p (behindList (now cycles) (now steps) p) (now numbers) u (now places) ⌝ }
-    ensures { λ r. ⌜ Built (built (now (numbers .entry)) u (now (places .entry)) ++ behindList (now (cycles .entry)) (now (steps .entry)) p) (now (numbers .exit)) r (now (places .exit)) ⌝ }
-{
-    let t = p.spans;
-    let k = t.cycles;
-    let s = t.steps;
-    let next = p.cycle + 1;
-    let end = p.at + p.count;
-    copy_cycles(
-        cycles,
-        k.first + next,
-        k.count - next,
-        steps,
-        end,
-        s.first + s.count - end,
-        numbers,
-        places,
-        u,
-    )
 }
 
 // A list with the cycles of a face more, but one.
@@ -115,10 +78,11 @@ fn copy_others(
     u: Used,
 ) -> Used
     requires { ⌜ Besides (now cycles) (now steps) p (now numbers) u (now places) ⌝ }
-    ensures { λ r. ⌜ Built (built (now (numbers .entry)) u (now (places .entry)) ++ without (one (p .cycle)) 0 (listAt (now (cycles .entry)) (now (steps .entry)) p)) (now (numbers .exit)) r (now (places .exit)) ⌝ }
+    ensures { λ r. ⌜ Built (built (now (numbers .entry)) u (now (places .entry)) ++ othersAt (now (cycles .entry)) (now (steps .entry)) p) (now (numbers .exit)) r (now (places .exit)) ⌝ }
 {
-    let w = copy_ahead(cycles, steps, p, numbers, places, u);
-    copy_behind(cycles, steps, p, numbers, places, w)
+    let t = about(p);
+    let w = copy_cycles(cycles, steps, t.ahead, numbers, places, u);
+    copy_cycles(cycles, steps, t.behind, numbers, places, w)
 }
 
 // A list with a cycle more: one stretch and then another, or if both are empty the vertex v alone.
@@ -132,7 +96,7 @@ fn push_path(
     u: Used,
 ) -> Used
     requires { ⌜ PathRoom (now steps) a b v (now numbers) u (now places) ⌝ }
-    ensures { λ r. ⌜ Built (built (now (numbers .entry)) u (now (places .entry)) ++ one (pathOr v (stretchOf (now (steps .entry)) a ++ stretchOf (now (steps .entry)) b))) (now (numbers .exit)) r (now (places .exit)) ⌝ }
+    ensures { λ r. ⌜ Built (built (now (numbers .entry)) u (now (places .entry)) ++ one (pathOf (now (steps .entry)) a b v)) (now (numbers .exit)) r (now (places .exit)) ⌝ }
 {
     let m = a.len + b.len;
     if m == 0 {
@@ -143,7 +107,7 @@ fn push_path(
     rows_spans::close_path(numbers, u, m)
 }
 
-// A list with the cycles of a face more, in the place of p such a cycle.
+// The cycles of a face, in the place of p such a cycle.
 fn copy_around(
     cycles: &[u32; 512],
     steps: &[u32; 2048],
@@ -153,14 +117,18 @@ fn copy_around(
     v: u32,
     numbers: &mut [u32],
     places: &mut [u32],
-    u: Used,
 ) -> Used
-    requires { ⌜ Puts (now cycles) (now steps) p a b v (now numbers) u (now places) ⌝ }
-    ensures { λ r. ⌜ Built (built (now (numbers .entry)) u (now (places .entry)) ++ set (listAt (now (cycles .entry)) (now (steps .entry)) p) (p .cycle) (pathOr v (stretchOf (now (steps .entry)) a ++ stretchOf (now (steps .entry)) b))) (now (numbers .exit)) r (now (places .exit)) ⌝ }
+    requires { ⌜ Puts (now cycles) (now steps) p a b v (length (now numbers)) (length (now places)) ⌝ }
+    ensures { λ r. ⌜ Built (putAt (now (cycles .entry)) (now (steps .entry)) p a b v) (now (numbers .exit)) r (now (places .exit)) ⌝ }
 {
-    let w = copy_ahead(cycles, steps, p, numbers, places, u);
+    let none = Used {
+        cycles: 0,
+        steps: 0,
+    };
+    let t = about(p);
+    let w = copy_cycles(cycles, steps, t.ahead, numbers, places, none);
     let x = push_path(steps, a, b, v, numbers, places, w);
-    copy_behind(cycles, steps, p, numbers, places, x)
+    copy_cycles(cycles, steps, t.behind, numbers, places, x)
 }
 
 // The cycles of two faces that become one along the step s of p and the step t of q: in the place of p what follows the one
@@ -182,8 +150,7 @@ pub fn merged_cycles(
 {
     let a = rows_stretches::following(p, s);
     let b = rows_stretches::following(q, t);
-    let none = no_cycles(numbers, places);
-    let u = copy_around(cycles, steps, p, a, b, v, numbers, places, none);
+    let u = copy_around(cycles, steps, p, a, b, v, numbers, places);
     copy_others(cycles, steps, q, numbers, places, u)
 }
 
@@ -211,9 +178,8 @@ pub fn parted_cycles(
         len: 0,
     };
     let a = rows_stretches::up_to(p, s, t);
+    let u = copy_around(cycles, steps, p, a, empty, v, numbers, places);
     let b = rows_stretches::up_to(p, t, s);
-    let none = no_cycles(numbers, places);
-    let u = copy_around(cycles, steps, p, a, empty, v, numbers, places, none);
     push_path(steps, b, empty, w, numbers, places, u)
 }
 
@@ -230,7 +196,10 @@ pub fn ringed_cycles(
     requires { ⌜ RoomFor (length (now numbers)) (length (now places)) (ringedList (now cycles) (now steps) p q) ⌝ }
     ensures { λ r. ⌜ Built (ringedList (now (cycles .entry)) (now (steps .entry)) p q) (now (numbers .exit)) r (now (places .exit)) ⌝ }
 {
-    let none = no_cycles(numbers, places);
+    let none = Used {
+        cycles: 0,
+        steps: 0,
+    };
     let u = copy_others(cycles, steps, p, numbers, places, none);
     copy_others(cycles, steps, q, numbers, places, u)
 }

@@ -35,33 +35,28 @@ pub record Walking (r : ℕ → ℕ) (ns st₀ : List ℕ) (i at : ℕ) (st : Li
   pub rest : drop at st ≡ drop at st₀
   pub front : take at st ≡ zipped (renamePlace r) (lonePlaces (take i ns)) (take at st₀)
 
-module _ (r : ℕ → ℕ) where
-  pub walking-start : (ns st : List ℕ) → Walking r ns st 0 0 st
-  walking-start ns st = record { at-is = refl; size = refl; rest = refl; front = refl }
+pub walking-start : (r : ℕ → ℕ) (ns st : List ℕ) → Walking r ns st 0 0 st
+walking-start r ns st = record { at-is = refl; size = refl; rest = refl; front = refl }
+
+-- no step is renamed
+zip-steps : (r : ℕ → ℕ) (k : ℕ) (y : List ℕ) → length y ≡ k → zipped (renamePlace r) (replicate k false) y ≡ y
+zip-steps r zero [] e = refl
+zip-steps r zero (n ∷ y) e = absurd (omega arith)
+zip-steps r (suc k) [] e = absurd (omega arith)
+zip-steps r (suc k) (n ∷ y) e = ap (λ (l : List ℕ). n ∷ l) (zip-steps r k y (omega arith))
+
+module _ {r : ℕ → ℕ} {ns st₀ : List ℕ} {i at : ℕ} {st : List ℕ} (w : Walking r ns st₀ i at st) where
+  abbrev k : ℕ
+  k = placesOf 1 (getD ns i 0)
 
   -- a cycle's places are among those of the first n cycles
-  module _ (ns st₀ : List ℕ) (i at : ℕ) (st : List ℕ) (n : ℕ) (w : Walking r ns st₀ i at st) (h : i < n) (g : n ≤ length ns)
-      (k : total (placesOf 1) (take n ns) ≤ 2048) where
-    pub walk-room : at + placesOf 1 (getD ns i 0) ≤ 2048
-    walk-room =
-        let e = sum-more (placesOf 1) ns i 0 (omega arith) in
-        let b = sum-le (placesOf 1) ns (i + 1) n (omega arith) in
-        omega (arith, w .at-is, e, b)
+  pub walk-room : (n : ℕ) → i < n → n ≤ length ns → total (placesOf 1) (take n ns) ≤ 2048 → at + k ≤ 2048
+  walk-room n h g m =
+      let e = sum-more (placesOf 1) ns i 0 (omega arith) in
+      let b = sum-le (placesOf 1) ns (i + 1) n (omega arith) in
+      omega (arith, w .at-is, e, b)
 
-    pub lone-room : getD ns i 0 ≡ 0 → at + 1 ≤ 2048
-    lone-room z = let e : placesOf 1 (getD ns i 0) ≡ 1 = ap (placesOf 1) z in omega (arith, walk-room, e)
-
-  -- no step is renamed
-  zip-steps : (k : ℕ) (y : List ℕ) → length y ≡ k → zipped (renamePlace r) (replicate k false) y ≡ y
-  zip-steps zero [] e = refl
-  zip-steps zero (n ∷ y) e = absurd (omega arith)
-  zip-steps (suc k) [] e = absurd (omega arith)
-  zip-steps (suc k) (n ∷ y) e = ap (λ (l : List ℕ). n ∷ l) (zip-steps k y (omega arith))
-
-  module _ (ns st₀ : List ℕ) (i at : ℕ) (st : List ℕ) (h : i < length ns) (g : at + placesOf 1 (getD ns i 0) ≤ length st₀) (w : Walking r ns st₀ i at st) where
-    abbrev k : ℕ
-    k = placesOf 1 (getD ns i 0)
-
+  module _ (h : i < length ns) (g : at + k ≤ length st₀) where
     sum : at + k ≡ total (placesOf 1) (take (i + 1) ns)
     sum = ap (λ (m : ℕ). m + k) (w .at-is) ∙ sym (sum-more (placesOf 1) ns i 0 h)
 
@@ -88,26 +83,24 @@ module _ (r : ℕ → ℕ) where
     walk-steps z =
         let len : length (take k (drop at st₀)) ≡ k = length-take-le k (drop at st₀) (let q = length-drop at st₀ in omega arith) in
         walk st refl refl refl
-        (ap (take k) (w .rest) ∙ sym (zip-steps k (take k (drop at st₀)) len)
+        (ap (take k) (w .rest) ∙ sym (zip-steps r k (take k (drop at st₀)) len)
         ∙ ap (λ (b : Bool). zipped (renamePlace r) (replicate k b) (take k (drop at st₀))) (sym (ne-eqb (getD ns i 0) 0 z)))
 
-  module _ (ns st₀ : List ℕ) (i at : ℕ) (st : List ℕ) (h : i < length ns) (g : at + 1 ≤ length st₀) (w : Walking r ns st₀ i at st) (z : getD ns i 0 ≡ 0) where
     here : getD st at 0 ≡ getD st₀ at 0
     here = ap (λ (n : ℕ). getD st n 0) (omega arith) ∙ sym (getD-drop at st 0 0) ∙ ap (λ (q : List ℕ). getD q 0 0) (w .rest) ∙ getD-drop at st₀ 0 0
         ∙ ap (λ (n : ℕ). getD st₀ n 0) (omega arith)
 
-    pub walk-lone : (v : ℕ) → v ≡ r (getD st at 0) → Walking r ns st₀ (i + 1) (at + placesOf 1 (getD ns i 0)) (set st at v)
-    walk-lone v e =
-        let k1 : placesOf 1 (getD ns i 0) ≡ 1 = ap (placesOf 1) z in
+    pub walk-lone : getD ns i 0 ≡ 0 → (v : ℕ) → v ≡ r (getD st at 0) → Walking r ns st₀ (i + 1) (at + k) (set st at v)
+    walk-lone z v e =
+        let k1 : k ≡ 1 = ap (placesOf 1) z in
         let s = w .size in
-        walk ns st₀ i at st h (omega arith) w (set st at v) (length-set st at v) (drop-set-lt (at + placesOf 1 (getD ns i 0)) st at v (omega arith))
-        (take-set-le at st at v (omega arith))
+        walk (set st at v) (length-set st at v) (drop-set-lt (at + k) st at v (omega arith)) (take-set-le at st at v (omega arith))
         (ap (λ (n : ℕ). take n (drop at (set st at v))) k1
         ∙ ap (take 1) (drop-cons (set st at v) at 0 (let q = length-set st at v in omega arith))
         ∙ ap (λ (x : ℕ). x ∷ []) (getD-set-same st at v 0 (omega arith) ∙ e ∙ ap r here)
         ∙ sym (ap (λ (n : ℕ). zipped (renamePlace r) (replicate (placesOf 1 n) (eqb n 0)) (take (placesOf 1 n) (drop at st₀))) z
         ∙ ap (λ (q : List ℕ). zipped (renamePlace r) (true ∷ []) (take 1 q)) (drop-cons st₀ at 0 (omega arith))))
 
-  pub walked : (ns st₀ : List ℕ) (n at : ℕ) (st : List ℕ) → Walking r ns st₀ n at st → LoneRenamed r (take n ns) st₀ st
-  walked ns st₀ n at st w =
-      record { front = subst (λ (m : ℕ). take m st ≡ zipped (renamePlace r) (lonePlaces (take n ns)) (take m st₀)) (w .at-is) (w .front) }
+  pub walked : LoneRenamed r (take i ns) st₀ st
+  walked =
+      record { front = subst (λ (m : ℕ). take m st ≡ zipped (renamePlace r) (lonePlaces (take i ns)) (take m st₀)) (w .at-is) (w .front) }

@@ -6,17 +6,33 @@ use mathlib.Core.List.{List, [], _∷_, _++_, map}
 use native.Mathlib.Omega.{arith}
 use lib.ListN.{length, take, drop, set, replicate, length-drop, length-set}
 use lib.Seq.{length-take-le}
-use Rattle.complex.specs.Lists.{one}
+use Rattle.complex.specs.Lists.{one, rotated}
 use Rattle.complex.specs.Cells.{Cycle, path, along, against}
 use Rattle.store.specs.View.{halfedgeOf, width, widthSum}
 use Rattle.store.specs.Edits.{kept}
 use Rattle.store.proofs.Encode.{length-cycles, halves}
+use Rattle.store.proofs.Lists.{map-append}
 use Rattle.rows_spans.specs.declared.Used.{Used}
 use Rattle.rows_spans.specs.declared.Spans.{Spans}
 use Rattle.rows_spans.specs.Building.{Building, Built, built, moreCycle, Closes}
 use Rattle.rows_spans.proofs.Building.{built-set}
 use Rattle.rows_spans.proofs.Splicing.{run-set}
 use Rattle.rows_corners.specs.Faces.{Within, cyclesAt}
+
+-- ---- parts of a list, each element changed
+module _ {A B : Type 0} (f : A → B) where
+  pub take-map : (n : ℕ) (l : List A) → take n (map f l) ≡ map f (take n l)
+  take-map zero l = refl
+  take-map (suc n) [] = refl
+  take-map (suc n) (x ∷ l) = ap (λ (r : List B). f x ∷ r) (take-map n l)
+
+  pub drop-map : (n : ℕ) (l : List A) → drop n (map f l) ≡ map f (drop n l)
+  drop-map zero l = refl
+  drop-map (suc n) [] = refl
+  drop-map (suc n) (x ∷ l) = drop-map n l
+
+  pub rotated-map : (n : ℕ) (l : List A) → rotated n (map f l) ≡ map f (rotated n l)
+  rotated-map n l = ap₂ (λ (x y : List B). x ++ y) (drop-map n l) (take-map n l) ∙ sym (map-append f (drop n l) (take n l))
 
 -- ---- what is kept is no more than what there was
 pub kept-few : {A : Type 0} (bs : List Bool) (xs : List A) → length (kept bs xs) ≤ length xs

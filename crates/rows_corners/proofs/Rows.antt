@@ -36,7 +36,7 @@ use Rattle.rows_new.specs.Appends.{remade, RoomIn}
 use Rattle.rows_new.proofs.Rooms.{over-cycles, over-steps, below}
 use Rattle.answer.specs.Late.{Summed}
 use Rattle.answer.proofs.Laws.{summed}
-use Rattle.rows_corners.specs.Faces.{Named, NamedIn, Within, Spanned, SpannedIn, cyclesAt, recycled, Roomy}
+use Rattle.rows_corners.specs.Faces.{Named, Within, Spanned, cyclesAt, recycled, Roomy}
 
 -- ---- sums
 total-set : {A : Type 0} (h : A → ℕ) (l : List A) (i : ℕ) (v z : A) → i < length l → total h (set l i v) + h (getD l i z) ≡ total h l + h v
@@ -244,34 +244,3 @@ module _ (d : Drawing) (z : Sizes d) (ix : Index) (f : ℕ) (m : Named d ix f) w
       → t ≡ recycled (sheetOf d) f (built counts u steps)
   replaced-with counts u steps row e t g =
       g ∙ ap (λ (n : ℕ). sheetWithRow (sheetOf d) n (face (built counts u steps))) e ∙ recycled-is (face (built counts u steps))
-
--- ---- of the cycles and the count of a drawing
-pub in-drawing : (d : Drawing) (z : Sizes d) (ix : Index) (f : ℕ) → Named d ix f → NamedIn (d .cycles) (d .count) ix f
-in-drawing d z ix f m = record { drawing = d; sizes = z; named = m; sameCycles = refl; sameCount = refl }
-
-module _ (cycles : List ℕ) (n : ℕ) (ix : Index) (f : ℕ) where
-  carried : (P : List ℕ → ℕ → Type 0) (h : NamedIn cycles n ix f) → P (h .drawing .cycles) (h .drawing .count) → P cycles n
-  carried P h p = subst (P cycles) (h .sameCount) (subst (λ (l : List ℕ). P l (h .drawing .count)) (h .sameCycles) p)
-
-  pub finding-in : NamedIn cycles n ix f → (n ≤ 256) × ((length (ix .ids) ≡ 256) × Rising (take n (ix .ids)))
-  finding-in h =
-      carried (λ (l : List ℕ) (k : ℕ). (k ≤ 256) × ((length (ix .ids) ≡ 256) × Rising (take k (ix .ids)))) h
-      (finding (h .drawing) (h .sizes) ix f (h .named))
-
-  pub spanning-in : NamedIn cycles n ix f → (row : ℕ) → row ≡ rowOf f (take n (ix .ids))
-      → (n ≤ length (ix .cycles))
-      × ((row < n) × ((total (placesOf 0) (take n (ix .cycles)) ≤ length cycles) × ((total (placesOf 0) (take n (ix .cycles)) ≤ 2048)
-      × (total (placesOf 1) (take (total (placesOf 0) (take n (ix .cycles))) cycles) ≤ 2048))))
-  spanning-in h =
-      carried
-      (λ (l : List ℕ) (k : ℕ). (row : ℕ) → row ≡ rowOf f (take k (ix .ids))
-      → (k ≤ length (ix .cycles)) × ((row < k) × ((total (placesOf 0) (take k (ix .cycles)) ≤ length l) × ((total (placesOf 0) (take k (ix .cycles)) ≤ 2048)
-      × (total (placesOf 1) (take (total (placesOf 0) (take k (ix .cycles))) l) ≤ 2048)))))
-      h (spanning (h .drawing) (h .sizes) ix f (h .named))
-
-  pub spanned-in : (row : ℕ) (t : Spans) → row ≡ rowOf f (take n (ix .ids)) → t ≡ spansOf (ix .cycles) n row cycles → SpannedIn cycles n ix f t
-  spanned-in row t e g =
-      record {
-        every = λ d z m c k. spanned d z ix f m row t (e ∙ ap (λ (j : ℕ). rowOf f (take j (ix .ids))) (sym k))
-            (g ∙ ap₂ (λ (j : ℕ) (l : List ℕ). spansOf (ix .cycles) j row l) (sym k) (sym c));
-      }

@@ -10,7 +10,6 @@ use Rattle.complex.specs.Edits.{everyId, replaced}
 use Rattle.complex.specs.Sound.{cyclesIn, stepsIn, cyclesMost, stepsMost, over}
 use Rattle.store.specs.declared.Drawing.{Drawing}
 use Rattle.store.specs.declared.Index.{Index}
-use Rattle.store.specs.Sizes.{Sizes}
 use Rattle.store.specs.Index.{Rising, Indexes}
 use Rattle.store.specs.View.{sheetOf, Fits, cyclesFrom, widthSum, cycleTotal, stepTotal}
 use Rattle.rows_spans.specs.declared.Spans.{Spans}
@@ -33,14 +32,6 @@ pub record Named (d : Drawing) (ix : Index) (f : ℕ) : Type 0 where
   pub rising : Rising (take (d .count) (ix .ids))
   pub face : isFace (cellAt (sheetOf d) f) ≡ true
 
--- f is so in a drawing with these cycles and n cells
-pub record NamedIn (cycles : List ℕ) (n : ℕ) (ix : Index) (f : ℕ) : Type 0 where
-  pub drawing : Drawing
-  pub sizes : Sizes drawing
-  pub named : Named drawing ix f
-  pub sameCycles : drawing .cycles ≡ cycles
-  pub sameCount : drawing .count ≡ n
-
 -- the cycles that stand in spans of two arrays
 abbrev pub cyclesAt : List ℕ → List ℕ → Spans → List Cycle
 cyclesAt cycles steps t = cyclesFrom (take (t .cycles .count) (drop (t .cycles .first) cycles)) (drop (t .steps .first) steps)
@@ -59,10 +50,6 @@ pub record Spanned (d : Drawing) (f : ℕ) (t : Spans) : Type 0 where
   pub list : cyclesAt (d .cycles) (d .steps) t ≡ cells.cyclesOf (cellAt (sheetOf d) f)
   pub fewCycles : t .cycles .count ≤ cycleTotal d
   pub fewSteps : t .steps .count ≤ stepTotal d
-
--- the spans are so in every drawing with these cycles and n cells
-pub record SpannedIn (cycles : List ℕ) (n : ℕ) (ix : Index) (f : ℕ) (t : Spans) : Type 0 where
-  pub every : (d : Drawing) → Sizes d → Named d ix f → d .cycles ≡ cycles → d .count ≡ n → Spanned d f t
 
 -- the face f of s with other cycles
 abbrev pub recycled : Sheet → ℕ → List Cycle → Sheet

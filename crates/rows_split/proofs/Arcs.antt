@@ -2,7 +2,7 @@
 use Prim.Native.Nat.{ℕ, zero, suc, _+_, _-_, _*_, _<_, _≤_}
 use mathlib.Core.Path.{_≡_, refl, ap, ap₂, sym, _∙_}
 use mathlib.Core.Bool.{Bool, true, false, cond}
-use mathlib.Core.List.{List, [], _∷_, _++_, map}
+use mathlib.Core.List.{List, _++_, map}
 use native.Mathlib.Omega.{arith}
 use borrow.Author.Tests.{leb-true, leb-false}
 use lib.Dec.{leb}
@@ -13,27 +13,12 @@ use Rattle.complex.specs.Cells.{Halfedge, path, stepsOf}
 use Rattle.complex.specs.Cut.{stretch, remainder}
 use Rattle.complex.proofs.Split.{length-rotated}
 use Rattle.store.specs.View.{halfedgeOf, width, cycleOf}
-use Rattle.store.proofs.Lists.{map-append}
 use Rattle.rows_spans.proofs.Splicing.{run-take}
 use Rattle.rows_corners.specs.Arcs.{arcOf}
-use Rattle.rows_corners.proofs.Lists.{along-read, against-read}
+use Rattle.rows_corners.proofs.Lists.{take-map, drop-map, rotated-map, along-read, against-read}
 use Rattle.rows_split.specs.Parts.{nearCycle, farCycle}
 
 -- ---- rotated lists
-module _ {A B : Type 0} (f : A → B) where
-  take-map : (n : ℕ) (l : List A) → take n (map f l) ≡ map f (take n l)
-  take-map zero l = refl
-  take-map (suc n) [] = refl
-  take-map (suc n) (x ∷ l) = ap (λ (r : List B). f x ∷ r) (take-map n l)
-
-  drop-map : (n : ℕ) (l : List A) → drop n (map f l) ≡ map f (drop n l)
-  drop-map zero l = refl
-  drop-map (suc n) [] = refl
-  drop-map (suc n) (x ∷ l) = drop-map n l
-
-  rotated-map : (n : ℕ) (l : List A) → rotated n (map f l) ≡ map f (rotated n l)
-  rotated-map n l = ap₂ (λ (x y : List B). x ++ y) (drop-map n l) (take-map n l) ∙ sym (map-append f (drop n l) (take n l))
-
 -- what follows the arc from s to t is the arc from t to s
 module _ {A : Type 0} (l : List A) (s t : ℕ) (hs : s ≤ length l) (ht : t ≤ length l) where
   abbrev n : ℕ

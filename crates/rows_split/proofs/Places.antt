@@ -17,11 +17,11 @@ use Rattle.store.proofs.Lists.{sum-more, sum-le}
 use Rattle.store.proofs.Encode.{length-cycles}
 use Rattle.rows_spans.specs.declared.Used.{Used}
 use Rattle.rows_spans.specs.declared.Spans.{Spans}
-use Rattle.rows_spans.specs.Building.{Building, Built, built}
-use Rattle.rows_spans.proofs.Building.{cycle-at}
+use Rattle.rows_spans.specs.Building.{Built}
+use Rattle.rows_spans.proofs.Building.{cycle-at, built-none}
 use Rattle.rows_corners.specs.Faces.{Within, cyclesAt}
 use Rattle.rows_corners.specs.Arcs.{arcOf, ArcRoom, CopyRoom}
-use Rattle.rows_corners.proofs.Lists.{built-as, built-then}
+use Rattle.rows_corners.proofs.Lists.{built-as}
 use Rattle.rows_corners.proofs.Rows.{list-steps}
 use Rattle.rows_corners.proofs.Splits.{kept-steps}
 use Rattle.rows_split.specs.declared.Place.{Place}
@@ -91,19 +91,18 @@ module _ (steps : List ℕ) (z : length steps ≡ 2048) (p : Place) (r : p .at +
     pub between-asks : (p .m ≤ 2048) × ((s ≤ p .m) × (t ≤ p .m))
     between-asks = let w = steps-within in (omega arith, (corner-most (p .m) s hs, corner-most (p .m) t ht))
 
-    pub arc-asks : (len : ℕ) → len ≤ p .m → (counts : List ℕ) (u : Used) (out : List ℕ) → 0 < length counts → len < length out → Building counts u out
-        → u ≡ record { cycles = 0; steps = 0 } → ArcRoom steps (p .at) (p .m) s len counts u out
-    arc-asks len hl counts u out hc hm b e =
+    -- of an arc that is the first of a list
+    pub arc-asks : (len : ℕ) → len ≤ p .m → {counts out : List ℕ} → length counts ≤ 512 → length out ≤ 2048 → 0 < length counts → len < length out
+        → ArcRoom steps (p .at) (p .m) s len counts (record { cycles = 0; steps = 0 }) out
+    arc-asks len hl {counts} {out} lc lo hc hm =
         let w = steps-within in
-        let uc = ap (λ (q : Used). q .cycles) e in
-        let us = ap (λ (q : Used). q .steps) e in
         record {
-          building = b;
+          building = built-none counts out lc lo .building;
           stepsSize = z;
           cycle = omega arith;
           start = corner-most (p .m) s hs;
           least = hl;
-          cycleRoom = omega arith;
+          cycleRoom = hc;
           stepRoom = omega arith;
         }
 
@@ -118,15 +117,13 @@ module _ (steps : List ℕ) (z : length steps ≡ 2048) (p : Place) (r : p .at +
         let r = length-rotated s hs in
         omega arith
 
-    module _ (e : ℕ) {counts₀ counts : List ℕ} {u₀ u : Used} {out₀ out : List ℕ} (b₀ : Built [] counts₀ u₀ out₀) (len : ℕ)
-        (el : len ≡ distance (p .m) s t) where
-      pub far-built : Built (built counts₀ u₀ out₀ ++ one (path (map halfedgeOf (arcOf steps (p .at) (p .m) t (p .m - len)) ++ one (halfedgeOf (2 * e)))))
-          counts u out → Built (one (farCycle e s t (cycleAt steps p))) counts u out
-      far-built b =
-          built-as
-          (ap (λ (n : ℕ). one (path (map halfedgeOf (arcOf steps (p .at) (p .m) t (p .m - n)) ++ one (halfedgeOf (2 * e))))) el
-          ∙ ap one (far-is steps (p .at) (p .m) steps-within s t (between-asks .1 .0) (between-asks .1 .1) e))
-          (built-then (one (path (map halfedgeOf (arcOf steps (p .at) (p .m) t (p .m - len)) ++ one (halfedgeOf (2 * e))))) b₀ b)
+    pub far-built : (e len : ℕ) → len ≡ distance (p .m) s t → {counts : List ℕ} {u : Used} {out : List ℕ}
+        → Built (one (path (map halfedgeOf (arcOf steps (p .at) (p .m) t (p .m - len)) ++ one (halfedgeOf (2 * e))))) counts u out
+        → Built (one (farCycle e s t (cycleAt steps p))) counts u out
+    far-built e len el b =
+        built-as
+        (ap (λ (n : ℕ). one (path (map halfedgeOf (arcOf steps (p .at) (p .m) t (p .m - n)) ++ one (halfedgeOf (2 * e))))) el
+        ∙ ap one (far-is steps (p .at) (p .m) steps-within s t (between-asks .1 .0) (between-asks .1 .1) e)) b
 
 -- ---- a cycle in the place of another
 module _ (cycles steps : List ℕ) (t : Spans) (c : ℕ) (p : Place) (s : ℕ) (k : Cornered cycles steps t c p s) where

@@ -1,44 +1,27 @@
 -- The cycles that two faces or one cycle become when an edge goes. Assumes nothing.
-use Prim.Native.Nat.{ℕ, zero, suc, _+_, _-_, _<_, _≤_}
+use Prim.Native.Nat.{ℕ, suc, _+_, _-_, _<_, _≤_}
 use mathlib.Core.Path.{_≡_, refl, ap, ap₂, sym, subst, subst₂, _∙_}
 use mathlib.Core.Bool.{Bool, true, false, cond}
-use mathlib.Core.List.{List, [], _∷_, _++_, map, append-nil}
+use mathlib.Core.List.{List, _++_, map, append-nil}
 use native.Mathlib.Omega.{arith}
 use native.Mathlib.Numerals.{add-one}
 use borrow.Author.Tests.{leb-false}
 use lib.Dec.{leb}
 use lib.ListN.{length, take, drop, set, length-map, length-drop}
 use lib.Seq.{length-take-le, take-append-add, take-take}
-use Rattle.complex.specs.Lists.{one, rotated, without, distance}
+use Rattle.complex.specs.Lists.{one, rotated, distance}
 use Rattle.complex.specs.Cells.{Halfedge, Cycle}
 use Rattle.complex.specs.Cut.{stretch}
 use Rattle.complex.specs.Uncut.{pathOr}
 use Rattle.store.specs.View.{halfedgeOf}
-use Rattle.store.proofs.Lists.{map-append}
 use Rattle.rows_spans.specs.declared.Used.{Used}
 use Rattle.rows_spans.specs.Building.{Built, built, RoomFor}
-use Rattle.rows_corners.proofs.Lists.{built-then}
+use Rattle.rows_corners.proofs.Lists.{take-map, rotated-map}
 use Rattle.rows_stretches.specs.declared.Stretch.{Stretch}
 use Rattle.rows_stretches.specs.declared.Place.{Place}
-use Rattle.rows_stretches.specs.Paths.{stretchOf, InCycle, listAt, stepsAt, allBut, between, noSteps, Lies, Besides, followingIn, mergedList, Merging}
-use Rattle.rows_stretches.specs.Paths.{partedList, Parting, ringedList, Ringing}
-use Rattle.rows_stretches.proofs.Paths.{few-front}
+use Rattle.rows_stretches.specs.Paths.{stretchOf, pathOf, InCycle, listAt, stepsAt, othersAt, putAt, allBut, between, noSteps, Lies}
+use Rattle.rows_stretches.specs.Paths.{followingIn, mergedList, Merging, partedList, Parting}
 use Rattle.rows_stretches.proofs.Places.{cycle-in}
-
--- ---- parts of a list, each element changed
-module _ {A B : Type 0} (f : A → B) where
-  map-take : (n : ℕ) (l : List A) → map f (take n l) ≡ take n (map f l)
-  map-take zero l = refl
-  map-take (suc n) [] = refl
-  map-take (suc n) (x ∷ l) = ap (λ (r : List B). f x ∷ r) (map-take n l)
-
-  map-drop : (n : ℕ) (l : List A) → map f (drop n l) ≡ drop n (map f l)
-  map-drop zero l = refl
-  map-drop (suc n) [] = refl
-  map-drop (suc n) (x ∷ l) = map-drop n l
-
-  map-rotated : (n : ℕ) (l : List A) → map f (rotated n l) ≡ rotated n (map f l)
-  map-rotated n l = map-append f (drop n l) (take n l) ∙ ap₂ (λ (x y : List B). x ++ y) (map-drop n l) (map-take n l)
 
 -- the elements but one, from the next on
 rotated-but : {A : Type 0} (l : List A) (n : ℕ) → n < length l → take (length l - 1) (rotated (suc n) l) ≡ drop (suc n) l ++ take n l
@@ -70,8 +53,8 @@ module _ (cycles steps : List ℕ) (p : Place) (l : Lies cycles steps p) where
   -- some of them from the step after s on
   after-is : (s n : ℕ) → map halfedgeOf (take n (rotated (s + 1) run)) ≡ take n (rotated (suc s) (stepsAt steps p))
   after-is s n =
-      map-take halfedgeOf n (rotated (s + 1) run)
-      ∙ ap (take n) (map-rotated halfedgeOf (s + 1) run ∙ ap (λ (k : ℕ). rotated k (stepsAt steps p)) (add-one s))
+      sym (take-map halfedgeOf n (rotated (s + 1) run))
+      ∙ ap (take n) (sym (rotated-map halfedgeOf (s + 1) run) ∙ ap (λ (k : ℕ). rotated k (stepsAt steps p)) (add-one s))
 
   all-but-is : (s : ℕ) → s < p .count → stretchOf steps (allBut p s) ≡ followingIn s (stepsAt steps p)
   all-but-is s h =
@@ -92,7 +75,7 @@ module _ (cycles steps : List ℕ) (p : Place) (l : Lies cycles steps p) where
   none-in : InCycle (noSteps p)
   none-in = record { cycle = cycle-in cycles steps p l; start = omega arith; least = omega arith }
 
-  pub up-to-asks : (s t : ℕ) → s < p .count → t < p .count → (p .count ≤ 2048) × ((s < p .count) × (t < p .count))
+  up-to-asks : (s t : ℕ) → s < p .count → t < p .count → (p .count ≤ 2048) × ((s < p .count) × (t < p .count))
   up-to-asks s t h k = let i = cycle-in cycles steps p l in (omega arith, (h, k))
 
 -- a list and what follows it
@@ -102,20 +85,13 @@ few-after {ks} {counts} {u} {out} b xs {n} {m} f lc ls =
     subst₂ (λ (i j : ℕ). RoomFor i j (built counts u out ++ xs)) (sym lc) (sym ls) (subst (λ (l : List Cycle). RoomFor n m (l ++ xs)) (sym (b .list)) f)
 
 -- ---- two faces become one
-module _ (cycles steps : List ℕ) (p : Place) (s : ℕ) (q : Place) (t v : ℕ) (m : Merging cycles steps p s q t v) (a b : Stretch) (ea : a ≡ allBut p s)
+module _ {cycles steps : List ℕ} {p : Place} {s : ℕ} {q : Place} {t v : ℕ} (m : Merging cycles steps p s q t v) {a b : Stretch} (ea : a ≡ allBut p s)
     (eb : b ≡ allBut q t) where
-  abbrev pub others-of : List Cycle
-  others-of = without (one (q .cycle)) 0 (listAt cycles steps q)
-
-  pub merged-is : set (listAt cycles steps p) (p .cycle) (pathOr v (stretchOf steps a ++ stretchOf steps b)) ++ others-of ≡ mergedList cycles steps p s q t v
+  pub merged-is : putAt cycles steps p a b v ++ othersAt cycles steps q ≡ mergedList cycles steps p s q t v
   merged-is =
-      ap₂ (λ (x y : List Halfedge). set (listAt cycles steps p) (p .cycle) (pathOr v (x ++ y)) ++ others-of)
+      ap₂ (λ (x y : List Halfedge). set (listAt cycles steps p) (p .cycle) (pathOr v (x ++ y)) ++ othersAt cycles steps q)
       (ap (stretchOf steps) ea ∙ all-but-is cycles steps p (m .first) s (m .here))
       (ap (stretchOf steps) eb ∙ all-but-is cycles steps q (m .second) t (m .there))
-
-  pub merged-room : {i j : ℕ} → RoomFor i j (mergedList cycles steps p s q t v)
-      → RoomFor i j (set (listAt cycles steps p) (p .cycle) (pathOr v (stretchOf steps a ++ stretchOf steps b)) ++ others-of)
-  merged-room {i} {j} f = subst (RoomFor i j) (sym merged-is) f
 
   pub first-in : InCycle a
   first-in = subst InCycle (sym ea) (all-but-in cycles steps p (m .first) s (m .here))
@@ -124,50 +100,27 @@ module _ (cycles steps : List ℕ) (p : Place) (s : ℕ) (q : Place) (t v : ℕ)
   second-in = subst InCycle (sym eb) (all-but-in cycles steps q (m .second) t (m .there))
 
 -- ---- a cycle becomes two
-module _ (cycles steps : List ℕ) (p : Place) (s t v w : ℕ) (m : Parting cycles steps p s t v w) (a b : Stretch) (ea : a ≡ between p s t)
-    (eb : b ≡ between p t s) where
-  abbrev none : Stretch
-  none = noSteps p
+module _ {cycles steps : List ℕ} {p : Place} {s t v w : ℕ} (m : Parting cycles steps p s t v w) where
+  stretch-is : (i j : ℕ) {c : Stretch} → c ≡ between p i j → stretchOf steps c ++ stretchOf steps (noSteps p) ≡ stretch (suc i) j (stepsAt steps p)
+  stretch-is i j {c} e = append-nil (stretchOf steps c) ∙ ap (stretchOf steps) e ∙ between-is cycles steps p (m .first) i j
 
-  stretch-is : (i j : ℕ) (c : Stretch) → c ≡ between p i j → stretchOf steps c ++ stretchOf steps none ≡ stretch (suc i) j (stepsAt steps p)
-  stretch-is i j c e = append-nil (stretchOf steps c) ∙ ap (stretchOf steps) e ∙ between-is cycles steps p (m .first) i j
+  pub parted-is : {a b : Stretch} → a ≡ between p s t → b ≡ between p t s
+      → putAt cycles steps p a (noSteps p) v ++ one (pathOf steps b (noSteps p) w) ≡ partedList cycles steps p s t v w
+  parted-is ea eb =
+      ap₂ (λ (x y : List Halfedge). set (listAt cycles steps p) (p .cycle) (pathOr v x) ++ one (pathOr w y)) (stretch-is s t ea) (stretch-is t s eb)
 
-  abbrev pub last-of : List Cycle
-  last-of = one (pathOr w (stretchOf steps b ++ stretchOf steps none))
+  pub here-in : {a : Stretch} → a ≡ between p s t → InCycle a
+  here-in ea = subst InCycle (sym ea) (between-in cycles steps p (m .first) s t (m .here) (m .there))
 
-  pub parted-is : set (listAt cycles steps p) (p .cycle) (pathOr v (stretchOf steps a ++ stretchOf steps none)) ++ last-of ≡ partedList cycles steps p s t v w
-  parted-is =
-      ap₂ (λ (x y : List Halfedge). set (listAt cycles steps p) (p .cycle) (pathOr v x) ++ one (pathOr w y)) (stretch-is s t a ea) (stretch-is t s b eb)
+  pub there-in : {b : Stretch} → b ≡ between p t s → InCycle b
+  there-in eb = subst InCycle (sym eb) (between-in cycles steps p (m .first) t s (m .there) (m .here))
 
-  pub parted-room : {i j : ℕ} → RoomFor i j (partedList cycles steps p s t v w)
-      → RoomFor i j (set (listAt cycles steps p) (p .cycle) (pathOr v (stretchOf steps a ++ stretchOf steps none)) ++ last-of)
-  parted-room {i} {j} f = subst (RoomFor i j) (sym parted-is) f
-
-  pub here-in : InCycle a
-  here-in = subst InCycle (sym ea) (between-in cycles steps p (m .first) s t (m .here) (m .there))
-
-  pub there-in : InCycle b
-  there-in = subst InCycle (sym eb) (between-in cycles steps p (m .first) t s (m .there) (m .here))
-
-  pub nothing-in : InCycle none
+  pub nothing-in : InCycle (noSteps p)
   nothing-in = none-in cycles steps p (m .first)
 
--- ---- two faces become one without a cycle of each
-module _ (cycles steps : List ℕ) (p q : Place) (m : Ringing cycles steps p q) {counts : List ℕ} {u : Used} {out : List ℕ} (n : Built [] counts u out)
-    (f : RoomFor (length counts) (length out) (ringedList cycles steps p q)) where
-  abbrev first-of : List Cycle
-  first-of = without (one (p .cycle)) 0 (listAt cycles steps p)
+  -- what is asked of the two stretches
+  pub here-asks : (p .count ≤ 2048) × ((s < p .count) × (t < p .count))
+  here-asks = up-to-asks cycles steps p (m .first) s t (m .here) (m .there)
 
-  abbrev second-of : List Cycle
-  second-of = without (one (q .cycle)) 0 (listAt cycles steps q)
-
-  pub ringed-first : Besides cycles steps p counts u out
-  ringed-first = record { lies = m .first; building = n .building; room = few-after n first-of (few-front first-of second-of f) refl refl }
-
-  module _ {counts′ : List ℕ} {u′ : Used} {out′ : List ℕ} (r : Built (built counts u out ++ first-of) counts′ u′ out′) where
-    pub ringed-second : length counts′ ≡ length counts → length out′ ≡ length out → Besides cycles steps q counts′ u′ out′
-    ringed-second lc ls = record { lies = m .second; building = r .building; room = few-after (built-then first-of n r) second-of f lc ls }
-
-    pub ringed-built : {counts″ : List ℕ} {u″ : Used} {out″ : List ℕ} → Built (built counts′ u′ out′ ++ second-of) counts″ u″ out″
-        → Built (ringedList cycles steps p q) counts″ u″ out″
-    ringed-built {counts″} {u″} {out″} x = built-then second-of (built-then first-of n r) x
+  pub there-asks : (p .count ≤ 2048) × ((t < p .count) × (s < p .count))
+  there-asks = up-to-asks cycles steps p (m .first) t s (m .there) (m .here)

@@ -3,9 +3,9 @@ use Prim.Native.Nat.{ℕ, _+_, _<_, _≤_}
 use mathlib.Core.Path.{_≡_, refl, ap, ap₂, sym, subst, _∙_}
 use mathlib.Core.List.{List, [], _∷_, _++_, map, append-assoc}
 use native.Mathlib.Omega.{arith}
-use lib.ListN.{length, take, drop, length-append, length-map, length-drop}
+use lib.ListN.{length, take, drop, length-append, length-map}
 use lib.Seq.{length-take-le, take-at, drop-at, take-all}
-use Rattle.complex.specs.Lists.{total, one, rotated}
+use Rattle.complex.specs.Lists.{total, one}
 use Rattle.complex.specs.Cells.{Halfedge, Cycle, lone, path}
 use Rattle.complex.specs.Sound.{stepCount}
 use Rattle.complex.specs.Uncut.{pathOr}
@@ -17,6 +17,7 @@ use Rattle.rows_spans.specs.Building.{Building, Built, built, RoomFor, moreCycl
 use Rattle.rows_spans.proofs.Building.{built-same}
 use Rattle.rows_spans.proofs.Splicing.{run-take}
 use Rattle.rows_corners.specs.Arcs.{arcOf, Arc, Pasted}
+use Rattle.rows_corners.proofs.Arcs.{arc-length}
 use Rattle.rows_corners.proofs.Lists.{built-as}
 use Rattle.rows_corners.proofs.Rows.{list-steps}
 use Rattle.rows_stretches.specs.declared.Stretch.{Stretch}
@@ -89,18 +90,8 @@ pasted-built {counts} {u} {out} {xs} {st} {counts′} b p c room =
     let s = built-same counts u out b st z front in
     built-as (ap₂ (λ (l : List Cycle) (q : List ℕ). l ++ one (path (map halfedgeOf q))) (s .list) run) (c .list st (s .building) (omega arith))
 
--- ---- stretches
-pub arc-length : (steps : List ℕ) → length steps ≡ 2048 → (a : Stretch) → InCycle a → length (arcOf steps (a .at) (a .count) (a .from) (a .len)) ≡ a .len
-arc-length steps z a i =
-    let round = take (a .count) (drop (a .at) steps) in
-    let l = length-take-le (a .count) (drop (a .at) steps) (omega (arith, length-drop (a .at) steps, i .cycle)) in
-    let e = length-append (drop (a .from) round) (take (a .from) round) in
-    let x = length-drop (a .from) round in
-    let y = length-take-le (a .from) round (omega (arith, i .start)) in
-    length-take-le (a .len) (rotated (a .from) round) (omega (arith, i .start, i .least))
-
 -- ---- two stretches, or the vertex v
-module _ (steps : List ℕ) (a b : Stretch) (v : ℕ) (counts : List ℕ) (u : Used) (out : List ℕ) (w : PathRoom steps a b v counts u out) where
+module _ {steps : List ℕ} {a b : Stretch} {v : ℕ} {counts : List ℕ} {u : Used} {out : List ℕ} (w : PathRoom steps a b v counts u out) where
   abbrev one-run : List ℕ
   one-run = arcOf steps (a .at) (a .count) (a .from) (a .len)
 
@@ -110,11 +101,14 @@ module _ (steps : List ℕ) (a b : Stretch) (v : ℕ) (counts : List ℕ) (u : U
   abbrev both-runs : List Halfedge
   both-runs = stretchOf steps a ++ stretchOf steps b
 
+  run-long : (c : Stretch) → InCycle c → length (arcOf steps (c .at) (c .count) (c .from) (c .len)) ≡ c .len
+  run-long c i = arc-length steps (c .at) (c .count) (c .from) (c .len) (w .stepsSize) (i .cycle) (i .start) (i .least)
+
   one-length : length one-run ≡ a .len
-  one-length = arc-length steps (w .stepsSize) a (w .first)
+  one-length = run-long a (w .first)
 
   two-length : length two-run ≡ b .len
-  two-length = arc-length steps (w .stepsSize) b (w .second)
+  two-length = run-long b (w .second)
 
   runs-are : both-runs ≡ map halfedgeOf (one-run ++ two-run)
   runs-are = sym (map-append halfedgeOf one-run two-run)

@@ -10,7 +10,6 @@ use Rattle.complex.specs.Cut.{noCycle}
 use Rattle.store.specs.View.{width, widthSum, cycleOf}
 use Rattle.store.proofs.Lists.{sum-more, sum-le}
 use Rattle.rows_spans.proofs.Building.{cycle-at, cycle-path, width-some}
-use Rattle.rows_corners.proofs.Lists.{at-length}
 use Rattle.rows_stretches.specs.declared.Place.{Place}
 use Rattle.rows_stretches.specs.Paths.{listAt, stepsAt, Lies}
 
@@ -25,9 +24,6 @@ module _ (cycles steps : List ℕ) (p : Place) (l : Lies cycles steps p) where
   counts-length =
       length-take-le (p .spans .cycles .count) (drop (p .spans .cycles .first) cycles)
       (omega (arith, length-drop (p .spans .cycles .first) cycles, l .within .inCycles, l .within .cyclesSize))
-
-  pub list-length : length (listAt cycles steps p) ≡ p .spans .cycles .count
-  list-length = at-length cycles steps (p .spans) (l .within)
 
   -- ---- its steps
   pub cycle-is : getD (listAt cycles steps p) (p .cycle) noCycle ≡ path (stepsAt steps p)

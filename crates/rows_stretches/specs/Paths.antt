@@ -2,7 +2,7 @@
 use Prim.Native.Nat.{ℕ, suc, _+_, _-_, _<_, _≤_}
 use mathlib.Core.Path.{_≡_}
 use mathlib.Core.List.{List, _++_, map}
-use lib.ListN.{length, take, drop, getD}
+use lib.ListN.{length, take, drop, getD, set}
 use Rattle.complex.specs.Lists.{total, one, without, distance}
 use Rattle.complex.specs.Cells.{Halfedge, Cycle}
 use Rattle.complex.specs.Edits.{cycleReplaced, withoutCycle}
@@ -26,6 +26,10 @@ pub record Few (ks : List Cycle) : Type 0 where
 abbrev pub stretchOf : List ℕ → Stretch → List Halfedge
 stretchOf steps a = map halfedgeOf (arcOf steps (a .at) (a .count) (a .from) (a .len))
 
+-- one and then another, or if both are empty the vertex v alone
+abbrev pub pathOf : List ℕ → Stretch → Stretch → ℕ → Cycle
+pathOf steps a b v = pathOr v (stretchOf steps a ++ stretchOf steps b)
+
 pub record InCycle (a : Stretch) : Type 0 where
   pub cycle : a .at + a .count ≤ 2048
   pub start : a .from ≤ a .count
@@ -37,7 +41,7 @@ pub record PathRoom (steps : List ℕ) (a b : Stretch) (v : ℕ) (counts : List 
   pub stepsSize : length steps ≡ 2048
   pub first : InCycle a
   pub second : InCycle b
-  pub room : RoomFor (length counts) (length out) (built counts u out ++ one (pathOr v (stretchOf steps a ++ stretchOf steps b)))
+  pub room : RoomFor (length counts) (length out) (built counts u out ++ one (pathOf steps a b v))
 
 -- ---- one cycle of a face
 -- the cycles of the face, and the steps of the one
@@ -46,6 +50,13 @@ listAt cycles steps p = cyclesAt cycles steps (p .spans)
 
 abbrev pub stepsAt : List ℕ → Place → List Halfedge
 stepsAt steps p = map halfedgeOf (take (p .count) (drop (p .at) steps))
+
+-- the others of the face, and the face with two stretches or v alone in its place
+abbrev pub othersAt : List ℕ → List ℕ → Place → List Cycle
+othersAt cycles steps p = without (one (p .cycle)) 0 (listAt cycles steps p)
+
+abbrev pub putAt : List ℕ → List ℕ → Place → Stretch → Stretch → ℕ → List Cycle
+putAt cycles steps p a b v = set (listAt cycles steps p) (p .cycle) (pathOf steps a b v)
 
 -- its steps after s, round to before it, and those after s up to t
 abbrev pub allBut : Place → ℕ → Stretch
@@ -70,7 +81,7 @@ pub record Lies (cycles steps : List ℕ) (p : Place) : Type 0 where
 pub record Besides (cycles steps : List ℕ) (p : Place) (counts : List ℕ) (u : Used) (out : List ℕ) : Type 0 where
   pub lies : Lies cycles steps p
   pub building : Building counts u out
-  pub room : RoomFor (length counts) (length out) (built counts u out ++ without (one (p .cycle)) 0 (listAt cycles steps p))
+  pub room : RoomFor (length counts) (length out) (built counts u out ++ othersAt cycles steps p)
 
 -- ---- the cycles of the face that stays
 -- what follows the step n, round to before it

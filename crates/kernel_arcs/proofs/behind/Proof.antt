@@ -13,33 +13,33 @@ cast-after c = search needs
 
 after-requires : tie.Need-after-requires
 after-requires c κs =
-    let st = c .before .before .before .before .before in
+    let st = c .before .before .before .before in
     let a = st .args in
     let p = st .pre in
     end-asks (p .0) (a .flags .now) (p .1 .1 .1 .0) (a .c) (p .1 .0) (a .p) (p .1 .1 .0)
 
 add-copy-cycles : tie.Need-add-copy-cycles
 add-copy-cycles c =
-    let p = c .before .before .before .before .before .before .before .before .pre in
+    let p = c .before .before .before .before .before .before .before .pre in
     let h = p .1 .0 in
     omega (arith, p .0 .inCycles)
 
 sub-copy-cycles : tie.Need-sub-copy-cycles
 sub-copy-cycles c =
-    let p = c .before .before .before .before .before .before .before .before .before .pre in
+    let p = c .before .before .before .before .before .before .before .before .pre in
     let h = p .1 .0 in
     omega arith
 
 sub-copy-cycles-2 : tie.Need-sub-copy-cycles-2
 sub-copy-cycles-2 c =
-    let p = c .before .before .before .before .before .before .before .before .before .before .pre in
+    let p = c .before .before .before .before .before .before .before .before .before .pre in
     let h = p .1 .0 in
     let f = p .1 .1 .1 .0 in
     omega (arith, p .0 .inCycles)
 
 part-copy-cycles-start : tie.Need-part-copy-cycles-start
 part-copy-cycles-start c =
-    let p = c .before .before .before .before .before .before .before .before .before .before .pre in
+    let p = c .before .before .before .before .before .before .before .before .before .pre in
     let h = p .1 .0 in
     let f = p .1 .1 .1 .0 in
     omega (arith, p .0 .inCycles)
@@ -50,7 +50,7 @@ part-copy-cycles-end c = search needs
 copy-cycles-requires : tie.Need-copy-cycles-requires
 copy-cycles-requires c κs =
     let f = c .before .before .before .before .before .before .before in
-    let st = f .before .before .before .before .before .before in
+    let st = f .before .before .before .before .before in
     let a = st .args in
     let p = st .pre in
     behind-asks (p .0) (a .flags .now) (p .1 .1 .1 .0) (a .c) (p .1 .0) (a .p) (p .1 .1 .0) (f .after .result) (f .after .ensures) (p .1 .1 .1 .1 .0)
@@ -65,7 +65,7 @@ same-length-2 c = search needs
 returns : tie.Need-returns
 returns c =
     let f = c .before .before .before .before .before .before .before .before .before .before .before .before in
-    let st = f .before .before .before .before .before .before in
+    let st = f .before .before .before .before .before in
     let a = st .args in
     let p = st .pre in
     behind-built (p .0) (a .flags .now) (p .1 .1 .1 .0) (a .c) (p .1 .0) (a .p) (p .1 .1 .0) (f .after .result) (f .after .ensures) (a .numbers .now) (a .u)

@@ -2,7 +2,7 @@
 use borrow.Author.Needs.{needs}
 use native.Mathlib.Omega.{arith}
 use Rattle.lent.specs.Arrays.{Arrays, lent}
-use Rattle.kernel_copies.proofs.Coming.{bends-asks, bends-room, long-with, copies-come}
+use Rattle.kernel_copies.proofs.Coming.{rows-come, withPlaces, bends-asks, bends-room, long-with, copies-come}
 use Rattle.kernel_copies.proofs.put_copies.Statement.{statement}
 use Rattle.kernel_copies.proofs.put_copies.Tie as tie
 
@@ -39,20 +39,24 @@ put-bends-requires c κs =
 
 put-rows-requires : tie.Need-put-rows-requires
 put-rows-requires c κs =
-    let p = c .before .before .before .before .before .before .before .before .before .before in
-    let s = p .before .before .before .before .before .before .before .before in
-    let h = s .pre .0 in
-    (long-with (arrays s) (s .pre .1 .0) _ _ (p .put-bends .ensures .1 .0) (p .put-bends .ensures .1 .1), (s .pre .1 .1 .0, (h .row, (h .cells, h .ids))))
+    let p = c .before .before .before .before .before .before .before .before in
+    let h = p .before .before .before .before .before .before .before .before .pre .0 in
+    (h .row, (h .cells, h .ids))
 
 returns : tie.Need-returns
 returns c =
-    let p = c .before .before .before .before .before .before .before .before .before .before .before in
+    let p = c .before .before .before .before .before .before .before .before .before in
     let f = p .before .before .before in
     let w = f .before .before .before in
     let s = w .before .before in
-    copies-come (arrays s) (s .pre .1 .0) (s .pre .1 .1 .0) (s .args .row) (s .args .n) (s .pre .0) (s .args .base) (f .bend-start .result) (w .wide .result)
-    (s .pre .1 .1 .1) (f .bend-start .ensures)
-    (w .wide .ensures) _ _ (p .put-bends .ensures .0) _ (c .put-rows .ensures)
+    let a = arrays s in
+    let b = p .put-bends .ensures in
+    let h = s .pre .0 in
+    let l = s .pre .1 .0 in
+    let m = s .pre .1 .1 .0 in
+    let r = rows-come (withPlaces a _ _) (long-with a l _ _ (b .1 .0) (b .1 .1)) m (s .args .row) (s .args .n) (h .row) (h .cells) (c .put-rows .ensures) in
+    copies-come a l m (s .args .row) (s .args .n) h (s .args .base) (f .bend-start .result) (w .wide .result) (s .pre .1 .1 .1) (f .bend-start .ensures)
+    (w .wide .ensures) _ _ (b .0) _ r
 
 pub put-copies-spec : {M : Type 1} → statement M
 put-copies-spec =

@@ -1,55 +1,51 @@
 -- `copy_around` meets its contract. Assumes nothing.
 use borrow.Author.Needs.{needs}
-use mathlib.Core.Path.{_∙_}
-use Rattle.kernel_paths.proofs.Around.{around-first, around-path, around-last, around-built}
+use mathlib.Core.Path.{refl, _∙_}
+use Rattle.kernel_paths.proofs.Around.{inside, around-first, around-path, around-last, around-built}
 use Rattle.kernel_paths.proofs.copy_around.Statement.{statement}
 use Rattle.kernel_paths.proofs.copy_around.Tie as tie
 
-copy-ahead-requires : tie.Need-copy-ahead-requires
-copy-ahead-requires c κs =
-    let st = c .before .before .before .before in
-    let a = st .args in
-    around-first (a .cycles .now) (a .steps .now) (a .p) (st .pre .lies) (a .a) (a .b) (a .v) (st .pre)
+about-requires : tie.Need-about-requires
+about-requires c κs = inside (c .before .before .pre .lies)
+
+copy-cycles-requires : tie.Need-copy-cycles-requires
+copy-cycles-requires c κs =
+    let t = c .before .before in
+    let g = t .before .before .before .pre in
+    around-first (g .lies) (t .about .ensures) g refl refl
 
 push-path-requires : tie.Need-push-path-requires
 push-path-requires c κs =
     let x = c .before .before .before .before .before .before in
-    let st = x .before .before .before .before .before in
-    let a = st .args in
-    around-path (a .cycles .now) (a .steps .now) (a .p) (st .pre .lies) (a .a) (a .b) (a .v) (st .pre) (x .copy-ahead .ensures)
-    (x .copy-ahead .kept .1 .1 .1 .0) (x .copy-ahead .kept .1 .1 .1 .1 .0)
+    let t = x .before .before .before in
+    let g = t .before .before .before .pre in
+    around-path (g .lies) (t .about .ensures) g (x .copy-cycles .ensures) (x .copy-cycles .kept .1 .1 .1 .0) (x .copy-cycles .kept .1 .1 .1 .1 .0)
 
-copy-behind-requires : tie.Need-copy-behind-requires
-copy-behind-requires c κs =
+copy-cycles-requires-2 : tie.Need-copy-cycles-requires-2
+copy-cycles-requires-2 c κs =
     let y = c .before .before .before .before .before .before in
     let x = y .before .before .before .before .before .before .before in
-    let st = x .before .before .before .before .before in
-    let a = st .args in
-    around-last (a .cycles .now) (a .steps .now) (a .p) (st .pre .lies) (a .a) (a .b) (a .v) (st .pre) (x .copy-ahead .ensures) (y .push-path .ensures)
-    (y .push-path .kept .1 .1 .1 .1 .0 ∙ x .copy-ahead .kept .1 .1 .1 .0) (y .push-path .kept .1 .1 .1 .1 .1 .0 ∙ x .copy-ahead .kept .1 .1 .1 .1 .0)
-
-same-length : tie.Need-same-length
-same-length c = search needs
-
-same-length-2 : tie.Need-same-length-2
-same-length-2 c = search needs
+    let t = x .before .before .before in
+    let g = t .before .before .before .pre in
+    around-last (g .lies) (t .about .ensures) g (x .copy-cycles .ensures) (y .push-path .ensures)
+    (y .push-path .kept .1 .1 .1 .1 .0 ∙ x .copy-cycles .kept .1 .1 .1 .0) (y .push-path .kept .1 .1 .1 .1 .1 .0 ∙ x .copy-cycles .kept .1 .1 .1 .1 .0)
 
 returns : tie.Need-returns
 returns c =
     let y = c .before .before .before .before .before .before .before .before .before .before .before in
     let x = y .before .before .before .before .before .before .before in
-    let st = x .before .before .before .before .before in
-    let a = st .args in
-    around-built (a .cycles .now) (a .steps .now) (a .p) (st .pre .lies) (a .a) (a .b) (a .v) (st .pre)
-    (x .copy-ahead .ensures) (y .push-path .ensures) (c .before .before .before .before .copy-behind .ensures)
+    let t = x .before .before .before in
+    let g = t .before .before .before .pre in
+    around-built (g .lies) (t .about .ensures) g (x .copy-cycles .ensures) (y .push-path .ensures) (c .before .before .before .before .copy-cycles2 .ensures)
 
 pub copy-around-spec : {M : Type 1} → statement M
 copy-around-spec =
     tie.close
     (tie.spec
-    copy-ahead-requires
+    about-requires
+    copy-cycles-requires
     push-path-requires
-    copy-behind-requires
-    same-length
-    same-length-2
+    copy-cycles-requires-2
+    (λ c. search needs)
+    (λ c. search needs)
     returns)

@@ -1,75 +1,47 @@
 -- `parted_cycles` meets its contract. Assumes nothing.
 use borrow.Author.Needs.{needs}
-use Rattle.rows_stretches.proofs.Lists.{up-to-asks}
+use Rattle.rows_stretches.proofs.Lists.{here-asks, there-asks}
 use Rattle.kernel_paths.proofs.Becoming.{parted-puts, parted-path, parted-done}
 use Rattle.kernel_paths.proofs.parted_cycles.Statement.{statement}
 use Rattle.kernel_paths.proofs.parted_cycles.Tie as tie
 
 up-to-requires : tie.Need-up-to-requires
-up-to-requires c κs =
-    let a = c .before .before .args in
-    let m = c .before .before .pre .0 in
-    up-to-asks (a .cycles .now) (a .steps .now) (a .p) (m .first) (a .s) (a .t) (m .here) (m .there)
-
-up-to-requires-2 : tie.Need-up-to-requires-2
-up-to-requires-2 c κs =
-    let st = c .before .before .before in
-    let a = st .args in
-    let m = st .pre .0 in
-    up-to-asks (a .cycles .now) (a .steps .now) (a .p) (m .first) (a .t) (a .s) (m .there) (m .here)
-
-no-cycles-requires : tie.Need-no-cycles-requires
-no-cycles-requires c κs = search needs
+up-to-requires c κs = here-asks (c .before .before .pre .0)
 
 copy-around-requires : tie.Need-copy-around-requires
 copy-around-requires c κs =
-    let n = c .before .before in
-    let y = n .before .before .before in
-    let x = y .before in
-    let st = x .before .before .before in
-    let a = st .args in
-    parted-puts (a .cycles .now) (a .steps .now) (a .p) (a .s) (a .t) (a .v) (a .w) (st .pre .0)
-    (x .up-to .result) (y .up-to2 .result) (x .up-to .ensures) (y .up-to2 .ensures) (n .no-cycles .ensures) (st .pre .1)
+    let a = c .before .before in
+    let g = a .before .before .before .pre in
+    parted-puts (g .0) (a .up-to .ensures) (g .1)
+
+up-to-requires-2 : tie.Need-up-to-requires-2
+up-to-requires-2 c κs = there-asks (c .before .before .before .before .before .before .before .before .before .before .pre .0)
 
 push-path-requires : tie.Need-push-path-requires
 push-path-requires c κs =
-    let o = c .before .before .before .before .before .before in
-    let n = o .before .before .before in
-    let y = n .before .before .before in
-    let x = y .before in
-    let st = x .before .before .before in
-    let a = st .args in
-    parted-path (a .cycles .now) (a .steps .now) (a .p) (a .s) (a .t) (a .v) (a .w) (st .pre .0)
-    (x .up-to .result) (y .up-to2 .result) (x .up-to .ensures) (y .up-to2 .ensures) (n .no-cycles .ensures) (st .pre .1) (o .copy-around .ensures)
-    (o .copy-around .kept .1 .1 .1 .1 .1 .1 .0) (o .copy-around .kept .1 .1 .1 .1 .1 .1 .1 .0)
-
-same-length : tie.Need-same-length
-same-length c = search needs
-
-same-length-2 : tie.Need-same-length-2
-same-length-2 c = search needs
+    let b = c .before .before in
+    let x = b .before .before .before .before .before in
+    let a = x .before .before .before in
+    let g = a .before .before .before .pre in
+    parted-path (g .0) (a .up-to .ensures) (g .1) (x .copy-around .ensures) (b .up-to2 .ensures)
+    (x .copy-around .kept .1 .1 .1 .1 .1 .1 .0) (x .copy-around .kept .1 .1 .1 .1 .1 .1 .1 .0)
 
 returns : tie.Need-returns
 returns c =
-    let o = c .before .before .before .before .before .before .before .before .before .before .before in
-    let n = o .before .before .before in
-    let y = n .before .before .before in
-    let x = y .before in
-    let st = x .before .before .before in
-    let a = st .args in
-    parted-done (a .cycles .now) (a .steps .now) (a .p) (a .s) (a .t) (a .v) (a .w) (st .pre .0)
-    (x .up-to .result) (y .up-to2 .result) (x .up-to .ensures) (y .up-to2 .ensures) (n .no-cycles .ensures) (st .pre .1) (o .copy-around .ensures)
-    (c .before .before .before .before .push-path .ensures)
+    let b = c .before .before .before .before .before .before .before in
+    let x = b .before .before .before .before .before in
+    let a = x .before .before .before in
+    let g = a .before .before .before .pre in
+    parted-done (g .0) (a .up-to .ensures) (g .1) (x .copy-around .ensures) (b .up-to2 .ensures) (c .before .before .before .before .push-path .ensures)
 
 pub parted-cycles-spec : {M : Type 1} → statement M
 parted-cycles-spec =
     tie.close
     (tie.spec
     up-to-requires
-    up-to-requires-2
-    no-cycles-requires
     copy-around-requires
+    up-to-requires-2
     push-path-requires
-    same-length
-    same-length-2
+    (λ c. search needs)
+    (λ c. search needs)
     returns)

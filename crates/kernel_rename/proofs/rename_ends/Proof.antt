@@ -1,8 +1,8 @@
 -- `rename_ends` meets its contract. Assumes nothing.
 use borrow.Author.Needs.{needs}
-use Prim.Native.Nat.{_+_, _-_, _<_, _≤_}
+use Prim.Native.Nat.{_-_, _<_, _≤_}
 use native.Mathlib.Omega.{arith}
-use mathlib.Core.Path.{_≡_, refl}
+use mathlib.Core.Path.{_≡_}
 use mathlib.Core.Logic.{⊎-elim}
 use lib.ListN.{length}
 use Rattle.complex.specs.Glue.{renamed}
@@ -23,48 +23,6 @@ loop-holds c = let a = c .args in (
   renaming-start (renamed (a .a)
       (a .b)) (a .kinds .now) (a .ends .now),
 )
-
-mul-if1 : tie.Need-mul-if1 Inv-loop μ-loop
-mul-if1 c = search needs
-
-element-copy-out-if1 : tie.Need-element-copy-out-if1 Inv-loop μ-loop
-element-copy-out-if1 c = search needs
-
-mul-rename : tie.Need-mul-rename Inv-loop μ-loop
-mul-rename c = search needs
-
-element-copy-out-rename : tie.Need-element-copy-out-rename Inv-loop μ-loop
-element-copy-out-rename c = search needs
-
-rename-requires : tie.Need-rename-requires Inv-loop μ-loop
-rename-requires c κs = search needs
-
-mul-starts : tie.Need-mul-starts Inv-loop μ-loop
-mul-starts c = search needs
-
-element-write-starts : tie.Need-element-write-starts Inv-loop μ-loop
-element-write-starts c = search needs
-
-mul-rename-2 : tie.Need-mul-rename-2 Inv-loop μ-loop
-mul-rename-2 c = search needs
-
-element-copy-out-rename-2 : tie.Need-element-copy-out-rename-2 Inv-loop μ-loop
-element-copy-out-rename-2 c = search needs
-
-rename-requires-2 : tie.Need-rename-requires-2 Inv-loop μ-loop
-rename-requires-2 c κs = search needs
-
-mul-ends : tie.Need-mul-ends Inv-loop μ-loop
-mul-ends c = search needs
-
-element-write-ends : tie.Need-element-write-ends Inv-loop μ-loop
-element-write-ends c = search needs
-
-add-i : tie.Need-add-i Inv-loop μ-loop
-add-i c = search needs
-
-loop-less : tie.Need-loop-less Inv-loop μ-loop
-loop-less c = search needs
 
 loop-again : tie.Need-loop-again Inv-loop μ-loop
 loop-again c =
@@ -100,19 +58,19 @@ rename-ends-spec =
     Inv-loop
     μ-loop
     loop-holds
-    mul-if1
-    element-copy-out-if1
-    mul-rename
-    element-copy-out-rename
-    rename-requires
-    mul-starts
-    element-write-starts
-    mul-rename-2
-    element-copy-out-rename-2
-    rename-requires-2
-    mul-ends
-    element-write-ends
-    add-i
-    loop-less
+    (λ c. search needs)
+    (λ c. search needs)
+    (λ c. search needs)
+    (λ c. search needs)
+    (λ c κs. search needs)
+    (λ c. search needs)
+    (λ c. search needs)
+    (λ c. search needs)
+    (λ c. search needs)
+    (λ c κs. search needs)
+    (λ c. search needs)
+    (λ c. search needs)
+    (λ c. search needs)
+    (λ c. search needs)
     loop-again
     returns)

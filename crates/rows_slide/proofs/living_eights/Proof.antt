@@ -17,62 +17,8 @@ abbrev μ-loop : tie.MeasureT-loop
 loop-holds : tie.Need-loop-holds Inv-loop μ-loop
 loop-holds c = seen-start _ false _ _ (c .pre .0)
 
-add-loop : tie.Need-add-loop Inv-loop μ-loop
-add-loop c = search needs
-
-shared-slice-read-a : tie.Need-shared-slice-read-a Inv-loop μ-loop
-shared-slice-read-a c = search needs
-
-add-a : tie.Need-add-a Inv-loop μ-loop
-add-a c = search needs
-
-shared-slice-read-a-2 : tie.Need-shared-slice-read-a-2 Inv-loop μ-loop
-shared-slice-read-a-2 c = search needs
-
-add-a-2 : tie.Need-add-a-2 Inv-loop μ-loop
-add-a-2 c = search needs
-
-shared-slice-read-a-3 : tie.Need-shared-slice-read-a-3 Inv-loop μ-loop
-shared-slice-read-a-3 c = search needs
-
-add-a-3 : tie.Need-add-a-3 Inv-loop μ-loop
-add-a-3 c = search needs
-
-shared-slice-read-a-4 : tie.Need-shared-slice-read-a-4 Inv-loop μ-loop
-shared-slice-read-a-4 c = search needs
-
-add-b : tie.Need-add-b Inv-loop μ-loop
-add-b c = search needs
-
-shared-slice-read-b : tie.Need-shared-slice-read-b Inv-loop μ-loop
-shared-slice-read-b c = search needs
-
-add-b-2 : tie.Need-add-b-2 Inv-loop μ-loop
-add-b-2 c = search needs
-
-shared-slice-read-b-2 : tie.Need-shared-slice-read-b-2 Inv-loop μ-loop
-shared-slice-read-b-2 c = search needs
-
-add-b-3 : tie.Need-add-b-3 Inv-loop μ-loop
-add-b-3 c = search needs
-
-shared-slice-read-b-3 : tie.Need-shared-slice-read-b-3 Inv-loop μ-loop
-shared-slice-read-b-3 c = search needs
-
-add-b-4 : tie.Need-add-b-4 Inv-loop μ-loop
-add-b-4 c = search needs
-
-shared-slice-read-b-4 : tie.Need-shared-slice-read-b-4 Inv-loop μ-loop
-shared-slice-read-b-4 c = search needs
-
 returns : tie.Need-returns Inv-loop μ-loop
 returns c = c .before .before .before .before .before .before .before .before .before .before .loop .inv
-
-add-k : tie.Need-add-k Inv-loop μ-loop
-add-k c = search needs
-
-loop-less : tie.Need-loop-less Inv-loop μ-loop
-loop-less c = search needs
 
 loop-again : tie.Need-loop-again Inv-loop μ-loop
 loop-again c =
@@ -89,24 +35,24 @@ living-eights-spec =
     Inv-loop
     μ-loop
     loop-holds
-    add-loop
-    shared-slice-read-a
-    add-a
-    shared-slice-read-a-2
-    add-a-2
-    shared-slice-read-a-3
-    add-a-3
-    shared-slice-read-a-4
-    add-b
-    shared-slice-read-b
-    add-b-2
-    shared-slice-read-b-2
-    add-b-3
-    shared-slice-read-b-3
-    add-b-4
-    shared-slice-read-b-4
+    (λ c. search needs)
+    (λ c. search needs)
+    (λ c. search needs)
+    (λ c. search needs)
+    (λ c. search needs)
+    (λ c. search needs)
+    (λ c. search needs)
+    (λ c. search needs)
+    (λ c. search needs)
+    (λ c. search needs)
+    (λ c. search needs)
+    (λ c. search needs)
+    (λ c. search needs)
+    (λ c. search needs)
+    (λ c. search needs)
+    (λ c. search needs)
     returns
-    add-k
-    loop-less
+    (λ c. search needs)
+    (λ c. search needs)
     loop-again
     returns-2)

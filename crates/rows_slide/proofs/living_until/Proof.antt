@@ -14,23 +14,11 @@ Inv-loop dead i n k₀ k = Seen dead false i n k
 abbrev μ-loop : tie.MeasureT-loop
 μ-loop dead i n k₀ k = n - k
 
-living-eights-requires : tie.Need-living-eights-requires Inv-loop μ-loop
-living-eights-requires c κs = search needs
-
 loop-holds : tie.Need-loop-holds Inv-loop μ-loop
 loop-holds c = c .living-eights .ensures
 
-shared-slice-read-if1 : tie.Need-shared-slice-read-if1 Inv-loop μ-loop
-shared-slice-read-if1 c = search needs
-
 returns : tie.Need-returns Inv-loop μ-loop
 returns c = seen-stop (c .before .before .before .loop .inv) (c .if1 .taken)
-
-add-k : tie.Need-add-k Inv-loop μ-loop
-add-k c = search needs
-
-loop-less : tie.Need-loop-less Inv-loop μ-loop
-loop-less c = search needs
 
 loop-again : tie.Need-loop-again Inv-loop μ-loop
 loop-again c = let at = c .before .before .before in seen-turn (at .before .before .before .pre .1) (omega arith) (c .if1 .left) (at .loop .inv)
@@ -44,11 +32,11 @@ living-until-spec =
     (tie.spec
     Inv-loop
     μ-loop
-    living-eights-requires
+    (λ c κs. search needs)
     loop-holds
-    shared-slice-read-if1
+    (λ c. search needs)
     returns
-    add-k
-    loop-less
+    (λ c. search needs)
+    (λ c. search needs)
     loop-again
     returns-2)
