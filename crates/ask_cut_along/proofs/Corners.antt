@@ -4,8 +4,8 @@ use mathlib.Core.Path.{_≡_, refl, ap, ap₂, sym, _∙_}
 use mathlib.Core.Bool.{Bool, true, false, not, cond, _&&_}
 use mathlib.Core.List.{List, [], _∷_, map}
 use native.Mathlib.Omega.{arith}
-use borrow.Author.Tests.{ltb-true, lt-ltb, le-ltb, ne-eqb, not-true, not-false}
-use lib.Dec.{eqb, ltb, ltb→lt}
+use borrow.Author.Tests.{ltb-true, lt-ltb, le-ltb, eq-eqb, ne-eqb, not-true, not-false}
+use lib.Dec.{eqb, ltb}
 use lib.ListN.{length, take, drop, getD, length-drop, length-map, List·getD-map}
 use lib.Seq.{length-take-le, getD-take, getD-drop}
 use Rattle.number.specs.Numbers.{readNumber}
@@ -13,8 +13,9 @@ use Rattle.number.proofs.Counted.{times-length}
 use Rattle.complex.specs.Lists.{isEmpty, holds, places}
 use Rattle.complex.specs.Cells.{Halfedge, Cycle, Look, cellAt, isOpen, cyclesOf}
 use Rattle.complex.specs.Cut.{noCycle, noStep, cornerExists, cutCorners}
-use Rattle.answer.specs.Sizes.{aloneIn}
-use Rattle.complex.proofs.Bools.{truth, both}
+use Rattle.answer.specs.declared.Totals.{Totals}
+use Rattle.answer.specs.Sizes.{sized, moreLess, changedBy, aloneIn}
+use Rattle.answer.specs.Late.{sizesBy, lateNo}
 use Rattle.store.specs.declared.Drawing.{Drawing}
 use Rattle.store.specs.declared.Index.{Index}
 use Rattle.store.specs.Index.{valueAt}
@@ -24,11 +25,11 @@ use Rattle.sound.specs.Looks.{Looks}
 use Rattle.sound.proofs.Meaning.{looks-in, open-at}
 use Rattle.rows_spans.specs.declared.Spans.{Spans}
 use Rattle.decode_parts.specs.Lists.{Stand, numbersRead}
-use Rattle.rows_corners.specs.Faces.{Named, IndexRows, Within, Spanned}
+use Rattle.rows_corners.specs.Faces.{Named, Within, Spanned}
 use Rattle.rows_corners.specs.Arcs.{cornerIn}
 use Rattle.rows_corners.proofs.Lists.{at-length}
 use Rattle.rows_split.proofs.Places.{place-room, place-cycle}
-use Rattle.ask_cut_along.specs.Corners.{cornerOn, cornerAt, loneCount, movedFit}
+use Rattle.ask_cut_along.specs.Corners.{cornerOn, cornerAt, loneCount, cutNo, movedFit}
 
 -- ---- a cycle in the arrays, and its corners
 module _ (look : Look) (ix : Index) (n : ℕ) (o : (i : ℕ) → eqb (valueAt 4 (take n (ix .ids)) (take n (ix .kinds)) i) 1 ≡ isOpen (look i)) (steps : List ℕ)
@@ -72,6 +73,30 @@ pub is-lone : (cycles : List ℕ) (t : Spans) (c i : ℕ) → i ≡ c → (b : B
     → cond b 1 0 ≡ loneCount cycles t c
 is-lone cycles t c i e b eb = ap (λ (q : Bool). cond q 1 0) (sym eb) ∙ ap (loneCount cycles t) e
 
+-- what questions 7 and 8 say, from the bends b and the lone vertices of the cycles
+module _ (next : ℕ) (t : Totals) (cycles : List ℕ) (s : Spans) (c1 c2 k : ℕ) where
+  abbrev oneNo : ℕ → ℕ → ℕ
+  oneNo b n = lateNo next 2 (changedBy (sizesBy t) (moreLess (sized 2 1 2 b) (sized 0 0 n 0)))
+
+  abbrev twoNo : ℕ → ℕ → ℕ
+  twoNo b n = lateNo next 1 (changedBy (sizesBy t) (moreLess (sized 1 0 2 b) (sized 0 1 n 0)))
+
+  abbrev noBy : Bool → ℕ
+  noBy q = cond q (oneNo k (loneCount cycles s c1)) (twoNo k (loneCount cycles s c1 + loneCount cycles s c2))
+
+  module _ (b n : ℕ) (eb : b ≡ k) (en : n ≡ loneCount cycles s c1) where
+    pub one-no : c1 ≡ c2 → (r : ℕ) → r ≡ oneNo b n → r ≡ cutNo next t cycles s c1 c2 k
+    one-no e r er = er ∙ ap₂ oneNo eb en ∙ sym (ap noBy (eq-eqb c1 c2 e))
+
+    pub two-no : (c1 ≡ c2 → ⊥) → (m : ℕ) → m ≡ loneCount cycles s c2 → (r : ℕ) → r ≡ twoNo b (n + m) → r ≡ cutNo next t cycles s c1 c2 k
+    two-no e m em r er = er ∙ ap₂ twoNo eb (ap₂ _+_ en em) ∙ sym (ap noBy (ne-eqb c1 c2 e))
+
+  pub no-of-one : eqb c1 c2 ≡ true → cutNo next t cycles s c1 c2 k ≡ oneNo k (loneCount cycles s c1)
+  no-of-one e = ap noBy e
+
+  pub no-of-two : eqb c1 c2 ≡ false → cutNo next t cycles s c1 c2 k ≡ twoNo k (loneCount cycles s c1 + loneCount cycles s c2)
+  no-of-two e = ap noBy e
+
 module _ (cycles steps : List ℕ) (t : Spans) (c i : ℕ) (e : i ≡ c) (ix : Index) (n : ℕ) where
   pub no-cycle : t .cycles .count ≤ i → (k : ℕ) → false ≡ cornerAt ix n cycles steps t c k
   no-cycle h k = rw (le-ltb c (t .cycles .count) (omega arith))
@@ -84,9 +109,6 @@ module _ (cycles steps : List ℕ) (t : Spans) (c i : ℕ) (e : i ≡ c) (ix : I
         (w .cyclesSize, (omega arith, omega arith))
 
     module _ (at : ℕ) (ea : at ≡ t .steps .first + widthSum (take i (drop (t .cycles .first) cycles))) where
-      pub corner-asks : IndexRows ix n → IndexRows ix n × ((length steps ≡ 2048) × (at + width (getD cycles (t .cycles .first + i) 0) ≤ 2048))
-      corner-asks r = let p = place-room cycles steps t w i h in (r, (w .stepsSize, omega arith))
-
       pub corner-at : (k : ℕ) (b : Bool) → b ≡ cornerIn ix n (getD cycles (t .cycles .first + i) 0) steps at k → b ≡ cornerAt ix n cycles steps t c k
       corner-at k b eb =
           eb ∙ ap (λ (a : ℕ). cornerIn ix n (getD cycles (t .cycles .first + i) 0) steps a k) ea
@@ -104,14 +126,6 @@ module _ (d : Drawing) (z : Sizes d) (ix : Index) (f : ℕ) (m : Named d ix f) w
 
   seen : Looks d ix
   seen = looks-in d z (m .fits) ix (m .index) (m .rising)
-
-  pub rows : IndexRows ix (d .count)
-  rows =
-      let s = m .index .sizes in
-      record { few = m .fits .cells; ids = s .0; kinds = s .1; starts = s .2; ends = s .3; cycles = s .5; rising = m .rising }
-
-  pub count-told : (k : ℕ) → k ≡ valueAt 0 (take (d .count) (ix .ids)) (take (d .count) (ix .cycles)) f → k ≡ length ks
-  count-told k e = e ∙ seen .cycles f
 
   module _ (t : Spans) (s : Spanned d f t) where
     many-cycles : length ks ≡ t .cycles .count
@@ -182,10 +196,3 @@ module _ (look : Look) (ks : List Cycle) (c1 s1 c2 s2 : ℕ) (ms : List ℕ) whe
 
       pub both-there : not b ≡ false → (k : ℕ) → k ≡ length ks → (r : Bool) → r ≡ movedFit k c1 c2 ms → r ≡ cutCorners look ks c1 s1 c2 s2 ms
       both-there nb k ek r er = er ∙ ap (λ (n : ℕ). movedFit n c1 c2 ms) ek ∙ sym (corners-parts ∙ rw (sym ea ∙ not-false a na, sym eb ∙ not-false b nb))
-
-  -- both cycles exist
-  pub cycles-there : cutCorners look ks c1 s1 c2 s2 ms ≡ true → (c1 < length ks) × (c2 < length ks)
-  cycles-there e =
-      let a = both (ltb c1 (length ks)) _ (truth e) in
-      let b = both (ltb c2 (length ks)) _ (a .1) in
-      (ltb→lt c1 (length ks) (a .0), ltb→lt c2 (length ks) (b .0))

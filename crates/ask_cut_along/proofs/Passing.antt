@@ -1,11 +1,11 @@
 -- 0C: from its questions to its answer. Assumes nothing.
 use Prim.Native.Nat.{ℕ, _+_}
-use mathlib.Core.Path.{_≡_, refl, ap, ap₂, sym, _∙_}
+use mathlib.Core.Path.{_≡_, refl, ap, ap₂, sym, subst, _∙_}
 use mathlib.Core.Bool.{Bool, true, false}
-use mathlib.Core.List.{List, [], _∷_}
+use mathlib.Core.List.{List, _∷_}
 use lib.Dec.{eqb}
 use lib.ListN.{length, getD}
-use borrow.Author.Tests.{eq-eqb}
+use borrow.Author.Tests.{eq-eqb, eqb-true}
 use Rattle.number.specs.Readers.{all}
 use Rattle.coordinate.specs.declared.Position.{Position}
 use Rattle.coordinate.specs.Bounds.{within}
@@ -29,7 +29,12 @@ use Rattle.answer.specs.Late.{sizesBy, lateNo}
 use Rattle.answer.proofs.Laws.{totalsIn}
 use Rattle.decode_parts.specs.Lists.{numbersRead}
 use Rattle.answer.proofs.Asked.{Asked, room, asked-of}
-use Rattle.rows_split.specs.Along.{chord, nearSide, farSide, bridge, Along, Halves, Bridged}
+use Rattle.rows_spans.specs.declared.Spans.{Spans}
+use Rattle.rows_corners.specs.Faces.{Spanned}
+use Rattle.rows_split.specs.Along.{chord, oldSide, newFaces, Along, Cutting}
+use Rattle.rows_split.proofs.Cuts.{in-first, in-second}
+use Rattle.ask_cut_along.specs.Corners.{loneCount, cutNo}
+use Rattle.ask_cut_along.proofs.Corners.{lone-told, no-of-one, no-of-two}
 
 -- ---- the questions
 module _ (s : Sheet) (f c1 s1 c2 s2 : ℕ) (bs : List Position) (ms : List ℕ) where
@@ -92,21 +97,31 @@ module _ (s : Sheet) (f c1 s1 c2 s2 : ℕ) (bs : List Position) (ms : List ℕ) 
         ap (λ (q : Bool). alongChange q (getD ks c1 noCycle) (getD ks c2 noCycle) (length bs)) e
         ∙ ap₂ (λ (x y : ℕ). moreLess (sized 1 0 2 x) (sized 0 1 y 0)) eb (ap₂ _+_ (sym en) (sym em))
 
-    two-result : result s cut ≡ rebuild everyId (replaced f (face (bridge (s .next) c1 s1 c2 s2 ks))) (chord (cellAt s) ks c1 s1 c2 s2 bs ∷ []) s
-    unfolding result faceCutAlong
-    two-result = rw e
+-- the result, by whether the corners are of one cycle
+module _ (s : Sheet) (f c1 s1 s2 : ℕ) (bs : List Position) (ms : List ℕ) where
+  abbrev Rebuilt : ℕ → Type 0
+  Rebuilt c2 = result s (cutFaceOpen f c1 s1 c2 s2 bs ms) ≡ rebuild everyId (replaced f (face (oldSide (s .next) c1 s1 c2 s2 ms (cyclesOf (cellAt s f)))))
+      (chord (cellAt s) (cyclesOf (cellAt s f)) c1 s1 c2 s2 bs ∷ newFaces (s .next) c1 s1 c2 s2 ms (cyclesOf (cellAt s f))) s
 
-one-result : (s : Sheet) (f c s1 s2 : ℕ) (bs : List Position) (ms : List ℕ) → let ks = cyclesOf (cellAt s f) in
-    result s (cutFaceOpen f c s1 c s2 bs ms)
-    ≡ rebuild everyId (replaced f (face (nearSide (s .next) c s1 s2 ms ks))) (chord (cellAt s) ks c s1 c s2 bs ∷ face (farSide (s .next) c s1 s2 ms ks) ∷ []) s
-unfolding result faceCutAlong
-one-result s f c s1 s2 bs ms = rw (eq-eqb c c refl)
+  one-result : Rebuilt c1
+  unfolding result faceCutAlong
+  one-result = rw (eq-eqb c1 c1 refl)
+
+  two-result : (c2 : ℕ) → eqb c1 c2 ≡ false → Rebuilt c2
+  unfolding result faceCutAlong
+  two-result c2 e = rw e
+
+  cut-result : (c2 : ℕ) → Rebuilt c2
+  cut-result c2 = go (eqb c1 c2) refl
+    where
+      go : (q : Bool) → eqb c1 c2 ≡ q → Rebuilt c2
+      go true e = subst Rebuilt (eqb-true c1 c2 e) one-result
+      go false e = two-result c2 e
 
 -- ---- questions 3 to 6 got a yes; what is asked next, and the room that a yes leaves
 module _ (d : Drawing) (z : Sizes d) (ix : Index) (script : List ℕ) (f c1 s1 c2 s2 bends first moved place : ℕ)
     (a : Along d ix script f c1 s1 c2 s2 bends first moved place)
-    (q : all within (positionsAt script first bends) ≡ true) (t : Totals) (et : t ≡ totalsIn d z (sound-fits d (a .sound)) ix (a .named .index)) (b : ℕ)
-    (eb : b ≡ bends) (r : ℕ) where
+    (q : all within (positionsAt script first bends) ≡ true) (t : Totals) (et : t ≡ totalsIn d z (sound-fits d (a .sound)) ix (a .named .index)) (r : ℕ) where
   abbrev bs : List Position
   bs = positionsAt script first bends
 
@@ -119,11 +134,11 @@ module _ (d : Drawing) (z : Sizes d) (ix : Index) (script : List ℕ) (f c1 s1 c
   pass : Passed (sheetOf d) (cutFaceOpen f c1 s1 c2 s2 bs ms)
   pass = passed (sheetOf d) f c1 s1 c2 s2 bs ms q (a .named .face) (a .corners)
 
-  many : length bs ≡ b
-  many = positions-length script first bends ∙ sym eb
+  many : length bs ≡ bends
+  many = positions-length script first bends
 
-  pub one-asked : eqb c1 c2 ≡ true → (n : ℕ) → n ≡ aloneIn (getD (cyclesOf (cellAt (sheetOf d) f)) c1 noCycle)
-      → r ≡ lateNo (d .next) 2 (changedBy (sizesBy t) (moreLess (sized 2 1 2 b) (sized 0 0 n 0))) → asks
+  one-asked : eqb c1 c2 ≡ true → (n : ℕ) → n ≡ aloneIn (getD (cyclesOf (cellAt (sheetOf d) f)) c1 noCycle)
+      → r ≡ lateNo (d .next) 2 (changedBy (sizesBy t) (moreLess (sized 2 1 2 bends) (sized 0 0 n 0))) → asks
   one-asked e n en er =
       asked-of d z (a .sound) (cutFaceOpen f c1 s1 c2 s2 bs ms) r
       (record {
@@ -131,18 +146,18 @@ module _ (d : Drawing) (z : Sizes d) (ix : Index) (script : List ℕ) (f c1 s1 c
         indexes = a .named .index;
         new = 2;
         totals = t;
-        more = record { cells = 2; cycles = 1; steps = 2; bends = b };
+        more = record { cells = 2; cycles = 1; steps = 2; bends = bends };
         less = record { cells = 0; cycles = 0; steps = n; bends = 0 };
         passed = pass;
         newIs = one-new (sheetOf d) f c1 s1 c2 s2 bs ms e;
-        changeIs = one-change (sheetOf d) f c1 s1 c2 s2 bs ms e b n many en;
+        changeIs = one-change (sheetOf d) f c1 s1 c2 s2 bs ms e bends n many en;
         totalsAre = et;
         says = er;
       })
 
-  pub two-asked : eqb c1 c2 ≡ false → (n m : ℕ) → n ≡ aloneIn (getD (cyclesOf (cellAt (sheetOf d) f)) c1 noCycle)
+  two-asked : eqb c1 c2 ≡ false → (n m : ℕ) → n ≡ aloneIn (getD (cyclesOf (cellAt (sheetOf d) f)) c1 noCycle)
       → m ≡ aloneIn (getD (cyclesOf (cellAt (sheetOf d) f)) c2 noCycle)
-      → r ≡ lateNo (d .next) 1 (changedBy (sizesBy t) (moreLess (sized 1 0 2 b) (sized 0 1 (n + m) 0))) → asks
+      → r ≡ lateNo (d .next) 1 (changedBy (sizesBy t) (moreLess (sized 1 0 2 bends) (sized 0 1 (n + m) 0))) → asks
   two-asked e n m en em er =
       asked-of d z (a .sound) (cutFaceOpen f c1 s1 c2 s2 bs ms) r
       (record {
@@ -150,34 +165,29 @@ module _ (d : Drawing) (z : Sizes d) (ix : Index) (script : List ℕ) (f c1 s1 c
         indexes = a .named .index;
         new = 1;
         totals = t;
-        more = record { cells = 1; cycles = 0; steps = 2; bends = b };
+        more = record { cells = 1; cycles = 0; steps = 2; bends = bends };
         less = record { cells = 0; cycles = 1; steps = n + m; bends = 0 };
         passed = pass;
         newIs = two-new (sheetOf d) f c1 s1 c2 s2 bs ms e;
-        changeIs = two-change (sheetOf d) f c1 s1 c2 s2 bs ms e b n m many en em;
+        changeIs = two-change (sheetOf d) f c1 s1 c2 s2 bs ms e bends n m many en em;
         totalsAre = et;
         says = er;
       })
 
-module _ (d : Drawing) (z : Sizes d) (ix : Index) (script : List ℕ) (f bends first moved place : ℕ) where
-  abbrev bs′ : List Position
-  bs′ = positionsAt script first bends
+  pub cut-asked : (s : Spans) → Spanned d f s → r ≡ cutNo (d .next) t (d .cycles) s c1 c2 bends → asks
+  cut-asked s w er =
+      let told = lone-told d z ix f (a .named) s w in
+      go (told c1 (in-first a) (loneCount (d .cycles) s c1) refl) (told c2 (in-second a) (loneCount (d .cycles) s c2) refl) (eqb c1 c2) refl
+    where
+      go : loneCount (d .cycles) s c1 ≡ aloneIn (getD (cyclesOf (cellAt (sheetOf d) f)) c1 noCycle)
+          → loneCount (d .cycles) s c2 ≡ aloneIn (getD (cyclesOf (cellAt (sheetOf d) f)) c2 noCycle) → (x : Bool) → eqb c1 c2 ≡ x → asks
+      go e1 e2 true e = one-asked e _ e1 (er ∙ no-of-one (d .next) t (d .cycles) s c1 c2 bends e)
+      go e1 e2 false e = two-asked e _ _ e1 e2 (er ∙ no-of-two (d .next) t (d .cycles) s c1 c2 bends e)
 
-  abbrev ms′ : List ℕ
-  ms′ = numbersRead script place moved
-
-  pub halves : (c s1 s2 : ℕ) (a : Along d ix script f c s1 c s2 bends first moved place) (r : ℕ) → Asked d (cutFaceOpen f c s1 c s2 bs′ ms′) r → r ≡ 0
-      → Halves d ix script f c s1 s2 bends first moved place
-  halves c s1 s2 a r k y =
-      record { asked = a; room = room d z (a .sound) (cutFaceOpen f c s1 c s2 bs′ ms′) r k y everyId _ _ (one-result (sheetOf d) f c s1 s2 bs′ ms′) }
-
-  pub bridged : (c1 s1 c2 s2 : ℕ) (a : Along d ix script f c1 s1 c2 s2 bends first moved place) (e : eqb c1 c2 ≡ false) (r : ℕ)
-      → Asked d (cutFaceOpen f c1 s1 c2 s2 bs′ ms′) r → r ≡ 0
-      → Bridged d ix script f c1 s1 c2 s2 bends first moved place
-  bridged c1 s1 c2 s2 a e r k y =
-      record {
-        asked = a;
-        apart = e;
-        room = room d z (a .sound) (cutFaceOpen f c1 s1 c2 s2 bs′ ms′) r k y everyId _ _ (two-result
-            (sheetOf d) f c1 s1 c2 s2 bs′ ms′ e);
-      }
+-- the room that a yes leaves
+pub cutting : (d : Drawing) (z : Sizes d) (ix : Index) (script : List ℕ) (f c1 s1 c2 s2 bends first moved place : ℕ)
+    (a : Along d ix script f c1 s1 c2 s2 bends first moved place) (r : ℕ)
+    → Asked d (cutFaceOpen f c1 s1 c2 s2 (positionsAt script first bends) (numbersRead script place moved)) r → r ≡ 0
+    → Cutting d ix script f c1 s1 c2 s2 bends first moved place
+cutting d z ix script f c1 s1 c2 s2 bends first moved place a r k y =
+    record { asked = a; room = room d z (a .sound) _ r k y everyId _ _ (cut-result (sheetOf d) f c1 s1 s2 _ _ c2) }

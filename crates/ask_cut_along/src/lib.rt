@@ -1,9 +1,11 @@
 ghost use mathlib.Core.Path.{_≡_};
 ghost use mathlib.Core.Bool.{false};
-ghost use Prim.Native.Nat.{_+_, _<_};
+ghost use Prim.Native.Nat.{_+_, _<_, _≤_};
+ghost use Rattle.complex.specs.Sound.{idsEnd};
+ghost use Rattle.answer.specs.Late.{Small};
 ghost use Rattle.number.specs.Numbers.{readNumber};
 ghost use Rattle.decode_parts.specs.Lists.{Stand, numbersRead};
-ghost use Rattle.ask_cut_along.specs.Corners.{loneCount, movedFit};
+ghost use Rattle.ask_cut_along.specs.Corners.{loneCount, cutNo, movedFit};
 use answer::Totals;
 use rows_spans::Spans;
 
@@ -20,19 +22,45 @@ pub fn lone_step(cycles: &[u32; 512], t: Spans, c: u32) -> usize
     0
 }
 
-// What goes where two cycles become one: a cycle, and a step for each that is a lone vertex.
-pub fn bridge_less(cycles: &[u32; 512], t: Spans, c1: u32, c2: u32) -> Totals
-    requires { ⌜ t .cycles .first + c1 < 512 ⌝ }
-    requires { ⌜ t .cycles .first + c2 < 512 ⌝ }
-    ensures { λ r. ⌜ r ≡ record { cells = 0; cycles = 1; steps = loneCount (now (cycles .entry)) t c1 + loneCount (now (cycles .entry)) t c2; bends = 0 } ⌝ }
+// Questions 7 and 8 of a cut with k bends from a corner of cycle c1 to one of cycle c2: the number of the first no, or 0.
+pub fn cut_no(next: u32, t: Totals, cycles: &[u32; 512], s: Spans, c1: u32, c2: u32, k: u32) -> u32
+    requires { ⌜ next ≤ idsEnd ⌝ }
+    requires { ⌜ Small t ⌝ }
+    requires { ⌜ s .cycles .first + c1 < 512 ⌝ }
+    requires { ⌜ s .cycles .first + c2 < 512 ⌝ }
+    ensures { λ r. ⌜ r ≡ cutNo next t (now (cycles .entry)) s c1 c2 k ⌝ }
 {
-    let alone = lone_step(cycles, t, c1) + lone_step(cycles, t, c2);
-    Totals {
+    let bends = store::wide(k);
+    let alone = lone_step(cycles, s, c1);
+    if c1 == c2 {
+        let more = Totals {
+            cells: 2,
+            cycles: 1,
+            steps: 2,
+            bends,
+        };
+        let less = Totals {
+            cells: 0,
+            cycles: 0,
+            steps: alone,
+            bends: 0,
+        };
+        return answer::late_no(next, 2, t, more, less);
+    }
+    let both = alone + lone_step(cycles, s, c2);
+    let more = Totals {
+        cells: 1,
+        cycles: 0,
+        steps: 2,
+        bends,
+    };
+    let less = Totals {
         cells: 0,
         cycles: 1,
-        steps: alone,
+        steps: both,
         bends: 0,
-    }
+    };
+    answer::late_no(next, 1, t, more, less)
 }
 
 // Whether the moved cycles rise strictly below k and are without c1; where c1 and c2 differ, whether there are none.

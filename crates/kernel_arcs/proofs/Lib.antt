@@ -1,3 +1,4 @@
 pub mod Lists
 pub mod Sides
 pub mod Joins
+pub mod Pairs

@@ -2,7 +2,7 @@ ghost use mathlib.Core.Path.{_≡_};
 ghost use mathlib.Core.Bool.{false};
 ghost use mathlib.Core.List.{_∷_, _++_, map};
 ghost use Prim.Native.Nat.{_+_, _<_, _≤_};
-ghost use lib.ListN.{length, take, getD, set};
+ghost use lib.ListN.{length, take, drop, getD, set};
 ghost use Rattle.complex.specs.Lists.{total, one};
 ghost use Rattle.complex.specs.Cells.{path};
 ghost use Rattle.complex.specs.Sound.{idsEnd, stepCount};
@@ -13,7 +13,7 @@ ghost use Rattle.decode_parts.specs.Lists.{numbersRead};
 ghost use Rattle.rows_corners.specs.Faces.{Within, cyclesAt};
 ghost use Rattle.rows_corners.specs.Arcs.{arcOf, ArcRoom};
 ghost use Rattle.rows_split.specs.Along.{nearSide, farSide, bridge};
-ghost use Rattle.rows_split.specs.Parts.{placeOf, cycleAt, nearCycle, farCycle, bridgeCycle, Cornered, SplitParting, Joining, Bridging};
+ghost use Rattle.rows_split.specs.Parts.{placeOf, cycleAt, nearCycle, farCycle, bridgeCycle, Cornered, RoomForBoth, SplitParting, Joining, Bridging};
 ghost use Rattle.kernel_arcs.specs.Lists.{behind};
 use rows_spans::Spans;
 use rows_spans::Used;
@@ -167,13 +167,13 @@ pub fn far_side(
     )
 }
 
-// How much of two pairs of arrays the lists of two faces take.
+// How much of two arrays the lists of two faces take, one after the other.
 pub struct Parts {
     pub old: Used,
     pub new: Used,
 }
 
-// The near side without the moved cycles; the far side, and then the moved cycles.
+// The near side without the moved cycles; after it the far side, and then the moved cycles.
 pub fn halves(
     cycles: &[u32; 512],
     steps: &[u32; 2048],
@@ -188,21 +188,31 @@ pub fn halves(
     e: u32,
     numbers: &mut [u32],
     places: &mut [u32],
-    numbers2: &mut [u32],
-    places2: &mut [u32],
 ) -> Parts
     requires { ⌜ SplitParting (now cycles) (now steps) t (now script) moved place c p s1 s2 e ⌝ }
-    requires { ⌜ RoomFor (length (now numbers)) (length (now places)) (nearSide e c s1 s2 (numbersRead (now script) place moved) (cyclesAt (now cycles) (now steps) t)) ⌝ }
-    requires { ⌜ RoomFor (length (now numbers2)) (length (now places2)) (farSide e c s1 s2 (numbersRead (now script) place moved) (cyclesAt (now cycles) (now steps) t)) ⌝ }
+    requires { ⌜ RoomForBoth (length (now numbers)) (length (now places)) (nearSide e c s1 s2 (numbersRead (now script) place moved) (cyclesAt (now cycles) (now steps) t)) (farSide e c s1 s2 (numbersRead (now script) place moved) (cyclesAt (now cycles) (now steps) t)) ⌝ }
     ensures { λ r. ⌜ Built (nearSide e c s1 s2 (numbersRead (now (script .entry)) place moved) (cyclesAt (now (cycles .entry)) (now (steps .entry)) t)) (now (numbers .exit)) (r .old) (now (places .exit)) ⌝ }
-    ensures { λ r. ⌜ Built (farSide e c s1 s2 (numbersRead (now (script .entry)) place moved) (cyclesAt (now (cycles .entry)) (now (steps .entry)) t)) (now (numbers2 .exit)) (r .new) (now (places2 .exit)) ⌝ }
+    ensures { λ r. ⌜ Built (farSide e c s1 s2 (numbersRead (now (script .entry)) place moved) (cyclesAt (now (cycles .entry)) (now (steps .entry)) t)) (drop (r .old .cycles) (now (numbers .exit))) (r .new) (drop (r .old .steps) (now (places .exit))) ⌝ }
 {
     let mut flags = [false; 512];
     script::mark_moved(script, place, moved, &mut flags);
     let mut stays = [false; 512];
     rows_corners::others(&flags, &mut stays);
     let a = near_side(cycles, steps, t, &flags, c, p, s1, s2, e, numbers, places);
-    let b = far_side(cycles, steps, t, &stays, p, s1, s2, e, numbers2, places2);
+    let i = a.cycles;
+    let j = a.steps;
+    let b = far_side(
+        cycles,
+        steps,
+        t,
+        &stays,
+        p,
+        s1,
+        s2,
+        e,
+        &mut numbers[i..],
+        &mut places[j..],
+    );
     Parts { old: a, new: b }
 }
 

@@ -1,1 +1,4 @@
 pub mod Opening
+pub mod Chords
+pub mod Ends
+pub mod Cutting

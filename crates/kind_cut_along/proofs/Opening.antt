@@ -13,7 +13,7 @@ use Rattle.bends.specs.Bends.{positionsAt}
 use Rattle.complex.specs.Cells.{Cycle, Look, cellAt, cyclesOf}
 use Rattle.complex.specs.Decode.{Command, cutFaceOpen}
 use Rattle.complex.specs.Cut.{cutCorners}
-use Rattle.store.specs.Index.{rowOf, valueAt, Rising}
+use Rattle.store.specs.Index.{rowOf, valueAt}
 use Rattle.store.specs.View.{sheetOf}
 use Rattle.rows_spans.specs.declared.Spans.{Spans}
 use Rattle.rows_spans.specs.Runs.{spansOf}
@@ -33,8 +33,8 @@ use Rattle.lent.proofs.Sums.{ready-sizes, ready-drawing, ready-indexes, ready-c
 use Rattle.lent.proofs.Finds.{ready-finds}
 use Rattle.kernel_cycles.specs.Replacing.{RowCounted}
 use Rattle.kernel_cycles.proofs.Ready.{ready-counted}
-use Rattle.kind_cut_chord.specs.Chords.{cornersBy}
-use Rattle.kind_cut_split.specs.Cuts.{Asks}
+use Rattle.kind_cut_chord.specs.Chords.{Ruled, cornersBy}
+use Rattle.kind_cut_along.specs.Cuts.{Asks}
 
 -- what was found of the two corners, and of the moved cycles among n, is question 5
 corners-are : (look : Look) (ks : List Cycle) (c1 s1 c2 s2 : ℕ) (ms : List ℕ) (n : ℕ) → n ≡ length ks → (x y : Bool) → x ≡ cornerOn look ks c1 s1 → y ≡
@@ -43,6 +43,12 @@ corners-are : (look : Look) (ks : List Cycle) (c1 s1 c2 s2 : ℕ) (ms : List ℕ
 corners-are look ks c1 s1 c2 s2 ms n en false y ex ey = first-missing look ks c1 s1 c2 s2 ms false ex refl
 corners-are look ks c1 s1 c2 s2 ms n en true false ex ey = second-missing look ks c1 s1 c2 s2 ms true ex refl false ey refl
 corners-are look ks c1 s1 c2 s2 ms n en true true ex ey = both-there look ks c1 s1 c2 s2 ms true ex refl true ey refl n en (movedFit n c1 c2 ms) refl
+
+-- b is what question 5 says: on a no its line is the answer, and else questions 3 to 6 got a yes
+pub record Five (a : Arrays) (t : Totals) (script : List ℕ) (f : ℕ) (s : Spans) (c1 s1 c2 s2 k first moved place : ℕ) (b : Bool) : Type 0 where
+  pub refused : not b ≡ true → (l : Line) → l ≡ lineOf 5
+      → Obeyed a (cutFaceOpen f c1 s1 c2 s2 (positionsAt script first k) (numbersRead script place moved)) a l
+  pub passes : not b ≡ false → Asks a t script f s c1 s1 c2 s2 k first moved place
 
 module _ (a : Arrays) (t : Totals) (y : Ready a t) (script : List ℕ) (f c1 s1 c2 s2 k first moved place : ℕ) where
   abbrev cut : Command
@@ -81,10 +87,11 @@ module _ (a : Arrays) (t : Totals) (y : Ready a t) (script : List ℕ) (f c1 s1 
                 spanned (heldBy a) (ready-sizes a t y) (rowsBy a) f named row s er
                 (es ∙ ap (λ (n : ℕ). spansOf (a .counts) n row (a .cycles)) (ready-cells a t y))
 
-            pub corners-ask : Stand readNumber script place moved → (a .count ≤ 256) ×
-                ((length (a .ids) ≡ 256) × ((length (a .kinds) ≡ 256) × (Rising (take (a .count) (a .ids))
-                × (Within (a .cycles) (a .steps) s × Stand readNumber script place moved))))
-            corners-ask w = let g = ready-finds a t y in (g .0, (g .1 .0, (y .long .kinds, (g .1 .1, (span .within, w)))))
+            pub corners-ask : Stand readNumber script place moved
+                → Ruled (a .ids) (a .kinds) (a .count) × (Within (a .cycles) (a .steps) s × Stand readNumber script place moved)
+            corners-ask w =
+                let g = ready-finds a t y in
+                (record { few = g .0; ids = g .1 .0; values = y .long .kinds; rising = g .1 .1 }, (span .within, w))
 
             -- b is what question 5 says
             module _ (b : Bool) (eb : b ≡ cornersBy (a .ids) (a .kinds) (a .count) (a .cycles) (a .steps) s c1 s1 c2 s2 (numbersRead script place moved)) where
@@ -98,29 +105,18 @@ module _ (a : Arrays) (t : Totals) (y : Ready a t) (script : List ℕ) (f c1 s1 
                   (corner-told (heldBy a) (ready-sizes a t y) (rowsBy a) f named s span c1 s1 _ refl)
                   (corner-told (heldBy a) (ready-sizes a t y) (rowsBy a) f named s span c2 s2 _ refl))
 
-              -- 5
-              pub corners-no : not b ≡ true → (l : Line) → l ≡ lineOf 5 → Obeyed a
-                  (cutFaceOpen f c1 s1 c2 s2 (positionsAt script first k) (numbersRead script place moved)) a l
-              corners-no nb l el =
-                  ready-no a t y cut 5 l el
-                  (no-corner (sheetOf (heldBy a)) f c1 s1 c2 s2 (positionsAt script first k) (numbersRead script place moved) q (named .face)
-                  (told ∙ not-true b nb))
-
-              pub asks : not b ≡ false → first + 16 * k ≤ length script → Stand readNumber script place moved → Asks a t script f s c1 s1 c2 s2 k first moved
-                  place
-              asks nb h w =
+              pub five : first + 16 * k ≤ length script → Stand readNumber script place moved → Five a t script f s c1 s1 c2 s2 k first moved place b
+              five h w =
                   record {
-                    ready = y;
-                    spans = es ∙ ap (λ (r : ℕ). spansOf (a .counts) (t .cells) r (a .cycles)) er;
-                    bounds = q;
-                    along = record { sound = ready-drawing a t y; named = named; bytes = h; stand = w; corners = told ∙ not-false b nb };
+                    refused =
+                        λ nb l el. ready-no a t y cut 5 l el
+                        (no-corner (sheetOf (heldBy a)) f c1 s1 c2 s2 (positionsAt script first k) (numbersRead script place moved) q (named .face)
+                        (told ∙ not-true b nb));
+                    passes =
+                        λ nb. record {
+                          ready = y;
+                          spans = es ∙ ap (λ (r : ℕ). spansOf (a .counts) (t .cells) r (a .cycles)) er;
+                          bounds = q;
+                          along = record { sound = ready-drawing a t y; named = named; bytes = h; stand = w; corners = told ∙ not-false b nb };
+                        };
                   }
-
--- ---- where the two cycles are one
-module _ (a : Arrays) (t : Totals) (script : List ℕ) (f : ℕ) (s : Spans) (c1 s1 c2 s2 k first moved place : ℕ) (e : c1 ≡ c2) where
-  pub asks-one : Asks a t script f s c1 s1 c2 s2 k first moved place → Asks a t script f s c1 s1 c1 s2 k first moved place
-  asks-one x = subst (λ (n : ℕ). Asks a t script f s c1 s1 n s2 k first moved place) (sym e) x
-
-  pub obeyed-one : (o : Arrays) (l : Line) → Obeyed a (cutFaceOpen f c1 s1 c1 s2 (positionsAt script first k) (numbersRead script place moved)) o l
-      → Obeyed a (cutFaceOpen f c1 s1 c2 s2 (positionsAt script first k) (numbersRead script place moved)) o l
-  obeyed-one o l x = subst (λ (n : ℕ). Obeyed a (cutFaceOpen f c1 s1 n s2 (positionsAt script first k) (numbersRead script place moved)) o l) e x

@@ -1,2 +1,2 @@
-pub mod Chords
-pub mod Ends
+pub mod Questions
+pub mod Plans

@@ -1,22 +1,27 @@
--- A face of lent arrays cut along a new open edge: the corners and their vertices, and room for the edge. Definitions only.
-use Prim.Native.Nat.{ℕ, _+_, _*_, _≤_}
+-- A face cut along a new open edge, in its rows: the corners and their vertices. Definitions only.
+use Prim.Native.Nat.{ℕ, _≤_}
 use mathlib.Core.Path.{_≡_}
-use mathlib.Core.Bool.{Bool, _&&_}
-use mathlib.Core.List.{List, [], _∷_}
-use lib.ListN.{length}
-use Rattle.bends.specs.Bends.{positionsAt}
-use Rattle.complex.specs.Cells.{Figure, openEdge, face}
-use Rattle.store.specs.View.{sheetOf}
+use mathlib.Core.Bool.{Bool, true, false, _&&_}
+use mathlib.Core.List.{List, []}
+use lib.Dec.{eqb}
+use lib.ListN.{length, take}
+use Rattle.number.specs.Numbers.{readNumber}
+use Rattle.complex.specs.Lists.{holds, places}
+use Rattle.complex.specs.Sound.{idsEnd}
+use Rattle.store.specs.Index.{Rising}
 use Rattle.rows_spans.specs.declared.Spans.{Spans}
-use Rattle.rows_spans.specs.declared.Used.{Used}
-use Rattle.rows_spans.specs.Runs.{sheetWithRow}
-use Rattle.rows_spans.specs.Building.{built}
-use Rattle.rows_new.specs.Appends.{RoomIn}
+use Rattle.decode_parts.specs.Lists.{Stand, numbersRead}
 use Rattle.rows_corners.specs.Arcs.{cornerVertex}
 use Rattle.rows_split.specs.declared.Place.{Place}
+use Rattle.rows_split.specs.Parts.{placeOf, Cornered}
 use Rattle.ask_cut_along.specs.Corners.{cornerAt, movedFit}
-use Rattle.lent.specs.Arrays.{Arrays, heldBy, totalsOf}
-use Rattle.kernel_cycles.specs.Replacing.{ReplacesIn}
+
+-- n rows by rising ids, with an array of values beside them
+pub record Ruled (is vs : List ℕ) (n : ℕ) : Type 0 where
+  pub few : n ≤ 256
+  pub ids : length is ≡ 256
+  pub values : length vs ≡ 256
+  pub rising : Rising (take n is)
 
 -- the vertex of corner s of the cycle at p, by n rows of ids, starts and ends
 abbrev pub vertexIn : List ℕ → List ℕ → List ℕ → ℕ → List ℕ → Place → ℕ → ℕ
@@ -33,12 +38,13 @@ abbrev pub cornersBy : List ℕ → List ℕ → ℕ → List ℕ → List ℕ �
 cornersBy ids kinds n cycles steps t c1 s1 c2 s2 ms =
     cornerBy ids kinds n cycles steps t c1 s1 && (cornerBy ids kinds n cycles steps t c2 s2 && movedFit (t .cycles .count) c1 c2 ms)
 
--- the row of a is a face's, whose cycles and steps stand at s; there is room for the cycles of a list in their place, and then for an
--- edge from v to w with the k bends that the script has at first, and for others after it; `at` bends are in use
-pub record ChordRoom (a : Arrays) (row : ℕ) (s : Spans) (numbers : List ℕ) (u : Used) (places : List ℕ) (at : ℕ)
-    (script : List ℕ) (v w k first : ℕ) : Type 0 where
-  pub replaces : ReplacesIn a row s numbers (u .cycles) places (u .steps)
-  pub inUse : at ≡ totalsOf a .bends
-  pub bytes : first + 16 * k ≤ length script
-  pub others : List Figure
-  pub room : RoomIn (sheetWithRow (sheetOf (heldBy a)) row (face (built numbers u places))) (openEdge v w (positionsAt script first k) ∷ others)
+-- the corners s1 and s2 of the cycles c1 and c2 exist, by n rows, and the moved cycles lie in the script and fit; the edge's id is e
+pub record Chorded (is ss es : List ℕ) (n : ℕ) (cycles steps : List ℕ) (t : Spans) (script : List ℕ) (moved place c1 s1 c2 s2 e : ℕ) : Type 0 where
+  pub starts : Ruled is ss n
+  pub ends : Ruled is es n
+  pub from : Cornered cycles steps t c1 (placeOf cycles t c1) s1
+  pub to : Cornered cycles steps t c2 (placeOf cycles t c2) s2
+  pub stand : Stand readNumber script place moved
+  pub rise : eqb c1 c2 ≡ true → places 0 (numbersRead script place moved) (t .cycles .count) ≡ true
+  pub stays : eqb c1 c2 ≡ true → holds c1 (numbersRead script place moved) ≡ false
+  pub few : e ≤ idsEnd

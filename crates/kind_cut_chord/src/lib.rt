@@ -1,26 +1,23 @@
 ghost use mathlib.Core.Path.{_≡_};
+ghost use mathlib.Core.Bool.{_&&_};
 ghost use Prim.Native.Nat.{_+_, _<_, _≤_};
-ghost use lib.ListN.{length, take};
+ghost use lib.Dec.{ltb};
+ghost use lib.ListN.{length, drop};
 ghost use Rattle.number.specs.Numbers.{readNumber};
-ghost use Rattle.bends.specs.Bends.{positionsAt};
-ghost use Rattle.complex.specs.Cells.{openEdge, face};
-ghost use Rattle.complex.specs.Sound.{cellsMost, stepsMost};
-ghost use Rattle.store.specs.Index.{Rising};
-ghost use Rattle.store.specs.View.{sheetOf, width};
-ghost use Rattle.store.specs.Edits.{appended};
-ghost use Rattle.rows_spans.specs.Runs.{sheetWithRow};
-ghost use Rattle.rows_spans.specs.Building.{built};
+ghost use Rattle.complex.specs.Sound.{stepsMost};
+ghost use Rattle.store.specs.View.{width};
+ghost use Rattle.rows_spans.specs.Building.{Built};
 ghost use Rattle.decode_parts.specs.Lists.{Stand, numbersRead};
-ghost use Rattle.rows_corners.specs.Faces.{Within};
-ghost use Rattle.lent.specs.Arrays.{heldBy, lent, entry, exit};
-ghost use Rattle.kernel_part.specs.Rounds.{HoldsIn};
-ghost use Rattle.kind_cut_chord.specs.Chords.{vertexIn, cornerBy, cornersBy, ChordRoom};
+ghost use Rattle.rows_corners.specs.Faces.{Within, cyclesAt};
+ghost use Rattle.rows_split.specs.Along.{oldSide, newSide};
+ghost use Rattle.rows_split.specs.Parts.{placeOf, RoomForBoth};
+ghost use Rattle.kind_cut_chord.specs.Chords.{Ruled, vertexIn, cornerBy, cornersBy, Chorded};
 use rows_spans::Spans;
 use rows_spans::Used;
 use rows_split::Place;
 
 // The vertex of corner s of the cycle at p.
-pub fn corner_vertex(
+fn corner_vertex(
     ids: &[u32; 256],
     starts: &[u32; 256],
     ends: &[u32; 256],
@@ -29,11 +26,8 @@ pub fn corner_vertex(
     p: Place,
     s: u32,
 ) -> u32
-    requires { ⌜ n ≤ cellsMost ⌝ }
-    requires { ⌜ length (now ids) ≡ cellsMost ⌝ }
-    requires { ⌜ length (now starts) ≡ cellsMost ⌝ }
-    requires { ⌜ length (now ends) ≡ cellsMost ⌝ }
-    requires { ⌜ Rising (take n (now ids)) ⌝ }
+    requires { ⌜ Ruled (now ids) (now starts) n ⌝ }
+    requires { ⌜ Ruled (now ids) (now ends) n ⌝ }
     requires { ⌜ length (now steps) ≡ stepsMost ⌝ }
     requires { ⌜ p .at + width (p .m) ≤ stepsMost ⌝ }
     requires { ⌜ s < width (p .m) ⌝ }
@@ -62,10 +56,7 @@ fn corner_on(
     c: u32,
     s: u32,
 ) -> bool
-    requires { ⌜ n ≤ cellsMost ⌝ }
-    requires { ⌜ length (now ids) ≡ cellsMost ⌝ }
-    requires { ⌜ length (now kinds) ≡ cellsMost ⌝ }
-    requires { ⌜ Rising (take n (now ids)) ⌝ }
+    requires { ⌜ Ruled (now ids) (now kinds) n ⌝ }
     requires { ⌜ Within (now cycles) (now steps) spans ⌝ }
     ensures { λ r. ⌜ r ≡ cornerBy (now (ids .entry)) (now (kinds .entry)) n (now (cycles .entry)) (now (steps .entry)) spans c s ⌝ }
 {
@@ -104,10 +95,7 @@ pub fn corners_exist(
     moved: u32,
     place: usize,
 ) -> bool
-    requires { ⌜ n ≤ cellsMost ⌝ }
-    requires { ⌜ length (now ids) ≡ cellsMost ⌝ }
-    requires { ⌜ length (now kinds) ≡ cellsMost ⌝ }
-    requires { ⌜ Rising (take n (now ids)) ⌝ }
+    requires { ⌜ Ruled (now ids) (now kinds) n ⌝ }
     requires { ⌜ Within (now cycles) (now steps) spans ⌝ }
     requires { ⌜ Stand readNumber (now script) place moved ⌝ }
     ensures { λ r. ⌜ r ≡ cornersBy (now (ids .entry)) (now (kinds .entry)) n (now (cycles .entry)) (now (steps .entry)) spans c1 s1 c2 s2 (numbersRead (now (script .entry)) place moved) ⌝ }
@@ -122,78 +110,91 @@ pub fn corners_exist(
     ask_cut_along::moved_fit(script, place, moved, k.count as u32, c1, c2)
 }
 
-// The face in a row, whose cycles and steps stand at `spans`, gets the cycles of a list; an edge from v to w comes, with the k bends
-// that the script has at `first`. `at` bends are in use.
-pub fn add_chord(
-    next: &mut u32,
-    count: &mut usize,
-    ids: &mut [u32; 256],
-    kinds: &mut [u32; 256],
-    starts: &mut [u32; 256],
-    ends: &mut [u32; 256],
-    bends: &mut [u32; 256],
-    counts: &mut [u32; 256],
-    px: &[f64; 256],
-    py: &[f64; 256],
-    cycles: &mut [u32; 512],
-    steps: &mut [u32; 2048],
-    bx: &mut [f64; 2048],
-    by: &mut [f64; 2048],
-    row: usize,
-    spans: Spans,
-    numbers: &[u32],
-    u: Used,
-    places: &[u32],
-    at: usize,
-    script: &[u8],
-    v: u32,
-    w: u32,
-    k: u32,
-    first: usize,
-)
-    requires { ⌜ ChordRoom (lent (now next) (now count) ids kinds starts ends bends counts px py cycles steps bx by) row spans (now numbers) u (now places) at (now script) v w k first ⌝ }
-    ensures { λ _. ⌜ now (next .exit) ≡ now (next .entry) + 1 ⌝ }
-    ensures { λ _. ⌜ now (count .exit) ≡ now (count .entry) + 1 ⌝ }
-    ensures { λ _. ⌜ HoldsIn (appended (sheetWithRow (sheetOf (heldBy (entry (now (next .entry)) (now (count .entry)) ids kinds starts ends bends counts px py cycles steps bx by))) row (face (built (now (numbers .entry)) u (now (places .entry))))) (openEdge v w (positionsAt (now (script .entry)) first k))) (spans .cycles .first + u .cycles + spans .cycles .rest) (spans .steps .first + u .steps + spans .steps .rest) (exit (now (next .exit)) (now (count .exit)) ids kinds starts ends bends counts px py cycles steps bx by) ⌝ }
+// Are there so few cycles and steps that small lists have room for a cycle and two steps more?
+pub fn few(spans: Spans) -> bool
+    ensures { λ r. ⌜ r ≡ ltb (spans .cycles .count) 32 && ltb (spans .steps .count) 127 ⌝ }
 {
-    let n = *count;
-    let id = *next;
-    kernel_cycles::replace_cycles(
-        id,
-        n,
-        ids,
-        kinds,
-        starts,
-        ends,
-        bends,
-        counts,
-        px,
-        py,
+    spans.cycles.count < 32 && spans.steps.count < 127
+}
+
+// What comes of a cut: an edge from v to w, and lists of cycles that take so much of two arrays, one after the other.
+pub struct Chord {
+    pub v: u32,
+    pub w: u32,
+    pub old: Used,
+    pub new: Used,
+}
+
+// The plan of a cut along the edge e, from corner s1 of cycle c1 to corner s2 of cycle c2 of the spans: the cycles that the face has
+// then, and after them those of the new face, which comes where the corners are of one cycle.
+pub fn plan(
+    ids: &[u32; 256],
+    starts: &[u32; 256],
+    ends: &[u32; 256],
+    n: usize,
+    cycles: &[u32; 512],
+    steps: &[u32; 2048],
+    spans: Spans,
+    script: &[u8],
+    moved: u32,
+    place: usize,
+    c1: u32,
+    s1: u32,
+    c2: u32,
+    s2: u32,
+    e: u32,
+    numbers: &mut [u32],
+    places: &mut [u32],
+) -> Chord
+    requires { ⌜ Chorded (now ids) (now starts) (now ends) n (now cycles) (now steps) spans (now script) moved place c1 s1 c2 s2 e ⌝ }
+    requires { ⌜ RoomForBoth (length (now numbers)) (length (now places)) (oldSide e c1 s1 c2 s2 (numbersRead (now script) place moved) (cyclesAt (now cycles) (now steps) spans)) (newSide e c1 s1 c2 s2 (numbersRead (now script) place moved) (cyclesAt (now cycles) (now steps) spans)) ⌝ }
+    ensures { λ r. ⌜ r .v ≡ vertexIn (now (ids .entry)) (now (starts .entry)) (now (ends .entry)) n (now (steps .entry)) (placeOf (now (cycles .entry)) spans c1) s1 ⌝ }
+    ensures { λ r. ⌜ r .w ≡ vertexIn (now (ids .entry)) (now (starts .entry)) (now (ends .entry)) n (now (steps .entry)) (placeOf (now (cycles .entry)) spans c2) s2 ⌝ }
+    ensures { λ r. ⌜ Built (oldSide e c1 s1 c2 s2 (numbersRead (now (script .entry)) place moved) (cyclesAt (now (cycles .entry)) (now (steps .entry)) spans)) (now (numbers .exit)) (r .old) (now (places .exit)) ⌝ }
+    ensures { λ r. ⌜ Built (newSide e c1 s1 c2 s2 (numbersRead (now (script .entry)) place moved) (cyclesAt (now (cycles .entry)) (now (steps .entry)) spans)) (drop (r .old .cycles) (now (numbers .exit))) (r .new) (drop (r .old .steps) (now (places .exit))) ⌝ }
+{
+    let p = rows_split::place_of(cycles, spans, c1);
+    let v = corner_vertex(ids, starts, ends, n, steps, p, s1);
+    if c1 == c2 {
+        let w = corner_vertex(ids, starts, ends, n, steps, p, s2);
+        let u = kernel_arcs::halves(
+            cycles,
+            steps,
+            spans,
+            script,
+            moved,
+            place,
+            c1,
+            p,
+            s1,
+            s2,
+            e,
+            numbers,
+            places,
+        );
+        let old = u.old;
+        let new = u.new;
+        return Chord { v, w, old, new };
+    }
+    let q = rows_split::place_of(cycles, spans, c2);
+    let w = corner_vertex(ids, starts, ends, n, steps, q, s2);
+    let old = kernel_arcs::bridge_list(
         cycles,
         steps,
-        bx,
-        by,
-        row,
         spans,
+        c1,
+        p,
+        s1,
+        c2,
+        q,
+        s2,
+        e,
         numbers,
-        u.cycles,
         places,
-        u.steps,
     );
-    kernel_add::put_bends(script, first, k, bx, by, at);
-    kernel_add::add_row(
-        next,
-        count,
-        ids,
-        kinds,
-        starts,
-        ends,
-        bends,
-        counts,
-        1,
-        v,
-        w,
-        k,
-        0,
-    );
+    let new = Used {
+        cycles: 0,
+        steps: 0,
+    };
+    Chord { v, w, old, new }
 }

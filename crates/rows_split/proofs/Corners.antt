@@ -15,15 +15,14 @@ use Rattle.complex.proofs.Bools.{true-of, both}
 use Rattle.store.specs.declared.Drawing.{Drawing}
 use Rattle.store.specs.declared.Index.{Index}
 use Rattle.store.specs.Sizes.{Sizes}
-use Rattle.store.specs.View.{sheetOf, halfedgeOf, width, widthSum, cycleOf}
+use Rattle.store.specs.View.{sheetOf, halfedgeOf, width, cycleOf}
 use Rattle.sound.specs.Looks.{Looks}
 use Rattle.sound.specs.Soundness.{soundDrawing}
 use Rattle.sound.proofs.Meaning.{looks}
 use Rattle.rows_spans.specs.declared.Spans.{Spans}
-use Rattle.rows_corners.specs.Faces.{Named, Spanned, IndexRows}
+use Rattle.rows_corners.specs.Faces.{Named, Spanned}
 use Rattle.rows_corners.specs.Arcs.{cornerVertex}
 use Rattle.rows_corners.proofs.Lists.{at-length}
-use Rattle.rows_corners.proofs.Edits.{rows-in}
 use Rattle.rows_split.specs.declared.Place.{Place}
 use Rattle.rows_split.specs.Parts.{placeOf, cycleAt, Cornered}
 use Rattle.rows_split.proofs.Places.{steps-within, place-room, place-cycle}
@@ -60,13 +59,6 @@ module _ {d : Drawing} {ix : Index} {f : ℕ} {t : Spans} (z : Sizes d) (w : T (
     in-span : c < t .cycles .count
     in-span = let e = cycles-count in omega arith
 
-    pub place-asks : (length (d .cycles) ≡ 512) × ((t .cycles .first + c < 512)
-        × (t .steps .first + widthSum (take c (drop (t .cycles .first) (d .cycles))) ≤ 2048))
-    place-asks =
-        let i = in-span in
-        let r = place-room (d .cycles) (d .steps) t (s .within) c i in
-        (z .cycles, (omega (arith, s .within .inCycles), omega arith))
-
     own-is : getD ks c noCycle ≡ cycleAt (d .steps) (placeOf (d .cycles) t c)
     own-is = ap (λ (l : List Cycle). getD l c noCycle) (sym (s .list)) ∙ place-cycle (d .cycles) (d .steps) t (s .within) c in-span
 
@@ -85,9 +77,6 @@ module _ {d : Drawing} {ix : Index} {f : ℕ} {t : Spans} (z : Sizes d) (w : T (
 
       pub cornered : Cornered (d .cycles) (d .steps) t c p k
       cornered = record { within = s .within; cycle = in-span; place = e; corner = below-width }
-
-      pub vertex-asks : IndexRows ix (d .count) × ((length (d .steps) ≡ 2048) × ((p .at + width (p .m) ≤ 2048) × (k < width (p .m))))
-      vertex-asks = (rows-in d z w ix (n .index), (z .steps, (room-at, below-width)))
 
       pub vertex-is : (v : ℕ) → v ≡ cornerVertex ix (d .count) (p .m) (d .steps) (p .at) k → v ≡ corner (cellAt (sheetOf d)) (getD ks c noCycle) k
       vertex-is v g = g ∙ corner-is d ix (looks d z ix (n .index) w) (d .steps) (p .at) k (p .m) below-width

@@ -1,39 +1,39 @@
 -- A face cut along an open edge: what question 5 and the room for the result leave, and the result. Assumes nothing.
 use Prim.Native.Nat.{ℕ, _+_, _≤_, _<_}
-use mathlib.Core.Path.{_≡_, refl, ap, ap₂, sym, subst, _∙_}
-use mathlib.Core.Bool.{Bool, not, cond, _&&_}
+use mathlib.Core.Path.{_≡_, refl, ap, ap₂, sym, subst, subst₂, _∙_}
+use mathlib.Core.Bool.{Bool, true, false, not, cond, _&&_}
 use mathlib.Core.List.{List, [], _∷_, _++_}
 use native.Mathlib.Omega.{arith}
-use borrow.Author.Tests.{eq-eqb, eqb-false}
+use borrow.Author.Tests.{eqb-false}
 use lib.Dec.{T, eqb, ltb, ltb→lt}
 use lib.ListN.{length, drop, getD, take, length-drop}
 use Rattle.bends.specs.Bends.{positionsAt}
 use Rattle.complex.specs.Lists.{total, holds, places, isEmpty}
-use Rattle.complex.specs.Cells.{Cycle, Figure, face, LiveCell, Sheet, Look, cellAt}
+use Rattle.complex.specs.Cells.{Cycle, Figure, vertex, face, LiveCell, Sheet, Look, cellAt, origin}
 use Rattle.complex.specs.Cells as cells
-use Rattle.complex.specs.Edits.{numbered}
-use Rattle.complex.specs.Sound.{stepCount, cyclesIn, stepsIn}
+use Rattle.complex.specs.Edits.{numbered, everyId, replaced}
+use Rattle.complex.specs.Sound.{stepCount, cyclesIn, stepsIn, over}
 use Rattle.complex.specs.Cut.{noCycle, cornerExists}
-use Rattle.complex.proofs.Bools.{truth, true-of, both, not-of}
+use Rattle.complex.proofs.Bools.{truth, both}
+use Rattle.complex.proofs.Sums.{total-set}
 use Rattle.store.specs.declared.Drawing.{Drawing}
 use Rattle.store.specs.declared.Index.{Index}
 use Rattle.store.specs.Sizes.{Sizes}
+use Rattle.store.specs.Sheet.{idsOf}
 use Rattle.store.specs.View.{sheetOf}
 use Rattle.store.proofs.Lists.{sum-append}
 use Rattle.store.proofs.Grow.{next-is}
+use Rattle.store.proofs.Stands.{stands, count-is}
 use Rattle.rows_spans.specs.declared.Spans.{Spans}
 use Rattle.rows_spans.specs.Building.{RoomFor}
-use Rattle.rows_new.specs.Appends.{RoomIn}
+use Rattle.rows_new.specs.Appends.{remade, RoomIn}
 use Rattle.rows_new.proofs.Rooms.{below}
 use Rattle.decode_parts.specs.Lists.{numbersRead}
 use Rattle.rows_corners.specs.Faces.{Named, Spanned, cyclesAt, recycled}
-use Rattle.answer.proofs.Asked.{next-in}
-use Rattle.rows_corners.proofs.Rows.{list-steps, roomy, spare-cycles, spare-steps}
+use Rattle.rows_corners.proofs.Rows.{rowIn, live, recycled-is, list-steps, roomy, spare-cycles, spare-steps}
 use Rattle.rows_corners.proofs.Lists.{at-length}
-use Rattle.rows_split.specs.declared.Place.{Place}
-use Rattle.rows_split.specs.Along.{chord, nearSide, farSide, bridge, Along, Halves, Bridged}
-use Rattle.rows_split.specs.Parts.{placeOf, SplitParting, Bridging}
-use Rattle.rows_split.proofs.Corners.{cycles-count, cornered}
+use Rattle.rows_split.specs.Along.{chord, nearSide, farSide, bridge, oldSide, newSide, Along, Cutting}
+use Rattle.rows_split.specs.Parts.{RoomForBoth}
 use Rattle.rows_split.proofs.Sizes.{sides-few, bridge-few}
 
 -- ---- what question 5 leaves
@@ -81,10 +81,11 @@ module _ {d : Drawing} {ix : Index} {script : List ℕ} {f c1 s1 c2 s2 bends fir
   pub at-second : T atSecond
   at-second = after-corners .0
 
--- the moved cycles, where there is one cycle
-module _ {d : Drawing} {ix : Index} {script : List ℕ} {f c s1 s2 bends first moved place : ℕ} (g : Along d ix script f c s1 c s2 bends first moved place) where
-  moves : T (places 0 (ms g) (length (own g))) × T (not (holds c (ms g)))
-  moves = both (places 0 (ms g) (length (own g))) (not (holds c (ms g))) (rw (eq-eqb c c refl) at (after-corners g .1))
+  -- the moved cycles, where there is one cycle
+  pub moves : eqb c1 c2 ≡ true → T (places 0 ms (length own)) × T (not (holds c1 ms))
+  moves e =
+      both (places 0 ms (length own)) (not (holds c1 ms))
+      (subst (λ (q : Bool). T (cond q (places 0 ms (length own) && not (holds c1 ms)) (isEmpty ms))) e (after-corners .1))
 
 -- ---- the steps that stand at the spans of a face
 module _ {d : Drawing} {f : ℕ} {t : Spans} (s : Spanned d f t) where
@@ -114,127 +115,99 @@ module _ {d : Drawing} {ix : Index} {f : ℕ} {t : Spans} (z : Sizes d) (n : Nam
   pub list-takes : RoomFor 512 2048 ks
   list-takes = record { fewCounts = omega arith; fewSteps = omega arith; cycles = cycles-most; steps = steps-most }
 
-new-takes : (s : Sheet) (x : Figure) (ls : List Cycle) → RoomIn s (x ∷ face ls ∷ []) → RoomFor 512 2048 ls
-new-takes s x ls r =
-    let cs = s .cells in
+-- what a face gets counts among the cells with it
+got : {d : Drawing} {ix : Index} {f : ℕ} → Sizes d → Named d ix f → (g : Figure → ℕ) → g (vertex origin) ≡ 0 → (y : Figure)
+    → g y ≤ over g (remade everyId (replaced f y) (sheetOf d) .cells)
+got {d} {ix} {f} z n g e0 y =
+    let cs = sheetOf d .cells in
+    let row = rowIn d z ix f n in
+    let none : LiveCell = record { id = 0; figure = vertex origin } in
+    let h : row < length cs = omega (arith, live d z ix f n, count-is d cs (stands d z (n .fits)) z (n .fits .cells)) in
+    let a = total-set (λ (c : LiveCell). g (c .figure)) cs row (record { id = getD (idsOf (sheetOf d)) row 0; figure = y }) none h in
+    let b = total-set (λ (c : LiveCell). g (c .figure)) cs row none none h in
+    let e = ap (λ (s : Sheet). over g (s .cells)) (recycled-is d z ix f n y) in
+    omega arith
+
+-- the cycles of a face and those of a new one
+both-take : {d : Drawing} {ix : Index} {f : ℕ} → Sizes d → Named d ix f → (ks ls : List Cycle) (x : Figure)
+    → RoomIn (recycled (sheetOf d) f ks) (x ∷ face ls ∷ []) → RoomForBoth 512 2048 ks ls
+both-take {d} {ix} {f} z n ks ls x r =
+    let s = recycled (sheetOf d) f ks in
     let xs = numbered (s .next) (x ∷ face ls ∷ []) in
-    let b = below (cs ++ xs) (r .sizes) in
-    let hc = sum-append (λ (c : LiveCell). cyclesIn (c .figure)) cs xs in
-    let hs = sum-append (λ (c : LiveCell). stepsIn (c .figure)) cs xs in
+    let b = below (s .cells ++ xs) (r .sizes) in
+    let hc = sum-append (λ (c : LiveCell). cyclesIn (c .figure)) (s .cells) xs in
+    let hs = sum-append (λ (c : LiveCell). stepsIn (c .figure)) (s .cells) xs in
     let bc = b .cycles in
     let bs = b .steps in
+    let kc = got z n cyclesIn refl (face ks) in
+    let ks′ = got z n stepsIn refl (face ks) in
     record { fewCounts = omega arith; fewSteps = omega arith; cycles = omega arith; steps = omega arith }
 
--- ---- one cycle
-module _ {d : Drawing} {ix : Index} {script : List ℕ} {f c s1 s2 bends first moved place : ℕ} (z : Sizes d)
-    (r : Halves d ix script f c s1 s2 bends first moved place) where
-  abbrev oneCycle : Along d ix script f c s1 c s2 bends first moved place
-  oneCycle = r .asked
-
-  abbrev near : List Cycle
-  near = nearSide (sheetOf d .next) c s1 s2 (ms oneCycle) (own oneCycle)
-
-  abbrev far : List Cycle
-  far = farSide (sheetOf d .next) c s1 s2 (ms oneCycle) (own oneCycle)
+-- ---- the lists
+module _ {d : Drawing} {ix : Index} {script : List ℕ} {f c1 s1 c2 s2 bends first moved place : ℕ} (z : Sizes d)
+    (r : Cutting d ix script f c1 s1 c2 s2 bends first moved place) {t : Spans} (s : Spanned d f t) where
+  abbrev cut : Along d ix script f c1 s1 c2 s2 bends first moved place
+  cut = r .asked
 
   abbrev edge : Figure
-  edge = chord (cellAt (sheetOf d)) (own oneCycle) c s1 c s2 (positionsAt script first bends)
+  edge = chord (cellAt (sheetOf d)) (own cut) c1 s1 c2 s2 (positionsAt script first bends)
 
-  abbrev both-cells : List Figure
-  both-cells = edge ∷ face far ∷ []
+  abbrev ks : List Cycle
+  ks = cyclesAt (d .cycles) (d .steps) t
 
-  module _ {t : Spans} (s : Spanned d f t) where
-    pub near-list : nearSide (d .next) c s1 s2 (ms oneCycle) (cyclesAt (d .cycles) (d .steps) t) ≡ near
-    near-list = ap₂ (λ (n : ℕ) (l : List Cycle). nearSide n c s1 s2 (ms oneCycle) l) (sym (next-is d)) (s .list)
+  -- by whether the corners are of one cycle
+  abbrev oldBy : Bool → ℕ → List Cycle → List Cycle
+  oldBy q e l = cond q (nearSide e c1 s1 s2 (ms cut) l) (bridge e c1 s1 c2 s2 l)
 
-    pub far-list : farSide (d .next) c s1 s2 (ms oneCycle) (cyclesAt (d .cycles) (d .steps) t) ≡ far
-    far-list = ap₂ (λ (n : ℕ) (l : List Cycle). farSide n c s1 s2 (ms oneCycle) l) (sym (next-is d)) (s .list)
+  abbrev newBy : Bool → ℕ → List Cycle → List Cycle
+  newBy q e l = cond q (farSide e c1 s1 s2 (ms cut) l) []
 
-    pub parting : {p : Place} → p ≡ placeOf (d .cycles) t c → SplitParting (d .cycles) (d .steps) t script moved place c p s1 s2 (d .next)
-    parting {p} e =
-        let m = moves oneCycle in
-        record {
-          start = cornered z (oneCycle .sound) (oneCycle .named) s c (in-first oneCycle) s1 (at-first oneCycle) e;
-          end = cornered z (oneCycle .sound) (oneCycle .named) s c (in-first oneCycle) s2 (at-second oneCycle) e;
-          stand = oneCycle .stand;
-          rise = ap (places 0 (ms oneCycle)) (cycles-count z (oneCycle .sound) (oneCycle .named) s) ∙ true-of (places 0 (ms oneCycle) (length (own oneCycle)))
-              (m .0);
-          stays = not-of (holds c (ms oneCycle)) (m .1);
-          few = next-in d (oneCycle .sound);
-        }
+  lists-as : (g : ℕ → List Cycle → List Cycle) → g (d .next) ks ≡ g (sheetOf d .next) (own cut)
+  lists-as g = ap₂ g (sym (next-is d)) (s .list)
 
-    -- the arrays of a drawing have room for both sides
-    pub near-takes : RoomFor 512 2048 (nearSide (d .next) c s1 s2 (ms oneCycle) (cyclesAt (d .cycles) (d .steps) t))
-    near-takes = subst (RoomFor 512 2048) (sym near-list) (list-takes z (oneCycle .named) s near both-cells (r .room))
+  pub old-list : oldSide (d .next) c1 s1 c2 s2 (ms cut) ks ≡ oldSide (sheetOf d .next) c1 s1 c2 s2 (ms cut) (own cut)
+  old-list = lists-as (oldBy (eqb c1 c2))
 
-    pub far-takes : RoomFor 512 2048 (farSide (d .next) c s1 s2 (ms oneCycle) (cyclesAt (d .cycles) (d .steps) t))
-    far-takes = subst (RoomFor 512 2048) (sym far-list) (new-takes (recycled (sheetOf d) f near) edge far (r .room))
+  pub new-list : newSide (d .next) c1 s1 c2 s2 (ms cut) ks ≡ newSide (sheetOf d .next) c1 s1 c2 s2 (ms cut) (own cut)
+  new-list = lists-as (newBy (eqb c1 c2))
 
-    -- and so have arrays with room for a cycle and two steps more than the face has
-    module _ {n m : ℕ} (hn : n ≤ 512) (hm : m ≤ 2048) (hc : t .cycles .count < n) (hs : t .steps .count + 2 ≤ m) where
-      abbrev ks : List Cycle
-      ks = cyclesAt (d .cycles) (d .steps) t
+  -- the arrays of a drawing have room for both
+  pub large-room : RoomForBoth 512 2048 (oldSide (d .next) c1 s1 c2 s2 (ms cut) ks) (newSide (d .next) c1 s1 c2 s2 (ms cut) ks)
+  large-room = subst₂ (RoomForBoth 512 2048) (sym old-list) (sym new-list) (go (eqb c1 c2) (r .room))
+    where
+      go : (q : Bool) → RoomIn (recycled (sheetOf d) f (oldBy q (sheetOf d .next) (own cut)))
+          (edge ∷ cond q (face (farSide (sheetOf d .next) c1 s1 s2 (ms cut) (own cut)) ∷ []) [])
+          → RoomForBoth 512 2048 (oldBy q (sheetOf d .next) (own cut)) (newBy q (sheetOf d .next) (own cut))
+      go true x = both-take z (cut .named) _ _ edge x
+      go false x =
+          let g = list-takes z (cut .named) s _ (edge ∷ []) x in
+          let gc = g .cycles in
+          let gs = g .steps in
+          record { fewCounts = g .fewCounts; fewSteps = g .fewSteps; cycles = omega arith; steps = omega arith }
 
-      few : (length (nearSide (d .next) c s1 s2 (ms oneCycle) ks) + length (farSide (d .next) c s1 s2 (ms oneCycle) ks) ≤ length ks + 1)
-          × (total stepCount (nearSide (d .next) c s1 s2 (ms oneCycle) ks) + total stepCount (farSide (d .next) c s1 s2 (ms oneCycle) ks) ≤ total stepCount ks
-          + 2)
-      few =
-          let y = moves oneCycle in
-          sides-few ks (d .next) c (subst (λ (l : List Cycle). c < length l) (sym (s .list)) (in-first oneCycle)) s1 s2 (ms oneCycle)
-          (subst (λ (l : List Cycle). T (places 0 (ms oneCycle) (length l))) (sym (s .list)) (y .0)) (y .1)
+  -- and so have arrays with room for a cycle and two steps more than the face has
+  pub small-room : {n m : ℕ} → n ≤ 512 → m ≤ 2048 → t .cycles .count < n → t .steps .count + 2 ≤ m
+      → RoomForBoth n m (oldSide (d .next) c1 s1 c2 s2 (ms cut) ks) (newSide (d .next) c1 s1 c2 s2 (ms cut) ks)
+  small-room {n} {m} hn hm hc hs =
+      let g = go (eqb c1 c2) refl in
+      let l = at-length (d .cycles) (d .steps) t (s .within) in
+      let k = listed-steps s in
+      let a = g .0 in
+      let b = g .1 in
+      record { fewCounts = hn; fewSteps = hm; cycles = omega arith; steps = omega arith }
+    where
+      here : {c : ℕ} → c < length (own cut) → c < length ks
+      here {c} h = subst (λ (l : List Cycle). c < length l) (sym (s .list)) h
 
-      pub near-few : RoomFor n m (nearSide (d .next) c s1 s2 (ms oneCycle) ks)
-      near-few =
-          let l = at-length (d .cycles) (d .steps) t (s .within) in
-          let k = listed-steps s in
-          let a = few .0 in
-          let b = few .1 in
-          record { fewCounts = hn; fewSteps = hm; cycles = omega arith; steps = omega arith }
-
-      pub far-few : RoomFor n m (farSide (d .next) c s1 s2 (ms oneCycle) ks)
-      far-few =
-          let l = at-length (d .cycles) (d .steps) t (s .within) in
-          let k = listed-steps s in
-          let a = few .0 in
-          let b = few .1 in
-          record { fewCounts = hn; fewSteps = hm; cycles = omega arith; steps = omega arith }
-
--- ---- two cycles
-module _ {d : Drawing} {ix : Index} {script : List ℕ} {f c1 s1 c2 s2 bends first moved place : ℕ} (z : Sizes d)
-    (r : Bridged d ix script f c1 s1 c2 s2 bends first moved place) where
-  abbrev twoCycles : Along d ix script f c1 s1 c2 s2 bends first moved place
-  twoCycles = r .asked
-
-  abbrev joint : List Cycle
-  joint = bridge (sheetOf d .next) c1 s1 c2 s2 (own twoCycles)
-
-  abbrev span : Figure
-  span = chord (cellAt (sheetOf d)) (own twoCycles) c1 s1 c2 s2 (positionsAt script first bends)
-
-  module _ {t : Spans} (s : Spanned d f t) where
-    pub joint-list : bridge (d .next) c1 s1 c2 s2 (cyclesAt (d .cycles) (d .steps) t) ≡ joint
-    joint-list = ap₂ (λ (n : ℕ) (l : List Cycle). bridge n c1 s1 c2 s2 l) (sym (next-is d)) (s .list)
-
-    pub bridging : {p q : Place} → p ≡ placeOf (d .cycles) t c1 → q ≡ placeOf (d .cycles) t c2 → Bridging (d .cycles) (d .steps) t c1 p s1 c2 q s2 (d .next)
-    bridging {p} {q} e g =
-        record {
-          start = cornered z (twoCycles .sound) (twoCycles .named) s c1 (in-first twoCycles) s1 (at-first twoCycles) e;
-          end = cornered z (twoCycles .sound) (twoCycles .named) s c2 (in-second twoCycles) s2 (at-second twoCycles) g;
-          apart = r .apart;
-          few = next-in d (twoCycles .sound);
-        }
-
-    pub joint-takes : RoomFor 512 2048 (bridge (d .next) c1 s1 c2 s2 (cyclesAt (d .cycles) (d .steps) t))
-    joint-takes = subst (RoomFor 512 2048) (sym joint-list) (list-takes z (twoCycles .named) s joint (span ∷ []) (r .room))
-
-    pub joint-few : {n m : ℕ} → n ≤ 512 → m ≤ 2048 → t .cycles .count < n → t .steps .count + 2 ≤ m
-        → RoomFor n m (bridge (d .next) c1 s1 c2 s2 (cyclesAt (d .cycles) (d .steps) t))
-    joint-few hn hm hc hs =
-        let ks = cyclesAt (d .cycles) (d .steps) t in
-        let l = at-length (d .cycles) (d .steps) t (s .within) in
-        let k = listed-steps s in
-        let y = bridge-few ks (d .next) c1 (subst (λ (l : List Cycle). c1 < length l) (sym (s .list)) (in-first twoCycles)) s1 s2 c2
-        (subst (λ (l : List Cycle). c2 < length l) (sym (s .list)) (in-second twoCycles)) (eqb-false c1 c2 (r .apart)) in
-        let a = y .0 in
-        let b = y .1 in
-        record { fewCounts = hn; fewSteps = hm; cycles = omega arith; steps = omega arith }
+      go : (q : Bool) → eqb c1 c2 ≡ q
+          → (length (oldBy q (d .next) ks) + length (newBy q (d .next) ks) ≤ length ks + 1)
+          × (total stepCount (oldBy q (d .next) ks) + total stepCount (newBy q (d .next) ks) ≤ total stepCount ks + 2)
+      go true e =
+          let y = moves cut e in
+          sides-few ks (d .next) c1 (here (in-first cut)) s1 s2 (ms cut)
+          (subst (λ (l : List Cycle). T (places 0 (ms cut) (length l))) (sym (s .list)) (y .0)) (y .1)
+      go false e =
+          let y = bridge-few ks (d .next) c1 (here (in-first cut)) s1 s2 c2 (here (in-second cut)) (eqb-false c1 c2 e) in
+          let a = y .0 in
+          let b = y .1 in
+          (omega arith, omega arith)

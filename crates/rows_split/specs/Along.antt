@@ -1,7 +1,7 @@
 -- 0C: what its faces get, and what is known once questions 3 to 8 got a yes. Definitions only.
 use Prim.Native.Nat.{ℕ, _+_, _*_, _≤_}
 use mathlib.Core.Path.{_≡_}
-use mathlib.Core.Bool.{true, false}
+use mathlib.Core.Bool.{true, cond}
 use mathlib.Core.List.{List, [], _∷_, _++_}
 use lib.Dec.{T, eqb}
 use lib.ListN.{length, getD}
@@ -48,17 +48,21 @@ pub record Along (d : Drawing) (ix : Index) (script : List ℕ) (f c1 s1 c2 s2 b
   pub stand : Stand readNumber script place moved
   pub corners : cutCorners (cellAt (sheetOf d)) (cyclesOf (cellAt (sheetOf d) f)) c1 s1 c2 s2 (numbersRead script place moved) ≡ true
 
--- there is room for the two faces
-pub record Halves (d : Drawing) (ix : Index) (script : List ℕ) (f c s1 s2 bends first moved place : ℕ) : Type 0 where
-  pub asked : Along d ix script f c s1 c s2 bends first moved place
-  pub room : RoomIn
-      (recycled (sheetOf d) f (nearSide (sheetOf d .next) c s1 s2 (numbersRead script place moved) (cyclesOf (cellAt (sheetOf d) f))))
-      (chord (cellAt (sheetOf d)) (cyclesOf (cellAt (sheetOf d) f)) c s1 c s2 (positionsAt script first bends)
-      ∷ face (farSide (sheetOf d .next) c s1 s2 (numbersRead script place moved) (cyclesOf (cellAt (sheetOf d) f))) ∷ [])
+-- the cycles that the face has then: those of the near side, where the corners are of one cycle
+abbrev pub oldSide : ℕ → ℕ → ℕ → ℕ → ℕ → List ℕ → List Cycle → List Cycle
+oldSide e c1 s1 c2 s2 ms ks = cond (eqb c1 c2) (nearSide e c1 s1 s2 ms ks) (bridge e c1 s1 c2 s2 ks)
 
--- there is room for the joined cycle
-pub record Bridged (d : Drawing) (ix : Index) (script : List ℕ) (f c1 s1 c2 s2 bends first moved place : ℕ) : Type 0 where
+-- those of the new face, and the face, where one comes
+abbrev pub newSide : ℕ → ℕ → ℕ → ℕ → ℕ → List ℕ → List Cycle → List Cycle
+newSide e c1 s1 c2 s2 ms ks = cond (eqb c1 c2) (farSide e c1 s1 s2 ms ks) []
+
+abbrev pub newFaces : ℕ → ℕ → ℕ → ℕ → ℕ → List ℕ → List Cycle → List Figure
+newFaces e c1 s1 c2 s2 ms ks = cond (eqb c1 c2) (face (farSide e c1 s1 s2 ms ks) ∷ []) []
+
+-- there is room for the result
+pub record Cutting (d : Drawing) (ix : Index) (script : List ℕ) (f c1 s1 c2 s2 bends first moved place : ℕ) : Type 0 where
   pub asked : Along d ix script f c1 s1 c2 s2 bends first moved place
-  pub apart : eqb c1 c2 ≡ false
-  pub room : RoomIn (recycled (sheetOf d) f (bridge (sheetOf d .next) c1 s1 c2 s2 (cyclesOf (cellAt (sheetOf d) f))))
-      (chord (cellAt (sheetOf d)) (cyclesOf (cellAt (sheetOf d) f)) c1 s1 c2 s2 (positionsAt script first bends) ∷ [])
+  pub room : RoomIn
+      (recycled (sheetOf d) f (oldSide (sheetOf d .next) c1 s1 c2 s2 (numbersRead script place moved) (cyclesOf (cellAt (sheetOf d) f))))
+      (chord (cellAt (sheetOf d)) (cyclesOf (cellAt (sheetOf d) f)) c1 s1 c2 s2 (positionsAt script first bends)
+      ∷ newFaces (sheetOf d .next) c1 s1 c2 s2 (numbersRead script place moved) (cyclesOf (cellAt (sheetOf d) f)))

@@ -6,9 +6,9 @@ use mathlib.Core.List.{List, _∷_, _++_}
 use lib.Dec.{eqb}
 use lib.ListN.{length, take, drop, getD}
 use Rattle.number.specs.Numbers.{readNumber}
-use Rattle.complex.specs.Lists.{one, rotated, holds, places}
+use Rattle.complex.specs.Lists.{total, one, rotated, holds, places}
 use Rattle.complex.specs.Cells.{Cycle, path, along, against, stepsOf}
-use Rattle.complex.specs.Sound.{idsEnd}
+use Rattle.complex.specs.Sound.{idsEnd, stepCount}
 use Rattle.complex.specs.Cut.{stretch, remainder}
 use Rattle.store.specs.View.{width, widthSum, cycleOf}
 use Rattle.rows_spans.specs.declared.Spans.{Spans}
@@ -43,6 +43,13 @@ pub record Cornered (cycles steps : List ℕ) (t : Spans) (c : ℕ) (p : Place) 
   pub cycle : c < t .cycles .count
   pub place : p ≡ placeOf cycles t c
   pub corner : s < width (p .m)
+
+-- arrays of n counts and m steps have room for the cycles ks, and after them for ls
+pub record RoomForBoth (n m : ℕ) (ks ls : List Cycle) : Type 0 where
+  pub fewCounts : n ≤ 512
+  pub fewSteps : m ≤ 2048
+  pub cycles : length ks + length ls ≤ n
+  pub steps : total stepCount ks + total stepCount ls ≤ m
 
 -- two corners of one cycle of the spans; the moved cycles lie in the script
 pub record SplitParting (cycles steps : List ℕ) (t : Spans) (script : List ℕ) (moved place c : ℕ) (p : Place) (s1 s2 e : ℕ) : Type 0 where

@@ -53,7 +53,7 @@ returns-2 c =
     let s = c .before .before .before .before .before .before .before in
     let a = s .args in
     let i = y .wide .result in
-    corner-at (now (a .cycles)) (now (a .steps)) (a .spans) (a .c) i (y .wide .ensures) (rows s) (a .n) (s .pre .1 .1 .1 .1)
+    corner-at (now (a .cycles)) (now (a .steps)) (a .spans) (a .c) i (y .wide .ensures) (rows s) (a .n) (s .pre .1)
     (c .before .before .before .if1 .left) (begin s i) refl (a .s) (eqb (a .s) 0)
     (corner-lone (rows s) (a .n) (number s i) (now (a .steps)) (begin s i) (a .s) (c .if2 .taken))
 
@@ -63,7 +63,7 @@ returns-3 c =
     let s = c .before .before .before .before .before .before .before .before in
     let a = s .args in
     let i = y .wide .result in
-    corner-at (now (a .cycles)) (now (a .steps)) (a .spans) (a .c) i (y .wide .ensures) (rows s) (a .n) (s .pre .1 .1 .1 .1)
+    corner-at (now (a .cycles)) (now (a .steps)) (a .spans) (a .c) i (y .wide .ensures) (rows s) (a .n) (s .pre .1)
     (c .before .before .before .before .if1 .left) (begin s i) refl (a .s) false
     (corner-none (rows s) (a .n) (number s i) (now (a .steps)) (begin s i) (a .s) (c .before .if2 .left) (c .if3 .taken))
 
@@ -72,7 +72,7 @@ cycle-place-requires c κs =
     let y = c .before .before .before .before .before .before in
     let s = c .before .before .before .before .before .before .before .before in
     let a = s .args in
-    place-asks (now (a .cycles)) (now (a .steps)) (a .spans) (a .c) (y .wide .result) (y .wide .ensures) (rows s) (a .n) (s .pre .1 .1 .1 .1)
+    place-asks (now (a .cycles)) (now (a .steps)) (a .spans) (a .c) (y .wide .result) (y .wide .ensures) (rows s) (a .n) (s .pre .1)
     (c .before .before .before .before .if1 .left)
 
 wide-requires-2 : tie.Need-wide-requires-2
@@ -86,7 +86,7 @@ inside c =
     let s = c .before .before .before .before .before .before .before .before .before .before in
     let a = s .args in
     let i = y .wide .result in
-    let r = place-room (now (a .cycles)) (now (a .steps)) (a .spans) (s .pre .1 .1 .1 .1) i (c .before .before .before .before .before .before .if1 .left) in
+    let r = place-room (now (a .cycles)) (now (a .steps)) (a .spans) (s .pre .1) i (c .before .before .before .before .before .before .if1 .left) in
     let h = c .before .before .if3 .left in
     let w = width-some (number s i) (omega (arith, h)) in
     omega (arith, r, w, h, p .cycle-place .ensures, c .wide2 .ensures)
@@ -101,8 +101,9 @@ element-copy-out-h : tie.Need-element-copy-out-h
 element-copy-out-h c = let h = inside c in omega (arith, h)
 
 value-at-requires : tie.Need-value-at-requires
-value-at-requires c κs = let p = c .before .before .before .before .before .before .before .before .before .before .before .pre in
-    (p .0, (p .1 .0, (p .1 .1 .0, p .1 .1 .1 .0)))
+value-at-requires c κs =
+    let r = c .before .before .before .before .before .before .before .before .before .before .before .pre .0 in
+    (r .few, (r .ids, (r .values, r .rising)))
 
 returns-4 : tie.Need-returns-4
 returns-4 c =
@@ -112,7 +113,7 @@ returns-4 c =
     let s = c .before .before .before .before .before .before .before .before .before .before .before .before in
     let a = s .args in
     let i = y .wide .result in
-    corner-at (now (a .cycles)) (now (a .steps)) (a .spans) (a .c) i (y .wide .ensures) (rows s) (a .n) (s .pre .1 .1 .1 .1)
+    corner-at (now (a .cycles)) (now (a .steps)) (a .spans) (a .c) i (y .wide .ensures) (rows s) (a .n) (s .pre .1)
     (c .before .before .before .before .before .before .before .before .if1 .left) (p .cycle-place .result) (p .cycle-place .ensures) (a .s)
     (eqb (c .value-at .result) 1)
     (corner-found (rows s) (a .n) (number s i) (now (a .steps)) (p .cycle-place .result) (a .s) (c .before .before .before .before .before .if2 .left)

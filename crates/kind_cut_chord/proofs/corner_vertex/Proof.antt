@@ -17,6 +17,12 @@ returns c =
     let a = s .args in
     vertex-lone (rows s) (a .n) (a .p .m) (now (a .steps)) (a .p .at) (a .s) (c .before .if1 .taken)
 
+value-at-requires : tie.Need-value-at-requires
+value-at-requires c κs = let r = c .before .before .before .before .before .pre .1 .0 in (r .few, (r .ids, (r .values, r .rising)))
+
+value-at-requires-2 : tie.Need-value-at-requires-2
+value-at-requires-2 c κs = let r = c .before .before .before .before .before .pre .0 in (r .few, (r .ids, (r .values, r .rising)))
+
 returns-2 : tie.Need-returns-2
 returns-2 c =
     let y = c .before .before .before in
@@ -44,7 +50,7 @@ corner-vertex-spec =
     (λ c. search needs)
     (λ c. search needs)
     (λ c. search needs)
-    (λ c κs. search needs)
+    value-at-requires
     returns-2
-    (λ c κs. search needs)
+    value-at-requires-2
     returns-3)

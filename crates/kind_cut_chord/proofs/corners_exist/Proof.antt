@@ -1,12 +1,11 @@
 -- `corners_exist` meets its contract. Assumes nothing.
-use borrow.Author.Needs.{needs}
 use native.Mathlib.Omega.{arith}
 use mathlib.Core.Bool.{Bool}
 use denote.Ref.{now}
 use Rattle.decode_parts.specs.Lists.{numbersRead}
 use Rattle.ask_cut_along.specs.Corners.{movedFit}
 use Rattle.kind_cut_chord.specs.Chords.{cornerBy}
-use Rattle.kind_cut_chord.proofs.Ends.{first-no, second-no, rest-says}
+use Rattle.kind_cut_chord.proofs.Questions.{first-no, second-no, rest-says}
 use Rattle.kind_cut_chord.proofs.corners_exist.Statement.{statement}
 use Rattle.kind_cut_chord.proofs.corners_exist.Tie as tie
 
@@ -21,7 +20,7 @@ abbrev fit : tie.Start → Bool
 fit s = let a = s .args in movedFit (a .spans .cycles .count) (a .c1) (a .c2) (numbersRead (now (a .script)) (a .place) (a .moved))
 
 corner-on-requires : tie.Need-corner-on-requires
-corner-on-requires c κs = let p = c .before .pre in (p .0, (p .1 .0, (p .1 .1 .0, (p .1 .1 .1 .0, p .1 .1 .1 .1 .0))))
+corner-on-requires c κs = let p = c .before .pre in (p .0, p .1 .0)
 
 returns : tie.Need-returns
 returns c =
@@ -30,7 +29,7 @@ returns c =
     first-no (first s) (second s) (fit s) (x .corner-on .result) (x .corner-on .ensures) (c .if1 .taken)
 
 corner-on-requires-2 : tie.Need-corner-on-requires-2
-corner-on-requires-2 c κs = let p = c .before .before .before .pre in (p .0, (p .1 .0, (p .1 .1 .0, (p .1 .1 .1 .0, p .1 .1 .1 .1 .0))))
+corner-on-requires-2 c κs = let p = c .before .before .before .pre in (p .0, p .1 .0)
 
 returns-2 : tie.Need-returns-2
 returns-2 c =
@@ -41,10 +40,10 @@ returns-2 c =
     (y .corner-on2 .ensures) (c .if2 .taken)
 
 cast-moved-fit : tie.Need-cast-moved-fit
-cast-moved-fit c = let s = c .before .before .before .before .before .before .before in omega (arith, s .pre .1 .1 .1 .1 .0 .inCycles)
+cast-moved-fit c = let s = c .before .before .before .before .before .before .before in omega (arith, s .pre .1 .0 .inCycles)
 
 moved-fit-requires : tie.Need-moved-fit-requires
-moved-fit-requires c κs = c .before .before .before .before .before .before .before .pre .1 .1 .1 .1 .1
+moved-fit-requires c κs = c .before .before .before .before .before .before .before .pre .1 .1
 
 returns-3 : tie.Need-returns-3
 returns-3 c =

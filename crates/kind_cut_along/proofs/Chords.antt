@@ -1,7 +1,7 @@
 -- Other cycles for a face of lent arrays, and then an open edge. Assumes nothing.
 use Prim.Native.Nat.{ℕ, _+_, _*_, _≤_}
 use mathlib.Core.Path.{_≡_, refl, sym, ap, ap₂, subst, _∙_}
-use mathlib.Core.List.{List, [], _∷_}
+use mathlib.Core.List.{List, _∷_}
 use native.Mathlib.Omega.{arith}
 use lib.Ieee.{Float}
 use lib.ListN.{length, take}
@@ -21,19 +21,28 @@ use Rattle.rows_new.proofs.Rooms.{room-first}
 use Rattle.answer.specs.declared.Totals.{Totals}
 use Rattle.rows_corners.specs.Faces.{recycled}
 use Rattle.rows_corners.proofs.Rows.{replaced-with}
-use Rattle.lent.specs.Arrays.{Arrays, heldBy, rowsBy, Lengths}
+use Rattle.lent.specs.Arrays.{Arrays, heldBy, rowsBy, totalsOf, Lengths}
 use Rattle.lent.specs.Growing.{withOpen}
 use Rattle.lent.proofs.Held.{held-sizes}
 use Rattle.lent.proofs.Sums.{bends-held, cycles-held, steps-held}
 use Rattle.lent.proofs.Grown.{open-long, open-normal, open-cycles}
-use Rattle.kernel_cycles.specs.Replacing.{ReplacedIn}
+use Rattle.kernel_cycles.specs.Replacing.{ReplacesIn, ReplacedIn}
 use Rattle.kernel_add.specs.Comes.{BendsPut}
 use Rattle.kernel_add.proofs.Put.{withPlaced, placed-long, open-grew}
 use Rattle.kind_cut_face.specs.Cuts.{FaceCuts}
 use Rattle.kind_cut_face.proofs.Cuts.{sizes-in, replaces}
 use Rattle.kernel_part.specs.Rounds.{HoldsIn}
 use Rattle.kernel_part.proofs.Coming.{same-arrays}
-use Rattle.kind_cut_chord.specs.Chords.{ChordRoom}
+
+-- the row of a is a face's, whose cycles and steps stand at s; there is room for the cycles of a list in their place, and then for an
+-- edge from v to w with the k bends that the script has at first, and for others after it; `at` bends are in use
+pub record ChordRoom (a : Arrays) (row : ℕ) (s : Spans) (numbers : List ℕ) (u : Used) (places : List ℕ) (at : ℕ)
+    (script : List ℕ) (v w k first : ℕ) : Type 0 where
+  pub replaces : ReplacesIn a row s numbers (u .cycles) places (u .steps)
+  pub inUse : at ≡ totalsOf a .bends
+  pub bytes : first + 16 * k ≤ length script
+  pub others : List Figure
+  pub room : RoomIn (sheetWithRow (sheetOf (heldBy a)) row (face (built numbers u places))) (openEdge v w (positionsAt script first k) ∷ others)
 
 -- ---- the edge, where b have the cycles of the list
 module _ (a : Arrays) (row : ℕ) (s : Spans) (numbers : List ℕ) (u : Used) (places : List ℕ) (at : ℕ) (script : List ℕ) (v w k first : ℕ)

@@ -3,8 +3,8 @@ use borrow.Author.Tests.{lt-ltb, le-ltb}
 use mathlib.Core.Path.{sym, ap, _∙_}
 use mathlib.Core.Bool.{Bool, _&&_}
 use lib.Dec.{ltb}
-use Rattle.kind_cut_split.proofs.few.Statement.{statement}
-use Rattle.kind_cut_split.proofs.few.Tie as tie
+use Rattle.kind_cut_chord.proofs.few.Statement.{statement}
+use Rattle.kind_cut_chord.proofs.few.Tie as tie
 
 returns : tie.Need-returns
 returns c =
