@@ -2,16 +2,15 @@ ghost use mathlib.Core.Path.{_≡_};
 ghost use mathlib.Core.Bool.{true};
 ghost use Prim.Native.Nat.{_-_, _<_, _≤_};
 ghost use lib.ListN.{length};
-ghost use Rattle.complex.specs.Cells.{cellAt};
 ghost use Rattle.complex.specs.Decode.{uncut};
 ghost use Rattle.complex.specs.Uncut.{uncutCase, uncutResult};
 ghost use Rattle.complex.specs.Sound.{cellsMost};
 ghost use Rattle.store.specs.View.{sheetOf};
-ghost use Rattle.rows_spans.specs.Building.{Built};
 ghost use Rattle.ask_uncut_uses.specs.Uses.{useAt, caseOf};
-ghost use Rattle.law_uncut_edge.specs.Needs.{leftCycles, goneWith, moreCycles, Case, Takes, TakesBy};
-ghost use Rattle.lent.specs.Arrays.{heldBy, rowsBy, lent, entry, exit};
+ghost use Rattle.law_uncut_edge.specs.Needs.{goneWith, moreCycles};
+ghost use Rattle.lent.specs.Arrays.{heldBy, lent, entry, exit};
 ghost use Rattle.lent.specs.Replies.{Ready, Obeyed, Holds};
+ghost use Rattle.kind_uncut_edge.specs.Left.{Leaves, LeavesIn, LeftIn};
 use answer::Totals;
 use ask_uncut_uses::Between;
 use ask_uncut_uses::Use;
@@ -20,20 +19,13 @@ use rows_spans::Used;
 
 // The cycles that are left to the face of u.
 fn left(
-    next: u32,
     count: usize,
     ids: &[u32; 256],
-    kinds: &[u32; 256],
     starts: &[u32; 256],
     ends: &[u32; 256],
-    bends: &[u32; 256],
     counts: &[u32; 256],
-    px: &[f64; 256],
-    py: &[f64; 256],
     cycles: &[u32; 512],
     steps: &[u32; 2048],
-    bx: &[f64; 2048],
-    by: &[f64; 2048],
     t: Totals,
     e: u32,
     k: Between,
@@ -42,10 +34,8 @@ fn left(
     numbers: &mut [u32],
     places: &mut [u32],
 ) -> Used
-    requires { ⌜ Ready (lent next count ids kinds starts ends bends counts px py cycles steps bx by) t ⌝ }
-    requires { ⌜ Case (heldBy (lent next count ids kinds starts ends bends counts px py cycles steps bx by)) (rowsBy (lent next count ids kinds starts ends bends counts px py cycles steps bx by)) e (caseOf k (useAt e u) (useAt e w)) ⌝ }
-    requires { ⌜ Takes (length (now numbers)) (length (now places)) (uncutResult (sheetOf (heldBy (lent next count ids kinds starts ends bends counts px py cycles steps bx by))) e (caseOf k (useAt e u) (useAt e w))) ⌝ }
-    ensures { λ r. ⌜ Built (leftCycles k (cellAt (sheetOf (heldBy (entry next count ids kinds starts ends bends counts px py cycles steps bx by)))) (useAt e u) (useAt e w)) (now (numbers .exit)) r (now (places .exit)) ⌝ }
+    requires { ⌜ LeavesIn count (now ids) (now starts) (now ends) (now counts) (now cycles) (now steps) t e k u w (length (now numbers)) (length (now places)) ⌝ }
+    ensures { λ r. ⌜ LeftIn count (now (ids .entry)) (now (starts .entry)) (now (ends .entry)) (now (counts .entry)) (now (cycles .entry)) (now (steps .entry)) t e k u w (length (now (numbers .entry))) (length (now (places .entry))) (now (numbers .exit)) r (now (places .exit)) ⌝ }
 {
     let p = kernel_places::place_of(count, ids, counts, cycles, t, u.face, u.cycle);
     let v = kernel_places::head_of(count, ids, starts, ends, e, u.back);
@@ -113,26 +103,17 @@ fn take_out(
     numbers: &mut [u32],
     places: &mut [u32],
 ) -> usize
-    requires { ⌜ Ready (lent next count ids kinds starts ends bends counts px py cycles steps bx by) t ⌝ }
-    requires { ⌜ Case (heldBy (lent next count ids kinds starts ends bends counts px py cycles steps bx by)) (rowsBy (lent next count ids kinds starts ends bends counts px py cycles steps bx by)) e (caseOf k (useAt e u) (useAt e w)) ⌝ }
-    requires { ⌜ Takes (length (now numbers)) (length (now places)) (uncutResult (sheetOf (heldBy (lent next count ids kinds starts ends bends counts px py cycles steps bx by))) e (caseOf k (useAt e u) (useAt e w))) ⌝ }
+    requires { ⌜ Leaves (lent next count ids kinds starts ends bends counts px py cycles steps bx by) t e k u w (length (now numbers)) (length (now places)) ⌝ }
     ensures { λ r. ⌜ Holds (uncutResult (sheetOf (heldBy (entry next count ids kinds starts ends bends counts px py cycles steps bx by))) e (caseOf k (useAt e u) (useAt e w))) (exit next r ids kinds starts ends bends counts px py cycles steps bx by) ⌝ }
 {
     let l = left(
-        next,
         count,
         ids,
-        kinds,
         starts,
         ends,
-        bends,
         counts,
-        px,
-        py,
         cycles,
         steps,
-        bx,
-        by,
         t,
         e,
         k,
@@ -177,87 +158,6 @@ fn few(t: Totals) -> bool
     t.cycles < 32 && t.steps <= 128
 }
 
-// The same with room for the list, as small as may be.
-fn with_room(
-    next: u32,
-    count: usize,
-    ids: &mut [u32; 256],
-    kinds: &mut [u32; 256],
-    starts: &mut [u32; 256],
-    ends: &mut [u32; 256],
-    bends: &mut [u32; 256],
-    counts: &mut [u32; 256],
-    px: &mut [f64; 256],
-    py: &mut [f64; 256],
-    cycles: &mut [u32; 512],
-    steps: &mut [u32; 2048],
-    bx: &mut [f64; 2048],
-    by: &mut [f64; 2048],
-    t: Totals,
-    e: u32,
-    k: Between,
-    u: Use,
-    w: Use,
-) -> usize
-    requires { ⌜ Ready (lent next count ids kinds starts ends bends counts px py cycles steps bx by) t ⌝ }
-    requires { ⌜ Case (heldBy (lent next count ids kinds starts ends bends counts px py cycles steps bx by)) (rowsBy (lent next count ids kinds starts ends bends counts px py cycles steps bx by)) e (caseOf k (useAt e u) (useAt e w)) ⌝ }
-    requires { ⌜ TakesBy t (uncutResult (sheetOf (heldBy (lent next count ids kinds starts ends bends counts px py cycles steps bx by))) e (caseOf k (useAt e u) (useAt e w))) ⌝ }
-    ensures { λ r. ⌜ Holds (uncutResult (sheetOf (heldBy (entry next count ids kinds starts ends bends counts px py cycles steps bx by))) e (caseOf k (useAt e u) (useAt e w))) (exit next r ids kinds starts ends bends counts px py cycles steps bx by) ⌝ }
-{
-    if few(t) {
-        let mut numbers = [0u32; 32];
-        let mut places = [0u32; 128];
-        return take_out(
-            next,
-            count,
-            ids,
-            kinds,
-            starts,
-            ends,
-            bends,
-            counts,
-            px,
-            py,
-            cycles,
-            steps,
-            bx,
-            by,
-            t,
-            e,
-            k,
-            u,
-            w,
-            &mut numbers,
-            &mut places,
-        );
-    }
-    let mut numbers = [0u32; 512];
-    let mut places = [0u32; 2048];
-    take_out(
-        next,
-        count,
-        ids,
-        kinds,
-        starts,
-        ends,
-        bends,
-        counts,
-        px,
-        py,
-        cycles,
-        steps,
-        bx,
-        by,
-        t,
-        e,
-        k,
-        u,
-        w,
-        &mut numbers,
-        &mut places,
-    )
-}
-
 // The line of a command that leaves k of n cells.
 fn gone(n: usize, k: usize) -> Line
     requires { ⌜ k ≤ n ⌝ }
@@ -273,7 +173,7 @@ fn gone(n: usize, k: usize) -> Line
     }
 }
 
-// 0E at the edge e by its two uses. Of the sizes only the number of cycles can grow.
+// 0E at the edge e by its two uses. Of the sizes only the number of cycles can grow. The list of cycles gets as little room as may be.
 pub fn uncut_edge(
     next: &mut u32,
     count: &mut usize,
@@ -317,7 +217,38 @@ pub fn uncut_edge(
     if no != 0 {
         return lent::line_of(no);
     }
-    let left = with_room(
+    if few(t) {
+        let mut numbers = [0u32; 32];
+        let mut places = [0u32; 128];
+        let left = take_out(
+            id,
+            n,
+            ids,
+            kinds,
+            starts,
+            ends,
+            bends,
+            counts,
+            px,
+            py,
+            cycles,
+            steps,
+            bx,
+            by,
+            t,
+            e,
+            k,
+            u,
+            w,
+            &mut numbers,
+            &mut places,
+        );
+        *count = left;
+        return gone(n, left);
+    }
+    let mut numbers = [0u32; 512];
+    let mut places = [0u32; 2048];
+    let left = take_out(
         id,
         n,
         ids,
@@ -337,6 +268,8 @@ pub fn uncut_edge(
         k,
         u,
         w,
+        &mut numbers,
+        &mut places,
     );
     *count = left;
     gone(n, left)

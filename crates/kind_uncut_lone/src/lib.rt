@@ -3,13 +3,13 @@ ghost use Prim.Native.Nat.{_<_};
 ghost use lib.ListN.{length};
 ghost use Rattle.complex.specs.Lists.{one, without};
 ghost use Rattle.complex.specs.Decode.{uncut};
-ghost use Rattle.complex.specs.Uncut.{lonely, uncutCase};
 ghost use Rattle.complex.specs.Sound.{cyclesMost, stepsMost};
-ghost use Rattle.store.specs.View.{sheetOf};
+ghost use Rattle.complex.specs.Uncut.{lonely};
 ghost use Rattle.rows_spans.specs.Building.{Built};
 ghost use Rattle.rows_corners.specs.Faces.{Within, cyclesAt};
-ghost use Rattle.lent.specs.Arrays.{heldBy, lent, entry, exit};
-ghost use Rattle.lent.specs.Replies.{Ready, Obeyed};
+ghost use Rattle.lent.specs.Arrays.{lent, entry, exit};
+ghost use Rattle.lent.specs.Replies.{Obeyed};
+ghost use Rattle.kind_uncut_lone.specs.Cases.{CaseIn};
 use answer::Totals;
 use lent::Line;
 use rows_spans::Spans;
@@ -70,8 +70,7 @@ pub fn lonely(
     t: Totals,
     v: u32,
 ) -> Line
-    requires { ⌜ Ready (lent (now next) (now count) ids kinds starts ends bends counts px py cycles steps bx by) t ⌝ }
-    requires { ⌜ uncutCase (sheetOf (heldBy (lent (now next) (now count) ids kinds starts ends bends counts px py cycles steps bx by))) v ≡ lonely ⌝ }
+    requires { ⌜ CaseIn (lent (now next) (now count) ids kinds starts ends bends counts px py cycles steps bx by) t v lonely ⌝ }
     ensures { λ r. ⌜ Obeyed (entry (now (next .entry)) (now (count .entry)) ids kinds starts ends bends counts px py cycles steps bx by) (uncut v) (exit (now (next .exit)) (now (count .exit)) ids kinds starts ends bends counts px py cycles steps bx by) r ⌝ }
 {
     let n = *count;

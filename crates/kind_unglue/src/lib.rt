@@ -1,12 +1,25 @@
 ghost use mathlib.Core.Path.{_≡_};
+ghost use mathlib.Core.Bool.{cond};
+ghost use lib.Dec.{eqb};
 ghost use Rattle.complex.specs.Decode.{unglue as ungluing};
+ghost use Rattle.rows_uses.specs.declared.Use.the-variants.{Step, Ring};
 ghost use Rattle.lent.specs.Arrays.{lent, entry, exit};
 ghost use Rattle.lent.specs.Replies.{Ready, Obeyed};
 use answer::Totals;
 use lent::Line;
 use rows_uses::Use;
 
-// 09: question 4, then by the kind of the cell.
+// What is copied with an edge of kind k: its steps, or its cycles if it is closed.
+fn uses_of(k: u32) -> Use
+    ensures { λ r. ⌜ r ≡ cond (eqb k 1) Step Ring ⌝ }
+{
+    if k == 1 {
+        return Use::Step;
+    }
+    Use::Ring
+}
+
+// 09: a vertex by the groups of its ends; of an edge a copy for each use but the first.
 pub fn unglue(
     next: &mut u32,
     count: &mut usize,
@@ -50,47 +63,69 @@ pub fn unglue(
             i,
         );
     }
-    if k == 1 {
-        return kind_unglue_edge::unglue_edge(
-            Use::Step,
-            next,
-            count,
-            ids,
-            kinds,
-            starts,
-            ends,
-            bends,
-            counts,
-            px,
-            py,
-            cycles,
-            steps,
-            bx,
-            by,
-            t,
-            i,
-        );
+    if 2 < k {
+        return lent::line_of(4);
     }
-    if k == 2 {
-        return kind_unglue_edge::unglue_edge(
-            Use::Ring,
-            next,
-            count,
-            ids,
-            kinds,
-            starts,
-            ends,
-            bends,
-            counts,
-            px,
-            py,
-            cycles,
-            steps,
-            bx,
-            by,
-            t,
-            i,
-        );
+    let u = uses_of(k);
+    let m = t.cycles;
+    let parts = rows_uses::count_uses(u, cycles, m, steps, i);
+    if parts < 2 {
+        return lent::line_of(6);
     }
-    lent::line_of(4)
+    let more = parts - 1;
+    let row = store::find(ids, n, i);
+    let b = store::wide(bends[row]);
+    let id = *next;
+    let no = ask_unglue::late_copies(id, t, b, more);
+    if no != 0 {
+        return lent::line_of(no);
+    }
+    kernel_copies::copy_uses(
+        u,
+        id,
+        n,
+        ids,
+        kinds,
+        starts,
+        ends,
+        bends,
+        counts,
+        px,
+        py,
+        cycles,
+        steps,
+        bx,
+        by,
+        m,
+        i,
+        0,
+    );
+    kernel_copies::put_copies(
+        id,
+        n,
+        ids,
+        kinds,
+        starts,
+        ends,
+        bends,
+        counts,
+        px,
+        py,
+        cycles,
+        steps,
+        bx,
+        by,
+        t.bends,
+        row,
+        more,
+    );
+    let new = more as u32;
+    *count = n + more;
+    *next = id + new;
+    Line {
+        number: 0,
+        first: id,
+        new,
+        removed: 0,
+    }
 }

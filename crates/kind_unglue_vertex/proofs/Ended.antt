@@ -1,11 +1,11 @@
 -- New ends in the rows, then copies for lone cycles: the arrays hold the drawing with the vertex parted. Assumes nothing.
-use Prim.Native.Nat.{ℕ, zero, suc, _+_, _*_, _<_}
+use Prim.Native.Nat.{ℕ, zero, suc, _+_, _*_, _<_, _≤_}
 use native.Mathlib.Omega.{arith}
 use mathlib.Core.Path.{_≡_, refl, sym, ap, ap₂, _∙_}
 use mathlib.Core.Bool.{Bool, true, false, _&&_, cond}
 use mathlib.Core.List.{List, [], _∷_}
 use lib.Dec.{T, eqb}
-use lib.ListN.{getD, take}
+use lib.ListN.{length, getD, take}
 use Rattle.coordinate.specs.declared.Position.{Position}
 use Rattle.complex.specs.Lists.{rising}
 use Rattle.complex.specs.Cells.{cellAt, isVertex, ids}
@@ -21,7 +21,9 @@ use Rattle.rows_steps.proofs.Placed.{ended-is}
 use Rattle.sound.proofs.Meaning.{sound-fits}
 use Rattle.answer.specs.declared.Totals.{Totals}
 use Rattle.rows_uses.specs.declared.Use.the-variants.{Lone}
-use Rattle.rows_ends.specs.Ends.{endAfter, EndMarks, NewEnds}
+use Rattle.answer.proofs.Asked.{next-in}
+use Rattle.rows_ends.specs.Ends.{endAfter, EndMarks, NewEnds, EndRows}
+use Rattle.rows_ends.proofs.Ends.{end-rows}
 use Rattle.ask_unglue.specs.Places.{GroupedEnds}
 use Rattle.ask_unglue.proofs.Vertex.{mid-rises, parted}
 use Rattle.lent.specs.Arrays.{Arrays, shapeBy, shapeAt, positionIn, cellsBy, heldBy, rowsBy, rowNormal, normalAt, normal, Lengths}
@@ -97,6 +99,14 @@ module _ (a : Arrays) (v next : ℕ) (at : List Bool) (G : List ℕ) (M : EndMar
   ends-normal m =
       all-intro (normalAt (a .kinds) ss es (a .bends) (a .counts)) (a .count)
       (λ j h. same-row j h ∙ all-at (normalAt (a .kinds) (a .starts) (a .ends) (a .bends) (a .counts)) (a .count) j h m)
+
+-- what is asked of the starts or the ends l
+pub end-asks : (side : ℕ) → side ≤ 1 → {a : Arrays} {t : Totals} → Ready a t → {v g : ℕ} {at : List Bool} {G : List ℕ}
+    → GroupedEnds (heldBy a) (rowsBy a) v g at G × (g ≤ 512) → length at ≡ 512 → length G ≡ 512 → (l : List ℕ) → length l ≡ 256
+    → EndRows side at G (a .count) (a .next) l
+end-asks side h {a} {t} r {v} {g} {at} {G} R ha hG l hl =
+    let w = drawing-of a (r .sound) in
+    end-rows side at G (a .count) (a .next) l g h ha hG (R .0 .most) (R .1) (sound-fits (heldBy a) w .cells) hl (next-in (heldBy a) w)
 
 module _ (a : Arrays) (t : Totals) (r : Ready a t) (v g : ℕ) (at : List Bool) (G : List ℕ) (R : GroupedEnds (heldBy a) (rowsBy a) v g at G) (ss es : List ℕ)
     (A : NewEnds 0 at G v (a .next) (a .count) (a .starts) ss) (B : NewEnds 1 at G v (a .next) (a .count) (a .ends) es) where

@@ -4,14 +4,22 @@ use mathlib.Core.Path.{_≡_}
 use mathlib.Core.Bool.{Bool, true}
 use mathlib.Core.List.{List}
 use lib.ListN.{length, getD}
-use Rattle.complex.specs.Cells.{cellAt}
+use lib.Dec.{T}
+use Rattle.complex.specs.Cells.{cellAt, isVertex}
 use Rattle.complex.specs.Edits.{reshape}
 use Rattle.complex.specs.Unglue.{ungluing}
 use Rattle.store.specs.View.{sheetOf, Fits}
 use Rattle.store.specs.Edits.{withEntries}
 use Rattle.store.specs.declared.Index.{Index}
 use Rattle.rows_ends.specs.Ends.{EndMarks}
+use Rattle.answer.specs.declared.Totals.{Totals}
 use Rattle.lent.specs.Arrays.{Arrays, heldBy, normal, Lengths}
+use Rattle.lent.specs.Replies.{Ready}
+
+-- v is a vertex of ready arrays
+pub record VertexOf (a : Arrays) (t : Totals) (v : ℕ) : Type 0 where
+  pub ready : Ready a t
+  pub vertex : T (isVertex (cellAt (sheetOf (heldBy a)) v))
 
 -- b holds a's drawing with the ends at v and the lone cycles of v as its copies, which are not there yet
 pub record Parted (a : Arrays) (v : ℕ) (b : Arrays) : Type 0 where

@@ -1,14 +1,12 @@
-ghost use mathlib.Core.Path.{_≡_};
 ghost use Prim.Native.Nat.{_≤_};
 ghost use lib.Dec.{T};
-ghost use lib.ListN.{length};
 ghost use Rattle.complex.specs.Cells.{cellAt, isVertex};
 ghost use Rattle.complex.specs.Decode.{unglue as ungluing};
 ghost use Rattle.store.specs.View.{sheetOf};
 ghost use Rattle.ask_unglue.specs.Places.{GroupedEnds, Fresh};
 ghost use Rattle.lent.specs.Arrays.{heldBy, rowsBy, lent, entry, exit};
 ghost use Rattle.lent.specs.Replies.{Ready, Obeyed};
-ghost use Rattle.kind_unglue_vertex.specs.Parts.{Parted, Linkable};
+ghost use Rattle.kind_unglue_vertex.specs.Parts.{VertexOf, Linkable};
 use answer::Totals;
 use lent::Line;
 use rows_uses::Use;
@@ -126,58 +124,6 @@ fn group_ends(
     )
 }
 
-// The ends at v and the lone cycles of v become its copies.
-fn part_ends(
-    next: u32,
-    count: usize,
-    ids: &[u32; 256],
-    kinds: &[u32; 256],
-    starts: &mut [u32; 256],
-    ends: &mut [u32; 256],
-    bends: &[u32; 256],
-    counts: &[u32; 256],
-    px: &[f64; 256],
-    py: &[f64; 256],
-    cycles: &[u32; 512],
-    steps: &mut [u32; 2048],
-    bx: &[f64; 2048],
-    by: &[f64; 2048],
-    t: Totals,
-    v: u32,
-    g: u32,
-    at: &[bool],
-    groups: &[u32],
-)
-    requires { ⌜ Ready (lent next count ids kinds starts ends bends counts px py cycles steps bx by) t ⌝ }
-    requires { ⌜ T (isVertex (cellAt (sheetOf (heldBy (lent next count ids kinds starts ends bends counts px py cycles steps bx by))) v)) ⌝ }
-    requires { ⌜ GroupedEnds (heldBy (lent next count ids kinds starts ends bends counts px py cycles steps bx by)) (rowsBy (lent next count ids kinds starts ends bends counts px py cycles steps bx by)) v g (now at) (now groups) ⌝ }
-    requires { ⌜ (g ≤ 512) × (length (now at) ≡ 512) × (length (now groups) ≡ 512) ⌝ }
-    ensures { λ _. ⌜ Parted (entry next count ids kinds starts ends bends counts px py cycles steps bx by) v (exit next count ids kinds starts ends bends counts px py cycles steps bx by) ⌝ }
-{
-    rows_ends::new_ends(0, at, groups, count, v, next, starts);
-    rows_ends::new_ends(1, at, groups, count, v, next, ends);
-    kernel_copies::copy_uses(
-        Use::Lone,
-        next,
-        count,
-        ids,
-        kinds,
-        starts,
-        ends,
-        bends,
-        counts,
-        px,
-        py,
-        cycles,
-        steps,
-        bx,
-        by,
-        t.cycles,
-        v,
-        store::wide(g),
-    );
-}
-
 // 09, of a vertex by the groups of its ends and its lone cycles: a copy for each of them but the first.
 pub fn unglue_vertex(
     next: &mut u32,
@@ -197,8 +143,7 @@ pub fn unglue_vertex(
     t: Totals,
     v: u32,
 ) -> Line
-    requires { ⌜ Ready (lent (now next) (now count) ids kinds starts ends bends counts px py cycles steps bx by) t ⌝ }
-    requires { ⌜ T (isVertex (cellAt (sheetOf (heldBy (lent (now next) (now count) ids kinds starts ends bends counts px py cycles steps bx by))) v)) ⌝ }
+    requires { ⌜ VertexOf (lent (now next) (now count) ids kinds starts ends bends counts px py cycles steps bx by) t v ⌝ }
     ensures { λ r. ⌜ Obeyed (entry (now (next .entry)) (now (count .entry)) ids kinds starts ends bends counts px py cycles steps bx by) (ungluing v) (exit (now (next .exit)) (now (count .exit)) ids kinds starts ends bends counts px py cycles steps bx by) r ⌝ }
 {
     let n = *count;
@@ -226,7 +171,8 @@ pub fn unglue_vertex(
         &mut groups,
     );
     let lone = rows_uses::count_uses(Use::Lone, cycles, t.cycles, steps, v);
-    let parts = store::wide(g) + lone;
+    let k = store::wide(g);
+    let parts = k + lone;
     if parts < 2 {
         return lent::line_of(6);
     }
@@ -236,7 +182,10 @@ pub fn unglue_vertex(
         return lent::line_of(no);
     }
     let row = store::find(ids, n, v);
-    part_ends(
+    rows_ends::new_ends(0, &at, &groups, n, v, id, starts);
+    rows_ends::new_ends(1, &at, &groups, n, v, id, ends);
+    kernel_copies::copy_uses(
+        Use::Lone,
         id,
         n,
         ids,
@@ -251,11 +200,9 @@ pub fn unglue_vertex(
         steps,
         bx,
         by,
-        t,
+        t.cycles,
         v,
-        g,
-        &at,
-        &groups,
+        k,
     );
     kernel_copies::put_copies(
         id,

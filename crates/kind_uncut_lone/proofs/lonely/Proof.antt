@@ -40,18 +40,18 @@ abbrev placed : tie.After-find → tie.After-lone-place
 placed r = held r .before .before
 
 lone-place-requires : tie.Need-lone-place-requires
-lone-place-requires c κs = let s = c .before .before .before .before in place-asks (arrays s) (s .args .t) (s .pre .0) (s .args .v) (s .pre .1)
+lone-place-requires c κs = let s = c .before .before .before .before in place-asks (arrays s) (s .args .t) (s .pre .ready) (s .args .v) (s .pre .is)
 
 row-holding-requires : tie.Need-row-holding-requires
 row-holding-requires c κs =
     let s = c .before .before .before .before .before .before in
-    (s .pre .0 .long .counts, ready-fits (arrays s) (s .args .t) (s .pre .0) .cells)
+    (s .pre .ready .long .counts, ready-fits (arrays s) (s .args .t) (s .pre .ready) .cells)
 
 mul-f : tie.Need-mul-f
 mul-f c =
     let j = c .before .before in
     let s = j .before .before .before .before .before in
-    let h = row-few (arrays s) (s .args .t) (s .pre .0) (s .args .v) (s .pre .1) (j .lone-place .result) (j .lone-place .ensures)
+    let h = row-few (arrays s) (s .args .t) (s .pre .ready) (s .args .v) (s .pre .is) (j .lone-place .result) (j .lone-place .ensures)
     (c .row-holding .result) (c .row-holding .ensures) in
     omega (arith, h)
 
@@ -59,7 +59,7 @@ element-copy-out-f : tie.Need-element-copy-out-f
 element-copy-out-f c =
     let j = c .before .before in
     let s = j .before .before .before .before .before in
-    row-few (arrays s) (s .args .t) (s .pre .0) (s .args .v) (s .pre .1) (j .lone-place .result) (j .lone-place .ensures)
+    row-few (arrays s) (s .args .t) (s .pre .ready) (s .args .v) (s .pre .is) (j .lone-place .result) (j .lone-place .ensures)
     (c .row-holding .result) (c .row-holding .ensures)
 
 spans-at-requires : tie.Need-spans-at-requires
@@ -67,7 +67,7 @@ spans-at-requires c κs =
     let h = c .before .before .before in
     let j = h .before .before in
     let s = j .before .before .before .before .before in
-    counted (arrays s) (s .args .t) (s .pre .0) (s .args .v) (s .pre .1) (j .lone-place .result) (j .lone-place .ensures)
+    counted (arrays s) (s .args .t) (s .pre .ready) (s .args .v) (s .pre .is) (j .lone-place .result) (j .lone-place .ensures)
     (h .row-holding .result) (h .row-holding .ensures)
 
 slice-aggregate-all-but : tie.Need-slice-aggregate-all-but
@@ -83,7 +83,7 @@ all-but-requires c κs =
     let j = h .before .before in
     let s = j .before .before .before .before .before in
     let g =
-    list-asks (arrays s) (s .args .t) (s .pre .0) (s .args .v) (s .pre .1) (j .lone-place .result) (j .lone-place .ensures)
+    list-asks (arrays s) (s .args .t) (s .pre .ready) (s .args .v) (s .pre .is) (j .lone-place .result) (j .lone-place .ensures)
     (h .row-holding .result) (h .row-holding .ensures)
     _ refl (p .spans-at .result) (p .spans-at .ensures) in
     (g .0, (g .1, (length-replicate {A = ℕ} 512 0, length-replicate {A = ℕ} 2048 0)))
@@ -92,7 +92,7 @@ find-requires : tie.Need-find-requires
 find-requires c κs =
     let s = c .before .before .before .before .before .before .before .before .before .before .before .before .before .before .before .before .before .before
     .before in
-    ready-finds (arrays s) (s .args .t) (s .pre .0)
+    ready-finds (arrays s) (s .args .t) (s .pre .ready)
 
 slice-aggregate-reface : tie.Need-slice-aggregate-reface
 slice-aggregate-reface c = search needs
@@ -104,18 +104,18 @@ reface-requires : tie.Need-reface-requires
 reface-requires c κs =
     let r = c .before .before .before .before .before .before .before .before .before .before .before .before .before .before in
     let s = start r in (
-      refaces (arrays s) (s .args .t) (s .pre .0) (s .args .v) (s .pre .1) (placed r .lone-place .result) (placed r .lone-place .ensures)
+      refaces (arrays s) (s .args .t) (s .pre .ready) (s .args .v) (s .pre .is) (placed r .lone-place .result) (placed r .lone-place .ensures)
           (held r .row-holding .result) (held r .row-holding .ensures)
           _ refl (spanned r .spans-at .result) (spanned r .spans-at .ensures) _ (listed r .all-but .result) _ (listed r .all-but .ensures)
           (r .find .result) (r .find .ensures),
-      (s .pre .0 .long, ready-rows (arrays s) (s .args .t) (s .pre .0)),
+      (s .pre .ready .long, ready-rows (arrays s) (s .args .t) (s .pre .ready)),
     )
 
 less : (c : tie.After-reface) → c .reface .result ≤ now (start (found c) .args .count)
 less c =
     let r = found c in
     let s = start r in
-    fewer (arrays s) (s .args .t) (s .pre .0) (s .args .v) (s .pre .1) (placed r .lone-place .result) (placed r .lone-place .ensures)
+    fewer (arrays s) (s .args .t) (s .pre .ready) (s .args .v) (s .pre .is) (placed r .lone-place .result) (placed r .lone-place .ensures)
     (held r .row-holding .result) (held r .row-holding .ensures)
     _ refl (spanned r .spans-at .result) (spanned r .spans-at .ensures) _ (listed r .all-but .result) _ (listed r .all-but .ensures)
     (r .find .result) (r .find .ensures) _ (c .reface .ensures) refl
@@ -124,13 +124,13 @@ sub-removed : tie.Need-sub-removed
 sub-removed c = omega (arith, less c)
 
 cast-removed : tie.Need-cast-removed
-cast-removed c = let s = start (found c) in omega (arith, ready-fits (arrays s) (s .args .t) (s .pre .0) .cells)
+cast-removed c = let s = start (found c) in omega (arith, ready-fits (arrays s) (s .args .t) (s .pre .ready) .cells)
 
 returns : tie.Need-returns
 returns c =
     let r = found c in
     let s = start r in
-    obeyed (arrays s) (s .args .t) (s .pre .0) (s .args .v) (s .pre .1) (placed r .lone-place .result) (placed r .lone-place .ensures)
+    obeyed (arrays s) (s .args .t) (s .pre .ready) (s .args .v) (s .pre .is) (placed r .lone-place .result) (placed r .lone-place .ensures)
     (held r .row-holding .result) (held r .row-holding .ensures)
     _ refl (spanned r .spans-at .result) (spanned r .spans-at .ensures) _ (listed r .all-but .result) _ (listed r .all-but .ensures)
     (r .find .result) (r .find .ensures) _ (c .reface .ensures) refl _ refl

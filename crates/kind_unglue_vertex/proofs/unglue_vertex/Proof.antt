@@ -2,16 +2,22 @@
 use borrow.Author.Needs.{needs}
 use Prim.Native.Nat.{ℕ, _+_, _≤_}
 use native.Mathlib.Omega.{arith}
-use mathlib.Core.Path.{refl, _∙_}
+use mathlib.Core.Path.{_≡_, refl, _∙_}
 use mathlib.Core.Bool.{false}
+use mathlib.Core.List.{List}
 use lib.Dec.{lit≤}
-use lib.ListN.{length-replicate}
+use lib.ListN.{length, length-replicate}
 use denote.Ref.{now}
 use Rattle.answer.proofs.Asked.{next-in}
 use Rattle.ask_unglue.proofs.Copies.{ids-rising, count-asks, sizes-small}
 use Rattle.ask_unglue.proofs.Found.{fresh}
-use Rattle.lent.specs.Arrays.{Arrays, lent, heldBy, rowsBy}
+use Rattle.rows_uses.specs.declared.Use.the-variants.{Lone}
+use Rattle.rows_ends.specs.Ends.{EndRows}
+use Rattle.lent.specs.Arrays.{Arrays, lent, heldBy, rowsBy, normal}
 use Rattle.lent.proofs.Sums.{ready-drawing, ready-sizes, ready-indexes, ready-fits}
+use Rattle.kernel_copies.specs.Copies.{UsesCopied}
+use Rattle.kind_unglue_vertex.specs.Parts.{Parted}
+use Rattle.kind_unglue_vertex.proofs.Ended.{withEnds, end-asks, mid-long, mid-held, mid-rising, mid-cycles, ends-parted}
 use Rattle.kind_unglue_vertex.proofs.Unglued.{Asked, few-lone, few, late, room, bends-same, obeyed-unglued}
 use Rattle.kind_unglue_vertex.proofs.unglue_vertex.Statement.{statement}
 use Rattle.kind_unglue_vertex.proofs.unglue_vertex.Tie as tie
@@ -34,13 +40,13 @@ start g = g .before .before .before .before .before .before .before .before .bef
 group-ends-requires : tie.Need-group-ends-requires
 group-ends-requires c κs =
     let s = c .before .before .before .before .before .before .before .before .before .before .before .before .before .before .before .before in
-    (s .pre .0, (s .pre .1, fresh))
+    (s .pre .ready, (s .pre .vertex, fresh))
 
 count-uses-requires : tie.Need-count-uses-requires
 count-uses-requires c κs =
     let s = start (c .before .before .before .before .before .before) in
     let b = arrays s in
-    let r = s .pre .0 in
+    let r = s .pre .ready in
     let t = s .args .t in
     count-asks (heldBy b) (ready-sizes b t r) (ready-drawing b t r) (rowsBy b) (ready-indexes b t r) t (r .sums)
 
@@ -57,8 +63,8 @@ asked c =
     let g = grouped c in
     let s = start g in
     record {
-      ready = s .pre .0;
-      vertex = s .pre .1;
+      ready = s .pre .ready;
+      vertex = s .pre .vertex;
       groups-are = g .group-ends .ensures .0 .count;
       wide = c .wide .ensures;
       lone = c .before .count-uses .ensures;
@@ -84,7 +90,7 @@ late-copies-requires : tie.Need-late-copies-requires
 late-copies-requires c κs =
     let s = start (grouped (c .before)) in
     let b = arrays s in
-    let r = s .pre .0 in
+    let r = s .pre .ready in
     let t = s .args .t in
     let w = ready-drawing b t r in
     let z = sizes-small (heldBy b) (ready-sizes b t r) w (rowsBy b) (ready-indexes b t r) t (r .sums) in
@@ -105,63 +111,125 @@ find-requires : tie.Need-find-requires
 find-requires c κs =
     let s = start (grouped (c .before .before .before .before)) in
     let b = arrays s in
-    let r = s .pre .0 in
+    let r = s .pre .ready in
     let t = s .args .t in
     (ready-fits b t r .cells, (r .long .ids, ids-rising (heldBy b) (ready-sizes b t r) (ready-drawing b t r) (rowsBy b) (ready-indexes b t r)))
 
-slice-aggregate-part-ends : tie.Need-slice-aggregate-part-ends
-slice-aggregate-part-ends c = search needs
+slice-aggregate-new-ends : tie.Need-slice-aggregate-new-ends
+slice-aggregate-new-ends c = search needs
 
-slice-aggregate-part-ends-2 : tie.Need-slice-aggregate-part-ends-2
-slice-aggregate-part-ends-2 c = search needs
+slice-aggregate-new-ends-2 : tie.Need-slice-aggregate-new-ends-2
+slice-aggregate-new-ends-2 c = search needs
 
-part-ends-requires : tie.Need-part-ends-requires
-part-ends-requires c κs =
-    let e = grouped (widened (c .before .before .before .before .before .before .before .before .before .before .before .before .before .before)) in
-    let s = start e in
-    let g = e .group-ends in
-    let k = g .kept .1 .1 .1 .1 .1 .1 .1 .1 .1 .1 .1 .1 .1 .1 .1 .1 in
-    (s .pre .0, (s .pre .1, (g .ensures .0, (g .ensures .1, k .0 ∙ length-replicate 512 false, k .1 .0 ∙ length-replicate {A = ℕ} 512 0))))
+-- what is asked of the starts or the ends, once the vertex's row is found
+ends-asked : (f : tie.After-find) (side : ℕ) → side ≤ 1 → let g = grouped (widened f) in let a = arrays (start g) in
+    (l : List ℕ) → length l ≡ 256 → EndRows side (g .group-ends .last .1 .1 .1 .1 .1 .1 .1 .1 .1 .1 .1 .1 .1 .1 .1 .1 .0)
+    (g .group-ends .last .1 .1 .1 .1 .1 .1 .1 .1 .1 .1 .1 .1 .1 .1 .1 .1 .1 .0) (a .count) (a .next) l
+ends-asked f side h =
+    let g = grouped (widened f) in
+    let k = g .group-ends .kept .1 .1 .1 .1 .1 .1 .1 .1 .1 .1 .1 .1 .1 .1 .1 .1 in
+    end-asks side h (start g .pre .ready) (g .group-ends .ensures) (k .0 ∙ length-replicate 512 false) (k .1 .0 ∙ length-replicate {A = ℕ} 512 0)
 
-abbrev found : tie.After-part-ends → tie.After-find
-found p = p .before .before .before .before .before .before .before .before .before .before .before .before .before .before .before
+new-ends-requires : tie.Need-new-ends-requires
+new-ends-requires c κs =
+    let f = c .before .before .before in
+    ends-asked f 0 (lit≤ tt) _ (start (grouped (widened f)) .pre .ready .long .starts)
+
+slice-aggregate-new-ends-3 : tie.Need-slice-aggregate-new-ends-3
+slice-aggregate-new-ends-3 c = search needs
+
+slice-aggregate-new-ends-4 : tie.Need-slice-aggregate-new-ends-4
+slice-aggregate-new-ends-4 c = search needs
+
+new-ends-requires-2 : tie.Need-new-ends-requires-2
+new-ends-requires-2 c κs =
+    let f = c .before .before .before .before .before .before .before in
+    ends-asked f 1 (lit≤ tt) _ (start (grouped (widened f)) .pre .ready .long .ends)
+
+-- from the new ends back to the new starts, and to the vertex's row
+abbrev started : tie.After-new-ends2 → tie.After-new-ends
+started e = e .before .before .before .before
+
+abbrev found : tie.After-new-ends2 → tie.After-find
+found e = started e .before .before .before .before
+
+copy-uses-requires : tie.Need-copy-uses-requires
+copy-uses-requires c κs =
+    let e = c .before .before .before .before .before .before .before .before .before .before .before .before in
+    let w = widened (found e) in
+    let g = grouped w in
+    let s = start g in
+    let a = arrays s in
+    let t = s .args .t in
+    let r = s .pre .ready in
+    let v = s .args .v in
+    let n = g .group-ends .result in
+    let R = g .group-ends .ensures .0 in
+    let A = started e .new-ends .ensures in
+    let E = e .new-ends2 .ensures in (
+      mid-held a t r v n _ _ R _ _ A E .1,
+      (
+        mid-long a t r v n _ _ R _ _ A E,
+        (
+          mid-rising a t r v n _ _ R _ _ A E,
+          (mid-cycles a t r v n _ _ R _ _ A E, (next-in (heldBy a) (ready-drawing a t r), omega (arith, w .wide .ensures, g .group-ends .ensures .1))),
+        ),
+      ),
+    )
+
+abbrev ended : tie.After-copy-uses → tie.After-new-ends2
+ended m = m .before .before .before .before .before .before .before .before .before .before .before .before .before
+
+-- the arrays hold the drawing with the vertex parted
+parted : (m : tie.After-copy-uses) → let e = ended m in let w = widened (found e) in let s = start (grouped w) in
+    (b : Arrays) → UsesCopied Lone (s .args .v) (w .wide .result)
+    (withEnds (arrays s) (started e .new-ends .last .1 .1 .1 .1 .1 .1 .0) (e .new-ends2 .last .1 .1 .1 .1 .1 .1 .0)) b
+    → normal b ≡ normal (withEnds (arrays s) (started e .new-ends .last .1 .1 .1 .1 .1 .1 .0) (e .new-ends2 .last .1 .1 .1 .1 .1 .1 .0))
+    → Parted (arrays s) (s .args .v) b
+parted m b =
+    let e = ended m in
+    let w = widened (found e) in
+    let g = grouped w in
+    let s = start g in
+    ends-parted (arrays s) (s .args .t) (s .pre .ready) (s .args .v) (g .group-ends .result) _ _ (g .group-ends .ensures .0) _ _
+    (started e .new-ends .ensures) (e .new-ends2 .ensures) (s .pre .vertex) _ (w .wide .ensures) b
 
 put-copies-requires : tie.Need-put-copies-requires
 put-copies-requires c κs =
-    let p = c .before .before .before .before .before .before .before .before .before .before .before .before in
-    let f = found p in
+    let m = c .before .before .before .before .before .before .before .before .before .before .before .before in
+    let f = found (ended m) in
     let l = f .before .before .before in
     let q = asked (widened f) in
-    let e = p .part-ends .ensures in (
+    let e = parted m _ (m .copy-uses .ensures) refl in (
       room q (l .before .if1 .left) _ (l .late-copies .ensures) (f .before .before .if2 .left) _ (f .find .ensures) _ e,
       (e .long, (e .rows, bends-same q (l .before .if1 .left) _ (l .late-copies .ensures) (f .before .before .if2 .left) _ (f .find .ensures) _ e refl)),
     )
 
-abbrev parted : tie.After-put-copies → tie.After-part-ends
-parted c = c .before .before .before .before .before .before .before .before .before .before .before .before .before
+abbrev copied : tie.After-put-copies → tie.After-copy-uses
+copied c = c .before .before .before .before .before .before .before .before .before .before .before .before .before
 
 cast-new : tie.Need-cast-new
-cast-new c = omega (arith, parts (widened (found (parted c))))
+cast-new c = omega (arith, parts (widened (found (ended (copied c)))))
 
 add-count : tie.Need-add-count
 add-count c =
-    let w = widened (found (parted c)) in
+    let w = widened (found (ended (copied c))) in
     let s = start (grouped w) in
-    omega (arith, parts w, ready-fits (arrays s) (s .args .t) (s .pre .0) .cells)
+    omega (arith, parts w, ready-fits (arrays s) (s .args .t) (s .pre .ready) .cells)
 
 add-next : tie.Need-add-next
 add-next c =
-    let w = widened (found (parted c)) in
+    let w = widened (found (ended (copied c))) in
     let s = start (grouped w) in
-    omega (arith, parts w, next-in (heldBy (arrays s)) (ready-drawing (arrays s) (s .args .t) (s .pre .0)))
+    omega (arith, parts w, next-in (heldBy (arrays s)) (ready-drawing (arrays s) (s .args .t) (s .pre .ready)))
 
 returns-3 : tie.Need-returns-3
 returns-3 c =
-    let p = parted c in
-    let f = found p in
+    let m = copied c in
+    let f = found (ended m) in
     let l = f .before .before .before in
     obeyed-unglued (asked (widened f)) (l .before .if1 .left) _ (l .late-copies .ensures) (f .before .before .if2 .left) _ (f .find .ensures) _
-    (p .part-ends .ensures) _ (c .put-copies .ensures) refl refl _ refl
+    (parted m _ (m .copy-uses .ensures) refl) _ (c .put-copies .ensures) refl refl _ refl
 
 pub unglue-vertex-spec : {M : Type 1} → statement M
 unglue-vertex-spec =
@@ -180,9 +248,13 @@ unglue-vertex-spec =
     line-of-requires-2
     returns-2
     find-requires
-    slice-aggregate-part-ends
-    slice-aggregate-part-ends-2
-    part-ends-requires
+    slice-aggregate-new-ends
+    slice-aggregate-new-ends-2
+    new-ends-requires
+    slice-aggregate-new-ends-3
+    slice-aggregate-new-ends-4
+    new-ends-requires-2
+    copy-uses-requires
     put-copies-requires
     cast-new
     add-count
