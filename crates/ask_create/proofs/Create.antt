@@ -29,9 +29,9 @@ use Rattle.rows_new.proofs.Rooms.{room-first}
 use Rattle.answer.specs.declared.Answer.{Answer}
 use Rattle.answer.specs.declared.Totals.{Totals}
 use Rattle.answer.specs.Late.{sizesBy, lateNo}
-use Rattle.answer.specs.Answers.{refusal, outcome, Counts, Answers}
+use Rattle.answer.specs.Answers.{refusal, outcome, Answers}
 use Rattle.answer.proofs.Laws.{totalsIn}
-use Rattle.answer.proofs.Asked.{Asked, asked-of, refuses, ids-hold, sizes-hold, counts-done, answers}
+use Rattle.answer.proofs.Asked.{Asked, asked-of, refuses, ids-hold, sizes-hold, answers}
 
 module _ (d : Drawing) (x : Figure) where
   one-new : newCells (sheetOf d) (create x) ≡ 1
@@ -81,9 +81,6 @@ module _ (d : Drawing) (z : Sizes d) (w : T (soundDrawing d)) (x : Figure) (p : 
         })
 
     module _ (out : Drawing) (zo : Sizes out) (go : Fits out) (m : sheetOf out ≡ appended (sheetOf d) x) where
-      pub cell-counts : Counts (d .next) (d .count) out
-      cell-counts = counts-done d z w (create x) r asked n out zo go (m ∙ sym (result-is d x))
-
       pub cell-answers : (a : Answer) → a ≡ outcome (d .next) (d .count) out → Answers d (create x) a
       cell-answers = answers d z w (create x) r asked n out zo go (m ∙ sym (result-is d x))
 

@@ -28,7 +28,7 @@ pub fn face_no(
     if ask_face_joins::cycles_join(script, first, k, ids, kinds, starts, ends, n, &mut hints) {
         return 0;
     }
-    if ask_face_named::cycles_named(script, first, k, ids, kinds, starts, ends, n) {
+    if ask_face_named::cycles_named(script, first, k, ids, kinds, n) {
         return 6;
     }
     4

@@ -11,6 +11,7 @@ ghost use Rattle.store.specs.Index.{Rising, rowOf};
 ghost use Rattle.sound.specs.Rows.{rowsOf, leadsIn, joinsIn};
 ghost use Rattle.decode_parts.specs.Lists.{numbersRead, cyclesRead, Stand};
 ghost use Rattle.ask_face_named.specs.Walks.{Rowed, Walked, passesIn};
+ghost use Rattle.ask_face_joins.specs.Hints.{Hinted};
 use ask_face_named::Walk;
 
 // The places of the hints at rows.
@@ -73,8 +74,7 @@ fn leads(
     w: u32,
 ) -> Walk
     requires { ⌜ Stand readNumber (now script) at m ⌝ }
-    requires { ⌜ Rowed n (now ids) (now kinds) (now starts) (now ends) ⌝ }
-    requires { ⌜ length (now hints) ≡ 256 ⌝ }
+    requires { ⌜ Hinted n (now ids) (now kinds) (now starts) (now ends) (now hints) ⌝ }
     ensures { λ r. ⌜ Walked readNumber (now (script .entry)) at m (leadsIn (rowsOf n (now (ids .entry)) (now (kinds .entry)) (now (starts .entry)) (now (ends .entry))) u (numbersRead (now (script .entry)) at m) w) r ⌝ }
     ensures { λ _. ⌜ length (now (hints .exit)) ≡ 256 ⌝ }
 {
@@ -115,8 +115,7 @@ fn path_joins(
 ) -> Walk
     requires { ⌜ Stand readNumber (now script) at m ⌝ }
     requires { ⌜ 1 ≤ m ⌝ }
-    requires { ⌜ Rowed n (now ids) (now kinds) (now starts) (now ends) ⌝ }
-    requires { ⌜ length (now hints) ≡ 256 ⌝ }
+    requires { ⌜ Hinted n (now ids) (now kinds) (now starts) (now ends) (now hints) ⌝ }
     ensures { λ r. ⌜ Walked readNumber (now (script .entry)) at m (joinsIn (rowsOf n (now (ids .entry)) (now (kinds .entry)) (now (starts .entry)) (now (ends .entry))) (numbersRead (now (script .entry)) at m)) r ⌝ }
     ensures { λ _. ⌜ length (now (hints .exit)) ≡ 256 ⌝ }
 {
@@ -145,8 +144,7 @@ fn cycle_joins(
     hints: &mut [u8; 256],
 ) -> Walk
     requires { ⌜ Stand readCycle (now script) at 1 ⌝ }
-    requires { ⌜ Rowed n (now ids) (now kinds) (now starts) (now ends) ⌝ }
-    requires { ⌜ length (now hints) ≡ 256 ⌝ }
+    requires { ⌜ Hinted n (now ids) (now kinds) (now starts) (now ends) (now hints) ⌝ }
     ensures { λ r. ⌜ Walked readCycle (now (script .entry)) at 1 (all (passesIn (rowsOf n (now (ids .entry)) (now (kinds .entry)) (now (starts .entry)) (now (ends .entry))) false) (cyclesRead (now (script .entry)) at 1)) r ⌝ }
     ensures { λ _. ⌜ length (now (hints .exit)) ≡ 256 ⌝ }
 {

@@ -7,9 +7,9 @@ ghost use Prim.Native.Nat.{_<_};
 ghost use Rattle.number.specs.Numbers.{readNumber};
 ghost use Rattle.complex.specs.Lists.{all};
 ghost use Rattle.complex.specs.Decode.{readCycle};
-ghost use Rattle.sound.specs.Rows.{rowsOf, isVertexIn};
+ghost use Rattle.sound.specs.Rows.{isVertexIn};
 ghost use Rattle.decode_parts.specs.Lists.{numbersRead, cyclesRead, Stand};
-ghost use Rattle.ask_face_named.specs.Walks.{Valued, Rowed, Walked, stepNamed, namesIn, passesIn};
+ghost use Rattle.ask_face_named.specs.Walks.{Valued, Walked, stepNamed, namesIn};
 
 // A walk along a list of a script that asks something of it: the place after the list, or a no.
 pub enum Walk {
@@ -49,32 +49,6 @@ fn step_named(ids: &[u32; 256], kinds: &[u32; 256], n: usize, s: u32) -> bool
     is_edge(kind)
 }
 
-// Whether m steps in a script name edges.
-fn steps_named(
-    script: &[u8],
-    at: usize,
-    m: u32,
-    ids: &[u32; 256],
-    kinds: &[u32; 256],
-    n: usize,
-) -> bool
-    requires { ⌜ Stand readNumber (now script) at m ⌝ }
-    requires { ⌜ Valued n (now ids) (now kinds) ⌝ }
-    ensures { λ r. ⌜ r ≡ all (stepNamed (take n (now (ids .entry))) (take n (now (kinds .entry)))) (numbersRead (now (script .entry)) at m) ⌝ }
-{
-    let mut place = at;
-    let mut left = m;
-    while 0 < left {
-        let taken = script::take_number(script, place);
-        if !step_named(ids, kinds, n, taken.value) {
-            return false;
-        }
-        place = taken.next;
-        left -= 1;
-    }
-    true
-}
-
 // Whether a cycle in a script names vertices and edges.
 fn cycle_named(script: &[u8], at: usize, ids: &[u32; 256], kinds: &[u32; 256], n: usize) -> bool
     requires { ⌜ Stand readCycle (now script) at 1 ⌝ }
@@ -90,7 +64,17 @@ fn cycle_named(script: &[u8], at: usize, ids: &[u32; 256], kinds: &[u32; 256], n
         };
         return true;
     }
-    steps_named(script, first, m, ids, kinds, n)
+    let mut place = first;
+    let mut left = m;
+    while 0 < left {
+        let taken = script::take_number(script, place);
+        if !step_named(ids, kinds, n, taken.value) {
+            return false;
+        }
+        place = taken.next;
+        left -= 1;
+    }
+    true
 }
 
 // Whether the cycles of a face name vertices and edges.
@@ -100,13 +84,11 @@ pub fn cycles_named(
     k: u32,
     ids: &[u32; 256],
     kinds: &[u32; 256],
-    starts: &[u32; 256],
-    ends: &[u32; 256],
     n: usize,
 ) -> bool
     requires { ⌜ Stand readCycle (now script) first k ⌝ }
-    requires { ⌜ Rowed n (now ids) (now kinds) (now starts) (now ends) ⌝ }
-    ensures { λ r. ⌜ r ≡ all (passesIn (rowsOf n (now (ids .entry)) (now (kinds .entry)) (now (starts .entry)) (now (ends .entry))) true) (cyclesRead (now (script .entry)) first k) ⌝ }
+    requires { ⌜ Valued n (now ids) (now kinds) ⌝ }
+    ensures { λ r. ⌜ r ≡ all (namesIn (take n (now (ids .entry))) (take n (now (kinds .entry)))) (cyclesRead (now (script .entry)) first k) ⌝ }
 {
     let mut at = first;
     let mut left = k;

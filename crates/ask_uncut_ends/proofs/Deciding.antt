@@ -26,24 +26,28 @@ pub of-two-edges : (a : ℕ) (p : Bool) (b : ℕ) (q : Bool) → (a ≡ b → �
     → false ≡ endsOfOneEdge (record { edge = a; backward = p }) (record { edge = b; backward = q })
 of-two-edges a p b q e = sym (ap (λ (t : Bool). t && Bool·beq (not p) q) (ne-eqb a b e))
 
-module _ (x : Ends) (whole edge : Bool) where
-  abbrev oneEdge : Bool
-  oneEdge = endsOfOneEdge (record { edge = x .one; backward = x .back1 }) (record { edge = x .two; backward = x .back2 })
-
+-- f tells whether a cycle leaves the vertex by the end, or if not whole by the edge, that it arrives by
+module _ (x : Ends) (f : Bool → Bool) (one : Bool)
+    (e : one ≡ endsOfOneEdge (record { edge = x .one; backward = x .back1 }) (record { edge = x .two; backward = x .back2 })) where
   abbrev pick : Bool → Bool → Bool → Said Uncut
   pick a b c = cond a (cond b (no 6) (done (loopOf x))) (cond c (no 6) (done (jointOf x)))
 
-  pub pair-loop : oneEdge ≡ true → whole ≡ false → done (loopOf x) ≡ pairCase whole edge x
-  pair-loop e w = sym (ap₂ (λ (a b : Bool). pick a b edge) e w)
+  pair-is : (a b : Bool) → one ≡ a → f one ≡ b → pairCase (f true) (f false) x ≡ pick a b b
+  pair-is true b q w = ap₂ (λ (a b : Bool). pick a b (f false)) (sym e ∙ q) (sym (ap f q) ∙ w)
+  pair-is false b q w = ap₂ (λ (a c : Bool). pick a (f true) c) (sym e ∙ q) (sym (ap f q) ∙ w)
 
-  pub pair-turns : oneEdge ≡ true → whole ≡ true → no 6 ≡ pairCase whole edge x
-  pair-turns e w = sym (ap₂ (λ (a b : Bool). pick a b edge) e w)
+  pub pair-turns : f one ≡ true → no 6 ≡ pairCase (f true) (f false) x
+  pair-turns w = go one refl
+    where
+      go : (a : Bool) → one ≡ a → no 6 ≡ pairCase (f true) (f false) x
+      go true q = sym (pair-is true true q w)
+      go false q = sym (pair-is false true q w)
 
-  pub pair-back : oneEdge ≡ false → edge ≡ true → no 6 ≡ pairCase whole edge x
-  pair-back e w = sym (ap₂ (λ (a c : Bool). pick a whole c) e w)
+  pub pair-loop : f one ≡ false → one ≡ true → done (loopOf x) ≡ pairCase (f true) (f false) x
+  pair-loop w q = sym (pair-is true false q w)
 
-  pub pair-joint : oneEdge ≡ false → edge ≡ false → done (jointOf x) ≡ pairCase whole edge x
-  pair-joint e w = sym (ap₂ (λ (a c : Bool). pick a whole c) e w)
+  pub pair-joint : f one ≡ false → one ≡ false → done (jointOf x) ≡ pairCase (f true) (f false) x
+  pair-joint w q = sym (pair-is false false q w)
 
 -- ---- any number of ends
 module _ (whole edge : Bool) (lones : ℕ) (x : Ends) where
@@ -92,5 +96,6 @@ vertex-case ts lones (x ∷ y ∷ []) =
 vertex-case ts lones (x ∷ y ∷ z ∷ l) =
     sym (ends-many (any (turnsBack true) ts) (any (turnsBack false) ts) lones (twoEnds (x ∷ y ∷ z ∷ l)) (λ e. omega arith) (λ e. omega arith))
 
-pub case-same : (whole edge : Bool) (n n′ : ℕ) (x x′ : Ends) → n ≡ n′ → x ≡ x′ → (r : Said Uncut) → r ≡ endsCase whole edge n x → r ≡ endsCase whole edge n′ x′
-case-same whole edge n n′ x x′ e g r h = h ∙ ap₂ (endsCase whole edge) e g
+pub case-same : (whole edge : Bool) (n : ℕ) (x : Ends) (n′ : ℕ) (x′ : Ends) (r : Said Uncut) → n ≡ n′ → x ≡ x′ → r ≡ endsCase whole edge n x
+    → r ≡ endsCase whole edge n′ x′
+case-same whole edge n x n′ x′ r e g h = h ∙ ap₂ (endsCase whole edge) e g

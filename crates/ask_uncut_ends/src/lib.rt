@@ -8,7 +8,7 @@ ghost use Rattle.complex.specs.Uncut.{endsOfOneEdge};
 ghost use Rattle.complex.specs.Uses.{loneUse};
 ghost use Rattle.store.specs.View.{widthSum, cyclesFrom};
 ghost use Rattle.sound.specs.Rows.{rowsOf};
-ghost use Rattle.ask_uncut_turns.specs.Turns.{Rowed, turnsIn};
+ghost use Rattle.ask_uncut_turns.specs.Turns.{Rowed, Cycled, turnsIn};
 ghost use Rattle.ask_uncut_ends.specs.Ends.{edgeEnds, endsIn, oneEnd, twoEnds};
 ghost use Rattle.ask_uncut_ends.specs.Cases.{vertexSays, pairCase, endsCase};
 
@@ -138,22 +138,17 @@ fn pair_case(
     x: Ends,
 ) -> AtVertex
     requires { ⌜ Rowed n (now ids) (now kinds) (now starts) (now ends) ⌝ }
-    requires { ⌜ length (now cycles) ≡ 512 ⌝ }
-    requires { ⌜ length (now steps) ≡ 2048 ⌝ }
-    requires { ⌜ m ≤ 512 ⌝ }
-    requires { ⌜ widthSum (take m (now cycles)) ≤ 2048 ⌝ }
+    requires { ⌜ Cycled m (now cycles) (now steps) ⌝ }
     ensures { λ r. ⌜ vertexSays r ≡ pairCase (turnsIn (rowsOf n (now (ids .entry)) (now (kinds .entry)) (now (starts .entry)) (now (ends .entry))) true v (cyclesFrom (take m (now (cycles .entry))) (now (steps .entry)))) (turnsIn (rowsOf n (now (ids .entry)) (now (kinds .entry)) (now (starts .entry)) (now (ends .entry))) false v (cyclesFrom (take m (now (cycles .entry))) (now (steps .entry)))) x ⌝ }
 {
     let a = x.one;
     let b = x.two;
-    if one_edge(a, x.back1, b, x.back2) {
-        if ask_uncut_turns::turns(ids, kinds, starts, ends, n, true, cycles, m, steps, v) {
-            return AtVertex::Refused;
-        }
-        return AtVertex::Loop(a);
-    }
-    if ask_uncut_turns::turns(ids, kinds, starts, ends, n, false, cycles, m, steps, v) {
+    let one = one_edge(a, x.back1, b, x.back2);
+    if ask_uncut_turns::turns(ids, kinds, starts, ends, n, one, cycles, m, steps, v) {
         return AtVertex::Refused;
+    }
+    if one {
+        return AtVertex::Loop(a);
     }
     AtVertex::Joint {
         one: a,

@@ -36,7 +36,8 @@ module _ (v : ℕ) (ns st : List ℕ) (m : ℕ) where
   pub seeking-start : Seeking 0 0
   seeking-start = record { from-is = refl; rest = omega arith }
 
-  module _ (h : m ≤ length ns) (from i : ℕ) (k : i < m) (x : Seeking from i) where
+module _ {v : ℕ} {ns st : List ℕ} {m from i : ℕ} (x : Seeking v ns st m from i) (h : m ≤ length ns) where
+  module _ (k : i < m) where
     sum : from + width (getD ns i 0) ≡ widthSum (take (i + 1) ns)
     sum = ap (λ (y : ℕ). y + width (getD ns i 0)) (x .from-is) ∙ sym (sum-more width ns i 0 (omega arith))
 
@@ -54,15 +55,15 @@ module _ (v : ℕ) (ns st : List ℕ) (m : ℕ) where
     pub seeking-found : isLone v (cycleOf (getD ns i 0) (drop from st)) ≡ true → i ≡ lonePlace v (cyclesFrom (take m ns) st)
     seeking-found e = let a = seen true e in omega arith
 
-    pub seeking-turn : isLone v (cycleOf (getD ns i 0) (drop from st)) ≡ false → (w : ℕ) → w ≡ width (getD ns i 0) → Seeking (from + w) (i + 1)
+    pub seeking-turn : isLone v (cycleOf (getD ns i 0) (drop from st)) ≡ false → (w : ℕ) → w ≡ width (getD ns i 0) → Seeking v ns st m (from + w) (i + 1)
     seeking-turn e w f =
         let a = seen false e in
         let b = ap (λ (l : List ℕ). lonePlace v (cyclesFrom (drop (i + 1) (take m ns)) l))
         (drop-drop (width (getD ns i 0)) from st ∙ ap (λ (y : ℕ). drop (from + y) st) (sym f)) in
         record { from-is = ap (λ (y : ℕ). from + y) f ∙ sum; rest = omega arith }
 
-  pub seeking-end : m ≤ length ns → (from i : ℕ) → i ≡ m → Seeking from i → i ≡ lonePlace v (cyclesFrom (take m ns) st)
-  seeking-end h from i e x =
+  pub seeking-end : i ≡ m → i ≡ lonePlace v (cyclesFrom (take m ns) st)
+  seeking-end e =
       let a = x .rest in
       let b = ap (λ (y : List ℕ). lonePlace v (cyclesFrom y (drop from st))) (left-none ns m i h e) in
       omega arith

@@ -111,7 +111,8 @@ module _ (p : Passage → Bool) (st : List ℕ) (from m first : ℕ) where
             (left-cons (drop from st) m 0 0 (room st from m g) h ∙ ap (λ (x : ℕ). x ∷ drop 1 (take m (drop from st))) (sym f));
       }
 
-  module _ (g : from + m ≤ length st) (h i : ℕ) (j : i < m) (t : Turning h i) where
+module _ {p : Passage → Bool} {st : List ℕ} {from m first h i : ℕ} (t : Turning p st from m first h i) (g : from + m ≤ length st) where
+  module _ (j : i < m) where
     next : any p (passages (map halfedgeOf (take m (drop from st))))
         ≡ p (passage (halfedgeOf h) (halfedgeOf (getD st (from + i) 0)))
         || any p (passagesFrom (halfedgeOf first) (halfedgeOf (getD st (from + i) 0)) (map halfedgeOf (drop (i + 1) (take m (drop from st)))))
@@ -126,7 +127,7 @@ module _ (p : Passage → Bool) (st : List ℕ) (from m first : ℕ) where
         sym (next ∙ ap (λ (b : Bool). b || any p
         (passagesFrom (halfedgeOf first) (halfedgeOf (getD st (from + i) 0)) (map halfedgeOf (drop (i + 1) (take m (drop from st)))))) e)
 
-    pub turning-turn : p (passage (halfedgeOf h) (halfedgeOf (getD st (from + i) 0))) ≡ false → Turning (getD st (from + i) 0) (i + 1)
+    pub turning-turn : p (passage (halfedgeOf h) (halfedgeOf (getD st (from + i) 0))) ≡ false → Turning p st from m first (getD st (from + i) 0) (i + 1)
     turning-turn e =
         record {
           rest = next ∙ ap
@@ -134,9 +135,8 @@ module _ (p : Passage → Bool) (st : List ℕ) (from m first : ℕ) where
               (passagesFrom (halfedgeOf first) (halfedgeOf (getD st (from + i) 0)) (map halfedgeOf (drop (i + 1) (take m (drop from st)))))) e;
         }
 
-  pub turning-end : from + m ≤ length st → (h i : ℕ) → i ≡ m → Turning h i
-      → p (passage (halfedgeOf h) (halfedgeOf first)) ≡ any p (passages (map halfedgeOf (take m (drop from st))))
-  turning-end g h i e t =
+  pub turning-end : i ≡ m → p (passage (halfedgeOf h) (halfedgeOf first)) ≡ any p (passages (map halfedgeOf (take m (drop from st))))
+  turning-end e =
       sym (t .rest
       ∙ ap (λ (l : List ℕ). any p (passagesFrom (halfedgeOf first) (halfedgeOf h) (map halfedgeOf l))) (left-none (drop from st) m i (room st from m g) e)
       ∙ or-none (p (passage (halfedgeOf h) (halfedgeOf first))))
@@ -162,7 +162,8 @@ module _ {A : Type 0} (p : A → Bool) (g : Cycle → List A) (ns st : List ℕ)
   pub rounding-start : Rounding 0 0
   rounding-start = record { from-is = refl; rest = refl }
 
-  module _ (h : m ≤ length ns) (from i : ℕ) (k : i < m) (x : Rounding from i) where
+module _ {A : Type 0} {p : A → Bool} {g : Cycle → List A} {ns st : List ℕ} {m from i : ℕ} (x : Rounding p g ns st m from i) (h : m ≤ length ns) where
+  module _ (k : i < m) where
     after : any p (spread g (cyclesFrom (take m ns) st))
         ≡ any p (g (cycleOf (getD ns i 0) (drop from st)))
         || any p (spread g (cyclesFrom (drop (i + 1) (take m ns)) (drop (width (getD ns i 0)) (drop from st))))
@@ -180,7 +181,7 @@ module _ {A : Type 0} (p : A → Bool) (g : Cycle → List A) (ns st : List ℕ)
     rounding-found e =
         sym (after ∙ ap (λ (b : Bool). b || any p (spread g (cyclesFrom (drop (i + 1) (take m ns)) (drop (width (getD ns i 0)) (drop from st))))) e)
 
-    pub rounding-turn : any p (g (cycleOf (getD ns i 0) (drop from st))) ≡ false → (w : ℕ) → w ≡ width (getD ns i 0) → Rounding (from + w) (i + 1)
+    pub rounding-turn : any p (g (cycleOf (getD ns i 0) (drop from st))) ≡ false → (w : ℕ) → w ≡ width (getD ns i 0) → Rounding p g ns st m (from + w) (i + 1)
     rounding-turn e w f =
         record {
           from-is = ap (λ (y : ℕ). from + y) f ∙ sum;
@@ -190,5 +191,5 @@ module _ {A : Type 0} (p : A → Bool) (g : Cycle → List A) (ns st : List ℕ)
               (drop-drop (width (getD ns i 0)) from st ∙ ap (λ (y : ℕ). drop (from + y) st) (sym f));
         }
 
-  pub rounding-end : m ≤ length ns → (from i : ℕ) → i ≡ m → Rounding from i → false ≡ any p (spread g (cyclesFrom (take m ns) st))
-  rounding-end h from i e x = sym (x .rest ∙ ap (λ (y : List ℕ). any p (spread g (cyclesFrom y (drop from st)))) (left-none ns m i h e))
+  pub rounding-end : i ≡ m → false ≡ any p (spread g (cyclesFrom (take m ns) st))
+  rounding-end e = sym (x .rest ∙ ap (λ (y : List ℕ). any p (spread g (cyclesFrom y (drop from st)))) (left-none ns m i h e))

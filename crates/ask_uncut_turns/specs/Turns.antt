@@ -9,6 +9,7 @@ use Rattle.number.specs.Readers.{spread}
 use Rattle.complex.specs.Lists.{any}
 use Rattle.complex.specs.Cells.{Halfedge, Cycle, stepsOf, same}
 use Rattle.complex.specs.Uses.{Passage, passages}
+use Rattle.store.specs.View.{widthSum}
 use Rattle.store.specs.Index.{Rising, valueAt}
 use Rattle.sound.specs.Rows.{Rows}
 
@@ -20,6 +21,13 @@ pub record Rowed (n : ℕ) (is ks ss es : List ℕ) : Type 0 where
   pub starts : length ss ≡ 256
   pub ends : length es ≡ 256
   pub rising : Rising (take n is)
+
+-- the first m cycles of the number arrays ns and st stand within them
+pub record Cycled (m : ℕ) (ns st : List ℕ) : Type 0 where
+  pub counts : length ns ≡ 512
+  pub steps : length st ≡ 2048
+  pub few : m ≤ 512
+  pub wide : widthSum (take m ns) ≤ 2048
 
 -- where the halfedge h begins; with ss and es exchanged, where it ends
 abbrev pub sideIn : List ℕ → List ℕ → List ℕ → Halfedge → ℕ

@@ -6,9 +6,9 @@ ghost use mathlib.Core.List.{map};
 ghost use Rattle.complex.specs.Lists.{any};
 ghost use Rattle.complex.specs.Cells.{stepsOf};
 ghost use Rattle.complex.specs.Uses.{passage, passages};
-ghost use Rattle.store.specs.View.{halfedgeOf, width, widthSum, cycleOf, cyclesFrom};
+ghost use Rattle.store.specs.View.{halfedgeOf, width, cycleOf, cyclesFrom};
 ghost use Rattle.sound.specs.Rows.{rowsOf};
-ghost use Rattle.ask_uncut_turns.specs.Turns.{Rowed, sideIn, leavesIn, turnsBack, turnsAt, turnsIn};
+ghost use Rattle.ask_uncut_turns.specs.Turns.{Rowed, Cycled, sideIn, leavesIn, turnsBack, turnsAt, turnsIn};
 
 // Whether one of two directions is backward and the other not.
 pub fn opposite(p: bool, q: bool) -> bool
@@ -173,10 +173,7 @@ pub fn turns(
     v: u32,
 ) -> bool
     requires { ⌜ Rowed n (now ids) (now kinds) (now starts) (now ends) ⌝ }
-    requires { ⌜ length (now cycles) ≡ 512 ⌝ }
-    requires { ⌜ length (now steps) ≡ 2048 ⌝ }
-    requires { ⌜ m ≤ 512 ⌝ }
-    requires { ⌜ widthSum (take m (now cycles)) ≤ 2048 ⌝ }
+    requires { ⌜ Cycled m (now cycles) (now steps) ⌝ }
     ensures { λ r. ⌜ r ≡ turnsIn (rowsOf n (now (ids .entry)) (now (kinds .entry)) (now (starts .entry)) (now (ends .entry))) whole v (cyclesFrom (take m (now (cycles .entry))) (now (steps .entry))) ⌝ }
 {
     let mut from: usize = 0;

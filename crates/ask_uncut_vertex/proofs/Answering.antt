@@ -1,5 +1,5 @@
 -- 0E at a vertex with two ends: its rows in an index, questions 7 and 8, what the results need. Assumes nothing.
-use Prim.Native.Nat.{ℕ, _+_, _-_, _<_, _≤_}
+use Prim.Native.Nat.{ℕ, _+_, _-_, _≤_}
 use native.Mathlib.Omega.{arith}
 use mathlib.Core.Path.{_≡_, refl, sym, ap, ap₂, _∙_, subst}
 use mathlib.Core.Bool.{Bool, true, false, _&&_, cond}
@@ -36,7 +36,7 @@ use Rattle.answer.specs.Late.{sizesBy, lateNo}
 use Rattle.answer.proofs.Laws.{summed, totalsIn}
 use Rattle.rows_gone.proofs.Dropped.{live-below, row-among, live-id}
 use Rattle.ask_cut_edge.specs.Cuts.{vertexPlace, noCell}
-use Rattle.ask_cut_edge.proofs.Found.{row-below, own-count, own-base, read-row}
+use Rattle.ask_cut_edge.proofs.Found.{own-count, own-base, read-row}
 use Rattle.ask_cut_edge.proofs.Opened.{vertex-place}
 use Rattle.ask_cut_edge.proofs.OpenAnswer.{uses-are}
 use Rattle.law_uncut.proofs.Passing.{uncut-passed, uncut-result}
@@ -192,9 +192,6 @@ module _ (d : Drawing) (z : Sizes d) (ix : Index) (v x : ℕ) (back1 : Bool) (y 
 
   at-vertex : isLive (cellAt (sheetOf d) v) ≡ true
   at-vertex = vertex-live (sheetOf d) (sound-in d (c .sound)) v (leaving x back1) (leaving y back2) joint-live
-
-  pub at-row : (a : ℕ) → a ≡ rowOf v (take (d .count) (ix .ids)) → a < 256
-  at-row a ea = row-below d z (c .sound) ix (c .indexes) v a ea at-vertex
 
   module _ (a : ℕ) (ea : a ≡ rowOf v (take (d .count) (ix .ids))) (p : Position) (ep : p ≡ vertexPlace (getD (d .cells) a noCell .shape)) (s t : Side)
       (es : Sided d x back1 s) (et : Sided d y back2 t)

@@ -27,7 +27,7 @@ use Rattle.rows_new.specs.Runs.{turn, runAt, runsOf}
 use Rattle.rows_new.specs.Requirements.{RunsRoom}
 use Rattle.rows_new.proofs.Rooms.{room-first}
 use Rattle.rows_new.proofs.Copied.{row-bends, row-range, row-lookup}
-use Rattle.ask_uncut_vertex.specs.Needs.{Pair, Triple, Looped, Merged}
+use Rattle.ask_uncut_vertex.specs.Needs.{Pair, Triple, Looped}
 
 figure-bends : (x : Figure) → figureBends x ≡ bendsOf (some x)
 figure-bends (vertex p) = refl
@@ -81,14 +81,6 @@ module _ (d : Drawing) (z : Sizes d) (v a e b : ℕ) (p : Position) (first m : �
       (closedEdge (q ∷ bendsOf (cellAt (sheetOf d) e)))) (sym (w .place))
 
 -- ---- two edges
-module _ (d : Drawing) (v a x b y c start end : ℕ) (r : Runs) (w : Merged d v a x b y c start end r)
-    (mid : Drawing) (zm : Sizes mid) (fm : Fits mid)
-    (eo : sheetOf mid ≡ remade (noneOf v x y) (rewired sameVertex (inOne x y (sheetOf d .next))) (sheetOf d)) where
-  pub merged-room : RunsRoom mid r (openEdge start end (runsOf (d .bends) r))
-  merged-room =
-      let t = openEdge start end (runsOf (d .bends) r) in
-      record { room = room-first mid zm fm t [] (subst (λ (s : Sheet). RoomIn s (t ∷ [])) (sym eo) (w .room)); range = w .range }
-
 turn-is : (b : Bool) (l : List Position) → turn b l ≡ cond b (reverse l) l
 turn-is true l = refl
 turn-is false l = refl

@@ -22,7 +22,8 @@ use Rattle.lent.specs.Replies.{Ready}
 use Rattle.lent.proofs.Replies.{drawing-of}
 use Rattle.lent_sound.specs.declared.Walked.{Walked}
 use Rattle.lent_sound.specs.declared.Walked.the-variants.{Sound, Fault}
-use Rattle.lent_sound.specs.Walk.{walkSays}
+use Rattle.lent_sound.specs.Walk.{walkRight, walkSays}
+use Rattle.lent_sound.proofs.Whole.{sound-walk}
 use Rattle.lent_row.proofs.Rows.{said-no, said-done}
 use Rattle.call_asked.specs.Entries.{EmptyIn, Begun, Asked, restOn, eulerOn}
 
@@ -59,11 +60,15 @@ begun a = numbers-empty a (a .next) (a .count)
 
 -- ---- question 1
 module _ (a : Arrays) where
-  pub asked-said : Lengths a → (r : Walked) → walkSays r ≡ cond (soundArrays a) (done (totalsOf a)) (no 1) → Asked a r
-  asked-said l (Sound t) e =
+  sound-said : Lengths a → (r : Walked) → walkSays r ≡ cond (soundArrays a) (done (totalsOf a)) (no 1) → Asked a r
+  sound-said l (Sound t) e =
       let p = said-done (soundArrays a) t (totalsOf a) e in
       record { sound = truth (p .0); long = l; sums = p .1 }
-  asked-said l Fault e = said-no (soundArrays a) (totalsOf a) e
+  sound-said l Fault e = said-no (soundArrays a) (totalsOf a) e
+
+  -- by the walk
+  pub asked-said : Lengths a → (r : Walked) → walkSays r ≡ cond (walkRight true a) (done (totalsOf a)) (no 1) → Asked a r
+  asked-said l r e = sound-said l r (e ∙ sym (ap (λ (b : Bool). cond b (done (totalsOf a)) (no 1)) (sound-walk a l)))
 
   pub asked-sums : (r : Walked) (t : Totals) → Asked a r → r ≡ Sound t → Ready a t
   asked-sums r t w e = subst (Asked a) e w
@@ -77,6 +82,13 @@ module _ (a : Arrays) where
 
   pub of-unsound : {A : Type 0} (x y : A) → soundArrays a ≡ false → y ≡ cond (soundArrays a) x y
   of-unsound {A} x y w = sym (ap (λ (b : Bool). cond b x y) w)
+
+  -- what a call gives after question 1
+  pub after-yes : {A : Type 0} (x y : A) (r : Walked) (t : Totals) → Asked a r → r ≡ Sound t → x ≡ cond (soundArrays a) x y
+  after-yes x y r t w e = of-sound x y (asked-sums r t w e .sound)
+
+  pub after-no : {A : Type 0} (x y : A) (r : Walked) → Asked a r → r ≡ Fault → y ≡ cond (soundArrays a) x y
+  after-no x y r w e = of-unsound x y (asked-no r w e)
 
   sheet-of : T (soundArrays a) → T (sound (sheetOf (heldBy a)))
   sheet-of w = sound-sheet (heldBy a) (drawing-of a w)

@@ -30,24 +30,8 @@ pub fn asked(
 ) -> Walked
     ensures { λ r. ⌜ Asked (entry next count ids kinds starts ends bends counts px py cycles steps bx by) r ⌝ }
 {
-    lent::known(
-        next,
-        count,
-        ids,
-        kinds,
-        starts,
-        ends,
-        bends,
-        counts,
-        px,
-        py,
-        cycles,
-        steps,
-        bx,
-        by,
-    );
     let mut table = [0u8; 1024];
-    lent_sound::sound(
+    lent_sound::walk(
         next,
         count,
         ids,
@@ -63,5 +47,6 @@ pub fn asked(
         bx,
         by,
         &mut table,
+        true,
     )
 }

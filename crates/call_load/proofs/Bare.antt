@@ -22,12 +22,14 @@ use Rattle.file_read.specs.Heads.{readHead, ReadAt}
 use Rattle.file_read.specs.Outcome.{CellsOver}
 use Rattle.kernel_add.specs.Comes.{BendsPut}
 use Rattle.kernel_add.proofs.Put.{put-none, put-more}
-use Rattle.lent.specs.Arrays.{Arrays, positionIn, positionsIn, heldBy, Lengths}
+use Rattle.lent.specs.Arrays.{Arrays, listed, positionIn, positionsIn, heldBy, Lengths}
+use Rattle.lent.specs.Growing.{RowPut}
+use Rattle.lent.proofs.Held.{numbered, numbered-long}
 use Rattle.call_load.specs.declared.Looked.{Looked}
 use Rattle.call_load.specs.declared.Looked.the-variants.{Bends, Refused}
-use Rattle.call_load.specs.Loads.{RowPut, PartsPut, CountsIn}
+use Rattle.call_load.specs.Loads.{PartsPut, CountsIn}
 use Rattle.call_load.specs.Bare.{BendsTaken, Stays, Kept, RowsHeld, RowsTold, RowsIn}
-use Rattle.call_load.proofs.Loads.{Rowed, listed, numbered, numbered-long, bends-after, rowed-start, rowed-next, rowed-given, rowed-total, sheet-in}
+use Rattle.call_load.proofs.Loads.{Rowed, bends-after, rowed-start, rowed-next, rowed-given, rowed-total, sheet-in}
 
 -- a test of all elements of two lists
 all-both : {A : Type 0} (p : A → Bool) (xs ys : List A) → all p xs && all p ys ≡ all p (xs ++ ys)

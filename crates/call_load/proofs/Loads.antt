@@ -36,13 +36,14 @@ use Rattle.file_read.proofs.Filled.{Filled, filled-start, filled-room, filled-t
 use Rattle.file_read.proofs.Verdict.{cells-read}
 use Rattle.kernel_add.specs.Comes.{BendsPut}
 use Rattle.sound.specs.Rows.{allFrom}
-use Rattle.lent.specs.Arrays.{Arrays, positionsIn, heldBy, normalAt, normal, Lengths}
-use Rattle.lent.proofs.Held.{held-sizes, positions-length as places-length}
+use Rattle.lent.specs.Arrays.{Arrays, listed, positionsIn, heldBy, normalAt, normal, Lengths}
+use Rattle.lent.specs.Growing.{acrossWith, upWith, RowPut}
+use Rattle.lent.proofs.Held.{held-sizes, numbered, numbered-long, positions-length as places-length}
+use Rattle.lent.proofs.Grown.{shape-long, shape-held, shape-normal}
 use Rattle.call_load.specs.declared.Counts.{Counts}
 use Rattle.call_load.specs.declared.Counts.the-variants.{From, Refused as Unread}
-use Rattle.call_load.specs.Loads.{acrossWith, upWith, RowPut, PartsPut, PartsStored, LoadRoom}
+use Rattle.call_load.specs.Loads.{PartsPut, PartsStored, LoadRoom}
 use Rattle.call_load.specs.Loads.{answerOf, CellsHeld, CountsIn, CountsRead, SheetIn}
-use Rattle.call_load.proofs.Rows.{shape-long, shape-held, shape-normal}
 
 -- ---- the bends and the cycles of a shape
 module _ (s : List ℕ) (first : ℕ) (x : Shape) (counts steps : List ℕ) (used : Used) (counts′ steps′ : List ℕ) where
@@ -83,27 +84,6 @@ pub record Rowed (s : List ℕ) (at n p : ℕ) (a : Arrays) (used : Used) : Type
   pub rows : normal a ≡ true
   pub long : Lengths a
 
--- the arrays of lists
-abbrev pub listed : ℕ → ℕ → List ℕ → List ℕ → List ℕ → List ℕ → List ℕ → List ℕ → List Float → List Float → List ℕ → List ℕ → List Float → List Float → Arrays
-listed next n is ks ss es bs cs px py cy st us vs =
-    record {
-      next = next;
-      count = n;
-      ids = is;
-      kinds = ks;
-      starts = ss;
-      ends = es;
-      bends = bs;
-      counts = cs;
-      px = px;
-      py = py;
-      cycles = cy;
-      steps = st;
-      bx =
-          us;
-      by = vs;
-    }
-
 -- the rows of a with the cell c more, and other arrays
 abbrev pub withHead : Arrays → Cell → List ℕ → List ℕ → List Float → List Float → Arrays
 withHead a c counts′ steps′ xs′ ys′ =
@@ -122,43 +102,6 @@ withHead a c counts′ steps′ xs′ ys′ =
       steps = steps′;
       bx = xs′;
       by = ys′;
-    }
-
--- a with the next id j and k cells
-abbrev pub numbered : Arrays → ℕ → ℕ → Arrays
-numbered a j k =
-    record {
-      next = j;
-      count = k;
-      ids = a .ids;
-      kinds = a .kinds;
-      starts = a .starts;
-      ends = a .ends;
-      bends = a .bends;
-      counts = a .counts;
-      px = a .px;
-      py = a .py;
-      cycles = a .cycles;
-      steps = a .steps;
-      bx = a .bx;
-      by = a .by;
-    }
-
-pub numbered-long : (a : Arrays) (j k : ℕ) → Lengths a → Lengths (numbered a j k)
-numbered-long a j k l =
-    record {
-      ids = l .ids;
-      kinds = l .kinds;
-      starts = l .starts;
-      ends = l .ends;
-      bends = l .bends;
-      counts = l .counts;
-      px = l .px;
-      py = l .py;
-      cycles = l .cycles;
-      steps = l .steps;
-      bx = l .bx;
-      by = l .by;
     }
 
 -- places of bytes put after those in use

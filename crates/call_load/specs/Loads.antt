@@ -3,8 +3,7 @@ use Prim.Native.Nat.{ℕ, _+_, _*_, _≤_}
 use mathlib.Core.Path.{_≡_}
 use mathlib.Core.Bool.{true}
 use mathlib.Core.List.{List, []}
-use lib.Ieee.{Float}
-use lib.ListN.{length, drop, set}
+use lib.ListN.{length, drop}
 use Rattle.number.specs.Readers.{Read, got, times}
 use Rattle.number.specs.Numbers.{readNumber}
 use Rattle.number.specs.Said.{Says}
@@ -13,8 +12,6 @@ use Rattle.complex.specs.Decode.{readCycle}
 use Rattle.complex.specs.Sound.{cellsMost, cyclesMost, stepsMost, bendsMost}
 use Rattle.complex.specs.File.{readSheet, readFile}
 use Rattle.store.specs.declared.Shape.{Shape}
-use Rattle.store.specs.declared.Shape.the-variants.{Vertex, Open, Closed, Face}
-use Rattle.store.specs.Index.{kindOf, shapeStart, shapeEnd}
 use Rattle.store.specs.View.{sheetOf, Fits, bendCount, cycleCount}
 use Rattle.file_read.specs.declared.ReadAnswer.{ReadAnswer}
 use Rattle.file_read.specs.declared.Used.{Used}
@@ -24,32 +21,6 @@ use Rattle.file_read.specs.Outcome.{CellsIn, refused}
 use Rattle.lent.specs.Arrays.{Arrays, heldBy, normal}
 use Rattle.call_load.specs.declared.Counts.{Counts}
 use Rattle.call_load.specs.declared.Counts.the-variants.{From, Refused as Unread}
-
--- ---- a row
--- the x's, and the y's, with the position of a vertex in a row; with another cell they stay
-abbrev pub acrossWith : List Float → ℕ → Shape → List Float
-acrossWith xs i (Vertex p) = set xs i (p .x)
-acrossWith xs i (Open s e n) = xs
-acrossWith xs i (Closed n) = xs
-acrossWith xs i (Face k) = xs
-
-abbrev pub upWith : List Float → ℕ → Shape → List Float
-upWith ys i (Vertex p) = set ys i (p .y)
-upWith ys i (Open s e n) = ys
-upWith ys i (Closed n) = ys
-upWith ys i (Face k) = ys
-
--- the id i and the shape x are written into a row: every number, and the position of a vertex
-pub record RowPut (row i : ℕ) (x : Shape) (is ks ss es bs cs : List ℕ) (xs ys : List Float)
-    (is′ ks′ ss′ es′ bs′ cs′ : List ℕ) (xs′ ys′ : List Float) : Type 0 where
-  pub ids : is′ ≡ set is row i
-  pub kinds : ks′ ≡ set ks row (kindOf x)
-  pub starts : ss′ ≡ set ss row (shapeStart x)
-  pub ends : es′ ≡ set es row (shapeEnd x)
-  pub bends : bs′ ≡ set bs row (bendCount x)
-  pub counts : cs′ ≡ set cs row (cycleCount x)
-  pub px : xs′ ≡ acrossWith xs row x
-  pub py : ys′ ≡ upWith ys row x
 
 -- ---- what follows the counts of a shape: its bends, then its cycles, which are put into arrays
 pub record PartsPut (s : List ℕ) (first : ℕ) (x : Shape) (counts steps : List ℕ) (used : Used) (counts′ steps′ : List ℕ) (next : ℕ)

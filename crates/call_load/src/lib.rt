@@ -5,13 +5,12 @@ ghost use Rattle.number.specs.Readers.{times};
 ghost use Rattle.bends.specs.Bends.{positionsAt};
 ghost use Rattle.complex.specs.Sound.{cellsMost, bendsMost};
 ghost use Rattle.complex.specs.File.{readCell};
-ghost use Rattle.call_load.specs.Loads.{RowPut, LoadRoom, PartsStored, CountsRead};
+ghost use Rattle.call_load.specs.Loads.{LoadRoom, PartsStored, CountsRead};
 ghost use Rattle.call_load.specs.Bare.{BendsTaken, Stays, exitWith, RowsTold, RowsLoaded};
 use file_read::CellFound;
 use file_read::Loaded;
 use file_read::Used;
 use number::Number;
-use store::Cell;
 use store::Shape;
 
 // The ceilings.
@@ -35,101 +34,6 @@ enum Counts {
 enum Looked {
     Bends(bool),
     Refused,
-}
-
-// A cell is written into a row: every number, and the position of a vertex.
-fn put_cell(
-    ids: &mut [u32; 256],
-    kinds: &mut [u32; 256],
-    starts: &mut [u32; 256],
-    ends: &mut [u32; 256],
-    bends: &mut [u32; 256],
-    counts: &mut [u32; 256],
-    px: &mut [f64; 256],
-    py: &mut [f64; 256],
-    row: usize,
-    c: Cell,
-)
-    requires { ⌜ row < cellsMost ⌝ }
-    ensures { λ _. ⌜ RowPut row (c .id) (c .shape) (now (ids .entry)) (now (kinds .entry)) (now (starts .entry)) (now (ends .entry)) (now (bends .entry)) (now (counts .entry)) (now (px .entry)) (now (py .entry)) (now (ids .exit)) (now (kinds .exit)) (now (starts .exit)) (now (ends .exit)) (now (bends .exit)) (now (counts .exit)) (now (px .exit)) (now (py .exit)) ⌝ }
-{
-    let id = c.id;
-    let s = c.shape;
-    match s {
-        Shape::Vertex(p) => {
-            lent::put_position(px, py, row, p);
-            lent::put_row(
-                ids,
-                kinds,
-                starts,
-                ends,
-                bends,
-                counts,
-                row,
-                id,
-                0,
-                0,
-                0,
-                0,
-                0,
-            );
-        }
-        Shape::Open {
-            start,
-            end,
-            bends: n,
-        } => {
-            lent::put_row(
-                ids,
-                kinds,
-                starts,
-                ends,
-                bends,
-                counts,
-                row,
-                id,
-                1,
-                start,
-                end,
-                n,
-                0,
-            );
-        }
-        Shape::Closed { bends: n } => {
-            lent::put_row(
-                ids,
-                kinds,
-                starts,
-                ends,
-                bends,
-                counts,
-                row,
-                id,
-                2,
-                0,
-                0,
-                n,
-                0,
-            );
-        }
-        Shape::Face { cycles: k } => {
-            lent::put_row(
-                ids,
-                kinds,
-                starts,
-                ends,
-                bends,
-                counts,
-                row,
-                id,
-                3,
-                0,
-                0,
-                0,
-                k,
-            );
-        }
-    }
 }
 
 // The cycles of a shape, from a place on where its bends stand before them. There must be room and bytes for both.
@@ -256,7 +160,7 @@ fn load_cells(
             keep,
             good,
         );
-        put_cell(ids, kinds, starts, ends, bends, counts, px, py, i, cell);
+        lent::put_cell(ids, kinds, starts, ends, bends, counts, px, py, i, cell);
         used = more;
         place = q;
         i = i + 1;

@@ -99,7 +99,7 @@ fn readable(bytes: &[u8], bx: &mut [f64; 2048], by: &mut [f64; 2048]) -> bool
     };
     if good {
         let mut table = [0u8; 1024];
-        return lent_sound::rows_sound(
+        let Walked::Sound(_) = lent_sound::walk(
             next,
             cells,
             &ids,
@@ -115,7 +115,11 @@ fn readable(bytes: &[u8], bx: &mut [f64; 2048], by: &mut [f64; 2048]) -> bool
             bx,
             by,
             &mut table,
-        );
+            false,
+        ) else {
+            return false;
+        };
+        return true;
     }
     false
 }

@@ -1,83 +1,15 @@
 ghost use mathlib.Core.Path.{_≡_};
-ghost use mathlib.Core.Bool.{true};
 ghost use Prim.Native.Nat.{_<_};
-ghost use lib.ListN.{length, set};
+ghost use lib.ListN.{length};
 ghost use Rattle.complex.specs.Sound.{cellsMost, bendsMost};
-ghost use Rattle.store.specs.View.{bendCount, cycleCount};
-ghost use Rattle.store.specs.Index.{kindOf, shapeStart, shapeEnd};
-ghost use Rattle.lent.specs.Arrays.{shapeBy, positionsIn, heldBy, normal, Lengths, lent, entry, exit};
+ghost use Rattle.lent.specs.Arrays.{positionsIn, heldBy, Lengths, lent, entry, exit};
 ghost use Rattle.call_cells.specs.Rows.{cellsIn};
 ghost use Rattle.door.specs.Apart.{Apart};
-ghost use Rattle.door.specs.Parts.{placedX, placedY, AllRows};
+ghost use Rattle.door.specs.Parts.{AllRows};
 use coordinate::Position;
 use store::Cell;
 use store::Drawing;
 use store::Shape;
-
-// A vertex's position is written into a row; another shape has none.
-fn place_shape(px: &mut [f64; 256], py: &mut [f64; 256], row: usize, s: Shape)
-    requires { ⌜ row < cellsMost ⌝ }
-    ensures { λ _. ⌜ now (px .exit) ≡ placedX s (now (px .entry)) row ⌝ }
-    ensures { λ _. ⌜ now (py .exit) ≡ placedY s (now (py .entry)) row ⌝ }
-{
-    match s {
-        Shape::Vertex(p) => lent::put_position(px, py, row, p),
-        Shape::Open {
-            start: _,
-            end: _,
-            bends: _,
-        } => {}
-        Shape::Closed { bends: _ } => {}
-        Shape::Face { cycles: _ } => {}
-    }
-}
-
-// A cell is written into a row.
-fn put_cell(
-    ids: &mut [u32; 256],
-    kinds: &mut [u32; 256],
-    starts: &mut [u32; 256],
-    ends: &mut [u32; 256],
-    bends: &mut [u32; 256],
-    counts: &mut [u32; 256],
-    px: &mut [f64; 256],
-    py: &mut [f64; 256],
-    row: usize,
-    c: Cell,
-)
-    requires { ⌜ row < cellsMost ⌝ }
-    ensures { λ _. ⌜ now (ids .exit) ≡ set (now (ids .entry)) row (c .id) ⌝ }
-    ensures { λ _. ⌜ now (kinds .exit) ≡ set (now (kinds .entry)) row (kindOf (c .shape)) ⌝ }
-    ensures { λ _. ⌜ now (starts .exit) ≡ set (now (starts .entry)) row (shapeStart (c .shape)) ⌝ }
-    ensures { λ _. ⌜ now (ends .exit) ≡ set (now (ends .entry)) row (shapeEnd (c .shape)) ⌝ }
-    ensures { λ _. ⌜ now (bends .exit) ≡ set (now (bends .entry)) row (bendCount (c .shape)) ⌝ }
-    ensures { λ _. ⌜ now (counts .exit) ≡ set (now (counts .entry)) row (cycleCount (c .shape)) ⌝ }
-    ensures { λ _. ⌜ now (px .exit) ≡ placedX (c .shape) (now (px .entry)) row ⌝ }
-    ensures { λ _. ⌜ now (py .exit) ≡ placedY (c .shape) (now (py .entry)) row ⌝ }
-{
-    let s = c.shape;
-    let k = store::kind_of(s);
-    let a = store::start_of(s);
-    let e = store::end_of(s);
-    let b = store::bend_count(s);
-    let f = store::cycle_count(s);
-    lent::put_row(
-        ids,
-        kinds,
-        starts,
-        ends,
-        bends,
-        counts,
-        row,
-        c.id,
-        k,
-        a,
-        e,
-        b,
-        f,
-    );
-    place_shape(px, py, row, s);
-}
 
 // All cells are written, a row each.
 fn put_cells(
@@ -102,7 +34,7 @@ fn put_cells(
     let mut i: usize = 0;
     while i < 256 {
         let c = cells[i];
-        put_cell(ids, kinds, starts, ends, bends, counts, px, py, i, c);
+        lent::put_cell(ids, kinds, starts, ends, bends, counts, px, py, i, c);
         i = i + 1;
     }
 }
@@ -241,22 +173,9 @@ pub fn put_together(
 ) -> Drawing
     ensures { λ r. ⌜ r ≡ heldBy (entry next count ids kinds starts ends bends counts px py cycles steps bx by) ⌝ }
 {
-    lent::known(
-        next,
-        count,
-        ids,
-        kinds,
-        starts,
-        ends,
-        bends,
-        counts,
-        px,
-        py,
-        cycles,
-        steps,
-        bx,
-        by,
-    );
+    lengths::rows_long(ids);
+    lengths::bends_long(bx);
+    lengths::bends_long(by);
     let rows = cells_of(ids, kinds, starts, ends, bends, counts, px, py);
     let places = bends_of(bx, by);
     let ks = *cycles;

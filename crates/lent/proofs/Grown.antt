@@ -1,34 +1,33 @@
 -- Cells that come, in the row after the last. Assumes nothing.
-use Prim.Native.Nat.{ℕ, suc, _+_, _-_, _<_, _≤_}
+use Prim.Native.Nat.{ℕ, _+_, _-_, _<_}
 use native.Mathlib.Omega.{arith}
 use native.Mathlib.Numerals.{add-one}
-use mathlib.Core.Path.{_≡_, refl, sym, ap, ap₂, _∙_, subst}
-use mathlib.Core.Bool.{Bool, true, false, cond}
-use mathlib.Core.List.{List, [], _∷_, _++_, map}
+use mathlib.Core.Path.{_≡_, refl, sym, ap, _∙_, subst}
+use mathlib.Core.Bool.{Bool, true, false}
+use mathlib.Core.List.{List, [], _∷_, _++_}
 use lib.Ieee.{Float}
 use lib.Dec.{eqb}
-use lib.ListN.{length, getD, set, take, length-set, length-map}
+use lib.ListN.{length, getD, set, take, length-set}
 use lib.Seq.{getD-set-same, getD-set-other, take-suc-set, take-add}
 use borrow.Author.Tests.{eqb-true, eqb-false}
 use Rattle.coordinate.specs.declared.Position.{Position}
-use Rattle.number.specs.Readers.{spread}
 use Rattle.complex.specs.Lists.{total}
-use Rattle.complex.specs.Cells.{Cycle, Figure, vertex, openEdge, closedEdge, face}
+use Rattle.complex.specs.Cells.{Figure, vertex, openEdge, closedEdge}
 use Rattle.store.specs.declared.Shape.{Shape}
 use Rattle.store.specs.declared.Shape.the-variants.{Vertex, Open, Closed, Face}
 use Rattle.store.specs.declared.Cell.{Cell}
 use Rattle.store.specs.declared.Drawing.{Drawing}
-use Rattle.store.specs.View.{sheetOf, Fits, bendTotal, bendCount, cycleTotal, cycleCount, stepTotal}
+use Rattle.store.specs.Index.{kindOf, shapeStart, shapeEnd}
+use Rattle.store.specs.View.{sheetOf, Fits, bendTotal, bendCount, cycleTotal, cycleCount}
 use Rattle.store.specs.Sizes.{Sizes}
-use Rattle.store.specs.Sheet.{allReal}
-use Rattle.store.specs.Places.{shapeOf, figureCycles, figureBends, numOf, cycleWords}
+use Rattle.store.specs.Places.{shapeOf, figureCycles, figureBends}
 use Rattle.store.specs.Edits.{withCells, appended}
-use Rattle.store.proofs.Grow.{append, append-edge, no-more}
+use Rattle.store.proofs.Grow.{append-edge}
 use Rattle.store.proofs.Lists.{sum-append}
 use Rattle.rows_new.specs.Appends.{withCell, CellRoom}
 use Rattle.rows_new.specs.Runs.{runAt}
 use Rattle.lent.specs.Arrays.{Arrays, shapeBy, shapeAt, positionIn, positionsIn, heldBy, rowNormal, normalAt, normal, Lengths}
-use Rattle.lent.specs.Growing.{withRow, withVertex, withOpen, withClosed, withFace}
+use Rattle.lent.specs.Growing.{withRow, withVertex, withOpen, withClosed, withFace, acrossWith, upWith, RowPut, withShape}
 use Rattle.lent.proofs.Held.{held-sizes, cells-set, all-at, all-intro, place-other, place-same}
 
 -- ---- a cell more has its own bends and cycles more
@@ -133,6 +132,18 @@ module _ (a : Arrays) (l : Lengths a) (k s e b c : ℕ) (xs ys : List Float) whe
                 below : (x y : ℕ) → (x ≡ y → ⊥) → x < y + 1 → x < y
                 below x y z u = omega (arith, z, u)
 
+-- ---- a cell without cycles: its k bends are those that stand after those in use
+plain-comes : (a : Arrays) → Lengths a → (x : Figure) (k : ℕ) (b : Arrays) → CellRoom (heldBy a) x → figureCycles x ≡ [] → length (figureBends x) ≡ k
+    → runAt (bendTotal (heldBy a)) k (positionsIn (a .bx) (a .by)) ≡ figureBends x → heldBy b ≡ withCell (heldBy a) (shapeOf x)
+    → (sheetOf (heldBy b) ≡ appended (sheetOf (heldBy a)) x) × Fits (heldBy b)
+plain-comes a l x k b m n lk eb q =
+    let d = heldBy a in
+    let z = held-sizes a l in
+    let u = ap (λ (i : ℕ). take (bendTotal d + i) (d .bends)) lk ∙ take-add (bendTotal d) k (d .bends)
+    ∙ ap (λ (r : List Position). take (bendTotal d) (d .bends) ++ r) eb in
+    let g = append-edge d z (m .fits) (m .cells) x (d .bends) n (z .bends) (m .bends) u in
+    (ap sheetOf q ∙ g .0, subst Fits (sym q) (g .1))
+
 -- ---- a vertex
 module _ (a : Arrays) (l : Lengths a) (p : Position) where
   pub vertex-long : Lengths (withVertex a p)
@@ -152,25 +163,11 @@ module _ (a : Arrays) (l : Lengths a) (p : Position) where
     pub vertex-bends : bendTotal (heldBy (withVertex a p)) ≡ bendTotal (heldBy a)
     vertex-bends = ap bendTotal vertex-held ∙ bend-more (heldBy a) (held-sizes a l) h (Vertex p) ∙ omega arith
 
-    pub vertex-cycles : cycleTotal (heldBy (withVertex a p)) ≡ cycleTotal (heldBy a)
-    vertex-cycles = ap cycleTotal vertex-held ∙ cycle-more (heldBy a) (held-sizes a l) h (Vertex p) ∙ omega arith
-
   pub vertex-comes : CellRoom (heldBy a) (vertex p) → (sheetOf (heldBy (withVertex a p)) ≡ appended (sheetOf (heldBy a)) (vertex p))
       × Fits (heldBy (withVertex a p))
-  vertex-comes m =
-      let d = heldBy a in
-      let s = held-sizes a l in
-      let g = append-edge d s (m .fits) (m .cells) (vertex p) (d .bends) refl (s .bends) (m .bends) (no-more (d .bends) (bendTotal d)) in
-      let e = vertex-held (m .cells) in
-      (ap sheetOf e ∙ g .0, subst Fits (sym e) (g .1))
+  vertex-comes m = plain-comes a l (vertex p) 0 (withVertex a p) m refl refl refl (vertex-held (m .cells))
 
--- ---- an edge: its k bends are those that stand after those in use
-after-use : (d : Drawing) (bs : List Position) (k : ℕ) → length bs ≡ k → runAt (bendTotal d) k (d .bends) ≡ bs
-    → take (bendTotal d + length bs) (d .bends) ≡ take (bendTotal d) (d .bends) ++ bs
-after-use d bs k lk eb =
-    ap (λ (n : ℕ). take (bendTotal d + n) (d .bends)) lk ∙ take-add (bendTotal d) k (d .bends)
-    ∙ ap (λ (q : List Position). take (bendTotal d) (d .bends) ++ q) eb
-
+-- ---- an open edge
 module _ (a : Arrays) (l : Lengths a) (s e k : ℕ) where
   pub open-long : Lengths (withOpen a s e k)
   open-long = row-long a l 1 s e k 0 (a .px) (a .py) (l .px) (l .py)
@@ -192,25 +189,28 @@ module _ (a : Arrays) (l : Lengths a) (s e k : ℕ) where
       → runAt (bendTotal (heldBy a)) k (positionsIn (a .bx) (a .by)) ≡ bs
       → (sheetOf (heldBy (withOpen a s e k)) ≡ appended (sheetOf (heldBy a)) (openEdge s e bs)) × Fits (heldBy (withOpen a s e k))
   open-comes bs m lk eb =
-      let d = heldBy a in
-      let z = held-sizes a l in
-      let g = append-edge d z (m .fits) (m .cells) (openEdge s e bs) (d .bends) refl (z .bends) (m .bends) (after-use d bs k lk eb) in
-      let q : heldBy (withOpen a s e k) ≡ withCell d (Open s e (length bs)) = open-held (m .cells) ∙ ap (λ (n : ℕ). withCell d (Open s e n)) (sym lk) in
-      (ap sheetOf q ∙ g .0, subst Fits (sym q) (g .1))
+      plain-comes a l (openEdge s e bs) k (withOpen a s e k) m refl lk eb (open-held (m .cells) ∙ ap (λ (n : ℕ). withCell (heldBy a) (Open s e n)) (sym lk))
 
+-- ---- a closed edge of k bends; a face of the k cycles that stand after those in use, their steps after the steps in use
 module _ (a : Arrays) (l : Lengths a) (k : ℕ) where
   pub closed-long : Lengths (withClosed a k)
   closed-long = row-long a l 2 0 0 k 0 (a .px) (a .py) (l .px) (l .py)
+
+  pub face-long : Lengths (withFace a k)
+  face-long = row-long a l 3 0 0 0 k (a .px) (a .py) (l .px) (l .py)
 
   module _ (h : a .count < 256) where
     pub closed-held : heldBy (withClosed a k) ≡ withCell (heldBy a) (Closed k)
     closed-held = row-held a l 2 0 0 k 0 (a .px) (a .py) h (λ j n. refl)
 
+    pub face-held : heldBy (withFace a k) ≡ withCell (heldBy a) (Face k)
+    face-held = row-held a l 3 0 0 0 k (a .px) (a .py) h (λ j n. refl)
+
     pub closed-normal : normal a ≡ true → normal (withClosed a k) ≡ true
     closed-normal m = row-normal a l 2 0 0 k 0 (a .px) (a .py) h refl m
 
-    pub closed-bends : bendTotal (heldBy (withClosed a k)) ≡ bendTotal (heldBy a) + k
-    closed-bends = ap bendTotal closed-held ∙ bend-more (heldBy a) (held-sizes a l) h (Closed k)
+    pub face-normal : normal a ≡ true → normal (withFace a k) ≡ true
+    face-normal m = row-normal a l 3 0 0 0 k (a .px) (a .py) h refl m
 
     pub closed-cycles : cycleTotal (heldBy (withClosed a k)) ≡ cycleTotal (heldBy a)
     closed-cycles = ap cycleTotal closed-held ∙ cycle-more (heldBy a) (held-sizes a l) h (Closed k) ∙ omega arith
@@ -219,46 +219,35 @@ module _ (a : Arrays) (l : Lengths a) (k : ℕ) where
       → runAt (bendTotal (heldBy a)) k (positionsIn (a .bx) (a .by)) ≡ bs
       → (sheetOf (heldBy (withClosed a k)) ≡ appended (sheetOf (heldBy a)) (closedEdge bs)) × Fits (heldBy (withClosed a k))
   closed-comes bs m lk eb =
-      let d = heldBy a in
-      let z = held-sizes a l in
-      let g = append-edge d z (m .fits) (m .cells) (closedEdge bs) (d .bends) refl (z .bends) (m .bends) (after-use d bs k lk eb) in
-      let q : heldBy (withClosed a k) ≡ withCell d (Closed (length bs)) = closed-held (m .cells) ∙ ap (λ (n : ℕ). withCell d (Closed n)) (sym lk) in
-      (ap sheetOf q ∙ g .0, subst Fits (sym q) (g .1))
+      plain-comes a l (closedEdge bs) k (withClosed a k) m refl lk eb (closed-held (m .cells) ∙ ap (λ (n : ℕ). withCell (heldBy a) (Closed n)) (sym lk))
 
--- ---- a face: its k cycles are those that stand after those in use, and their steps after the steps in use
-module _ (a : Arrays) (l : Lengths a) (k : ℕ) where
-  pub face-long : Lengths (withFace a k)
-  face-long = row-long a l 3 0 0 0 k (a .px) (a .py) (l .px) (l .py)
+-- ---- a cell of whatever shape
+module _ (a : Arrays) (l : Lengths a) where
+  pub shape-long : (x : Shape) → Lengths (withShape a x)
+  shape-long (Vertex p) = vertex-long a l p
+  shape-long (Open s e n) = open-long a l s e n
+  shape-long (Closed n) = closed-long a l n
+  shape-long (Face k) = face-long a l k
 
   module _ (h : a .count < 256) where
-    pub face-held : heldBy (withFace a k) ≡ withCell (heldBy a) (Face k)
-    face-held = row-held a l 3 0 0 0 k (a .px) (a .py) h (λ j n. refl)
+    pub shape-held : (x : Shape) → heldBy (withShape a x) ≡ withCell (heldBy a) x
+    shape-held (Vertex p) = vertex-held a l p h
+    shape-held (Open s e n) = open-held a l s e n h
+    shape-held (Closed n) = closed-held a l n h
+    shape-held (Face k) = face-held a l k h
 
-    pub face-normal : normal a ≡ true → normal (withFace a k) ≡ true
-    face-normal m = row-normal a l 3 0 0 0 k (a .px) (a .py) h refl m
+    pub shape-normal : normal a ≡ true → (x : Shape) → normal (withShape a x) ≡ true
+    shape-normal m (Vertex p) = vertex-normal a l p h m
+    shape-normal m (Open s e n) = open-normal a l s e n h m
+    shape-normal m (Closed n) = closed-normal a l n h m
+    shape-normal m (Face k) = face-normal a l k h m
 
-    pub face-bends : bendTotal (heldBy (withFace a k)) ≡ bendTotal (heldBy a)
-    face-bends = ap bendTotal face-held ∙ bend-more (heldBy a) (held-sizes a l) h (Face k) ∙ omega arith
-
-    pub face-cycles : cycleTotal (heldBy (withFace a k)) ≡ cycleTotal (heldBy a) + k
-    face-cycles = ap cycleTotal face-held ∙ cycle-more (heldBy a) (held-sizes a l) h (Face k)
-
-  pub face-comes : (ks : List Cycle) → CellRoom (heldBy a) (face ks) → length ks ≡ k → allReal ks ≡ true
-      → runAt (cycleTotal (heldBy a)) k (a .cycles) ≡ map numOf ks
-      → (w : ℕ) → length (spread cycleWords ks) ≡ w → runAt (stepTotal (heldBy a)) w (a .steps) ≡ spread cycleWords ks
-      → (sheetOf (heldBy (withFace a k)) ≡ appended (sheetOf (heldBy a)) (face ks)) × Fits (heldBy (withFace a k))
-  face-comes ks m lk re ek w lw es =
-      let d = heldBy a in
-      let z = held-sizes a l in
-      let ln = length-map ks numOf in
-      let u : take (cycleTotal d + length (map numOf ks)) (d .cycles) ≡ take (cycleTotal d) (d .cycles) ++ map numOf ks =
-      ap (λ (n : ℕ). take (cycleTotal d + n) (d .cycles)) (ln ∙ lk) ∙ take-add (cycleTotal d) k (d .cycles)
-      ∙ ap (λ (q : List ℕ). take (cycleTotal d) (d .cycles) ++ q) ek in
-      let v : take (stepTotal d + length (spread cycleWords ks)) (d .steps) ≡ take (stepTotal d) (d .steps) ++ spread cycleWords ks =
-      ap (λ (n : ℕ). take (stepTotal d + n) (d .steps)) lw ∙ take-add (stepTotal d) w (d .steps) ∙ ap (λ (q : List ℕ). take (stepTotal d) (d .steps) ++ q) es in
-      let g =
-      append d z (m .fits) (m .cells) (face ks) (d .cycles) (d .steps) (d .bends)
-      (record { cells = length-set (d .cells) (d .count) _ ∙ z .cells; cycles = z .cycles; steps = z .steps; bends = z .bends })
-      (omega (arith, m .cycles, ln)) u (m .steps) v (m .bends) (no-more (d .bends) (bendTotal d)) re in
-      let q : heldBy (withFace a k) ≡ withCell d (Face (length ks)) = face-held (m .cells) ∙ ap (λ (n : ℕ). withCell d (Face n)) (sym lk) in
-      (ap sheetOf q ∙ g .0, subst Fits (sym q) (g .1))
+-- ---- a row that is written, of the shape y that x is
+module _ (row i : ℕ) (x y : Shape) (e : x ≡ y) (is ks ss es bs cs : List ℕ) (xs ys : List Float) (is′ ks′ ss′ es′ bs′ cs′ : List ℕ) (xs′ ys′ : List Float)
+  where
+    pub row-as : is′ ≡ set is row i → ks′ ≡ set ks row (kindOf y) → ss′ ≡ set ss row (shapeStart y) → es′ ≡ set es row (shapeEnd y)
+        → bs′ ≡ set bs row (bendCount y) → cs′ ≡ set cs row (cycleCount y)
+        → xs′ ≡ acrossWith xs row y → ys′ ≡ upWith ys row y → RowPut row i x is ks ss es bs cs xs ys is′ ks′ ss′ es′ bs′ cs′ xs′ ys′
+    row-as e0 e1 e2 e3 e4 e5 e6 e7 =
+        subst (λ (z : Shape). RowPut row i z is ks ss es bs cs xs ys is′ ks′ ss′ es′ bs′ cs′ xs′ ys′) (sym e)
+        (record { ids = e0; kinds = e1; starts = e2; ends = e3; bends = e4; counts = e5; px = e6; py = e7 })

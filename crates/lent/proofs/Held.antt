@@ -19,7 +19,7 @@ use Rattle.store.specs.Index.{Indexes, kindOf, shapeStart, shapeEnd}
 use Rattle.store.specs.Sizes.{Sizes}
 use Rattle.sound.specs.Rows.{allFrom}
 use Rattle.sound.proofs.Testing.{shifted}
-use Rattle.lent.specs.Arrays.{Arrays, shapeBy, shapeAt, positionIn, positionsIn, cellsBy, heldBy, rowsBy, rowNormal, normalAt, normal, Lengths}
+use Rattle.lent.specs.Arrays.{Arrays, listed, shapeBy, shapeAt, positionIn, positionsIn, cellsBy, heldBy, rowsBy, rowNormal, normalAt, normal, Lengths}
 
 -- ---- tests of rows
 pub and-first : (a b : Bool) → a && b ≡ true → a ≡ true
@@ -131,40 +131,24 @@ pub record Told (k s e b c : ℕ) (x : Shape) : Type 0 where
 zero-is : (n : ℕ) → eqb n 0 ≡ true → 0 ≡ n
 zero-is n h = sym (eqb-true n 0 h)
 
+-- no start and no end
+unended : (s e : ℕ) (r : Bool) → eqb s 0 && (eqb e 0 && r) ≡ true → (0 ≡ s) × (0 ≡ e) × (r ≡ true)
+unended s e r h =
+    let g = and-second (eqb s 0) (eqb e 0 && r) h in
+    (zero-is s (and-first (eqb s 0) (eqb e 0 && r) h), zero-is e (and-first (eqb e 0) r g), and-second (eqb e 0) r g)
+
 pub row-told : (k s e b c : ℕ) (p : Position) → rowNormal k s e b c ≡ true → Told k s e b c (shapeBy k s e b c p)
 row-told zero s e b c p h =
-    let h1 = and-second (eqb s 0) _ h in
-    let h2 = and-second (eqb e 0) _ h1 in
-    record {
-      kind = refl;
-      start = zero-is s (and-first (eqb s 0) _ h);
-      end = zero-is e (and-first (eqb e 0) _ h1);
-      bends = zero-is b (and-first
-          (eqb b 0) _ h2);
-      cycles = zero-is c (and-second (eqb b 0) _ h2);
-    }
+    let u = unended s e (eqb b 0 && eqb c 0) h in
+    let nb = and-first (eqb b 0) (eqb c 0) (u .2) in
+    record { kind = refl; start = u .0; end = u .1; bends = zero-is b nb; cycles = zero-is c (and-second (eqb b 0) (eqb c 0) (u .2)) }
 row-told (suc zero) s e b c p h = record { kind = refl; start = refl; end = refl; bends = refl; cycles = zero-is c h }
 row-told (suc (suc zero)) s e b c p h =
-    let h1 = and-second (eqb s 0) _ h in
-    record {
-      kind = refl;
-      start = zero-is s (and-first (eqb s 0) _ h);
-      end = zero-is e (and-first (eqb e 0) _ h1);
-      bends = refl;
-      cycles = zero-is c (and-second
-          (eqb e 0) _ h1);
-    }
+    let u = unended s e (eqb c 0) h in
+    record { kind = refl; start = u .0; end = u .1; bends = refl; cycles = zero-is c (u .2) }
 row-told (suc (suc (suc zero))) s e b c p h =
-    let h1 = and-second (eqb s 0) _ h in
-    let h2 = and-second (eqb e 0) _ h1 in
-    record {
-      kind = refl;
-      start = zero-is s (and-first (eqb s 0) _ h);
-      end = zero-is e (and-first (eqb e 0) _ h1);
-      bends = zero-is b (and-first
-          (eqb b 0) _ h2);
-      cycles = refl;
-    }
+    let u = unended s e (eqb b 0 && true) h in
+    record { kind = refl; start = u .0; end = u .1; bends = zero-is b (and-first (eqb b 0) true (u .2)); cycles = refl }
 row-told (suc (suc (suc (suc k)))) s e b c p h =
     let m = suc (suc (suc (suc k))) in
     let g : (eqb s 0 && (eqb e 0 && (eqb b 0 && false))) ≡ true =
@@ -173,6 +157,28 @@ row-told (suc (suc (suc (suc k)))) s e b c p h =
     let h3 : false ≡ true = and-second (eqb b 0) _ (and-second (eqb e 0) _ (and-second (eqb s 0) _ g)) in
     let z : _≡_ {A = ℕ} 0 1 = cc in
     absurd (omega arith)
+
+-- ---- another next id, and another number of rows, change nothing else
+abbrev pub numbered : Arrays → ℕ → ℕ → Arrays
+numbered a x n =
+    listed x n (a .ids) (a .kinds) (a .starts) (a .ends) (a .bends) (a .counts) (a .px) (a .py) (a .cycles) (a .steps) (a .bx) (a .by)
+
+pub numbered-long : (a : Arrays) (x n : ℕ) → Lengths a → Lengths (numbered a x n)
+numbered-long a x n l =
+    record {
+      ids = l .ids;
+      kinds = l .kinds;
+      starts = l .starts;
+      ends = l .ends;
+      bends = l .bends;
+      counts = l .counts;
+      px = l .px;
+      py = l .py;
+      cycles = l .cycles;
+      steps = l .steps;
+      bx = l .bx;
+      by = l .by;
+    }
 
 -- ---- the whole
 module _ (a : Arrays) (l : Lengths a) where

@@ -1,26 +1,25 @@
 -- From a kind's answer on sound arrays to the entry's. Assumes nothing.
 use Prim.Native.Nat.{ℕ}
 use mathlib.Core.Path.{_≡_, refl, sym, ap, _∙_, subst}
-use mathlib.Core.Bool.{Bool, true, false, _&&_, cond}
+use mathlib.Core.Bool.{Bool, true, _&&_, cond}
 use lib.Dec.{T, leb, le→leb}
 use Rattle.complex.specs.Cells.{Sheet}
 use Rattle.complex.specs.Sound.{sound, cellsMost, cyclesMost, stepsMost, bendsMost}
 use Rattle.complex.specs.Decode.{Command}
 use Rattle.complex.specs.Answer.{Answer as Said, no, asked3}
-use Rattle.complex.proofs.Bools.{truth, true-of, false-not, pair}
+use Rattle.complex.proofs.Bools.{truth, true-of, pair}
 use Rattle.complex.proofs.Keep.{sound-parts, parts-sound}
-use Rattle.complex.proofs.Obey.{Asked, asked, refusal, passed}
+use Rattle.complex.proofs.Obey.{asked, refusal, passed}
 use Rattle.complex.proofs.Demand.{keeps}
 use Rattle.store.specs.declared.Drawing.{Drawing}
 use Rattle.store.specs.View.{sheetOf, Fits, bendTotal, cycleTotal, stepTotal}
 use Rattle.sound.specs.Soundness.{sumsFit, fitsIn, soundDrawing}
 use Rattle.sound.proofs.Meaning.{sound-fits, sound-sheet}
-use Rattle.answer.specs.Answers.{saidBy}
 use Rattle.answer.proofs.Laws.{answers-no}
 use Rattle.lent.specs.Arrays.{Arrays, heldBy, normal, soundArrays}
 use Rattle.lent.proofs.Held.{and-first, and-second}
 use Rattle.lent.specs.declared.Line.{Line}
-use Rattle.lent.specs.Replies.{lineOf, answerBy, replyOn, Replied, Obeyed}
+use Rattle.lent.specs.Replies.{lineOf, answerBy, Replied, Obeyed}
 
 fits-in : (d : Drawing) → Fits d → T (fitsIn d)
 fits-in d f =
@@ -51,16 +50,6 @@ module _ (a : Arrays) where
         answers = answers-no (heldBy a) (sound-fits (heldBy a) (drawing-of w)) c n (answerBy l (heldBy a)) (ap (λ (k : Line). answerBy k (heldBy a)) e) q;
         back = λ z. refl;
         rows = rows-of w;
-      }
-
-  -- 1
-  pub replied-unsound : soundArrays a ≡ false → (c : Command) (l : Line) → l ≡ lineOf 1 → Replied a c a l
-  replied-unsound w c l e =
-      record {
-        said = ap (λ (k : Line). saidBy (answerBy k (heldBy a))) e
-            ∙ sym (ap (λ (b : Bool). cond b (asked3 (sheetOf (heldBy a)) c) (no 1 (sheetOf (heldBy a)))) w);
-        back = λ z. refl;
-        sound = λ t. absurd (false-not w t);
       }
 
   pub replied-obeyed : soundArrays a ≡ true → (c : Command) (b : Arrays) (l : Line) → Obeyed a c b l → Replied a c b l

@@ -7,7 +7,6 @@ use lib.ListN.{take}
 use Rattle.complex.specs.Lists.{total}
 use Rattle.complex.specs.Decode.{Command}
 use Rattle.complex.specs.Answer.{no, asked3}
-use Rattle.answer.specs.Sizes.{sizesOf}
 use Rattle.complex.specs.Sound.{sound}
 use Rattle.store.specs.declared.Cell.{Cell}
 use Rattle.store.specs.Sizes.{Sizes}
@@ -19,8 +18,8 @@ use Rattle.sound.specs.Soundness.{soundDrawing}
 use Rattle.sound.specs.Looks.{Looks}
 use Rattle.sound.proofs.Meaning.{sound-fits, sound-sheet, looks}
 use Rattle.answer.specs.declared.Totals.{Totals}
-use Rattle.answer.specs.Late.{sizesBy, Small, Summed}
-use Rattle.answer.proofs.Laws.{summed, totalsIn, totals-are, totals-small}
+use Rattle.answer.specs.Late.{Small, Summed}
+use Rattle.answer.proofs.Laws.{summed, totalsIn, totals-small}
 use Rattle.lent.specs.Arrays.{Arrays, heldBy, rowsBy, normal, totalsOf, Lengths}
 use Rattle.lent.specs.declared.Line.{Line}
 use Rattle.lent.specs.Replies.{lineOf, Ready, Obeyed}
@@ -79,9 +78,6 @@ module _ (a : Arrays) (t : Totals) (r : Ready a t) where
   -- the sums as the by-value laws name them
   pub ready-totals : t ≡ totalsIn (heldBy a) ready-sizes ready-fits (rowsBy a) ready-indexes
   ready-totals = r .sums
-
-  pub ready-are : sizesBy t ≡ sizesOf (sheetOf (heldBy a) .cells)
-  ready-are = ap sizesBy (r .sums) ∙ totals-are (heldBy a) ready-sizes ready-fits (rowsBy a) ready-indexes
 
   pub ready-small : Small t
   ready-small = subst Small (sym (r .sums)) (totals-small (heldBy a) ready-sizes ready-fits (rowsBy a) ready-indexes)

@@ -38,6 +38,26 @@ pub record Arrays : Type 0 where
   pub bx : List Float
   pub by : List Float
 
+-- the arrays of lists
+abbrev pub listed : ℕ → ℕ → List ℕ → List ℕ → List ℕ → List ℕ → List ℕ → List ℕ → List Float → List Float → List ℕ → List ℕ → List Float → List Float → Arrays
+listed next n is ks ss es bs cs px py cy st bx by =
+    record {
+      next = next;
+      count = n;
+      ids = is;
+      kinds = ks;
+      starts = ss;
+      ends = es;
+      bends = bs;
+      counts = cs;
+      px = px;
+      py = py;
+      cycles = cy;
+      steps = st;
+      bx = bx;
+      by = by;
+    }
+
 -- ---- the drawing
 -- the shape in a row: its kind, start, end, bends, cycles and position
 abbrev pub shapeBy : ℕ → ℕ → ℕ → ℕ → ℕ → Position → Shape
@@ -132,22 +152,7 @@ abbrev pub lent : ℕ → ℕ
     → RefT (List ℕ) → RefT (List ℕ) → RefT (List ℕ) → RefT (List ℕ) → RefT (List ℕ) → RefT (List ℕ)
     → RefT (List Float) → RefT (List Float) → RefT (List ℕ) → RefT (List ℕ) → RefT (List Float) → RefT (List Float) → Arrays
 lent next n is ks ss es bs cs px py cy st bx by =
-    record {
-      next = next;
-      count = n;
-      ids = is .now;
-      kinds = ks .now;
-      starts = ss .now;
-      ends = es .now;
-      bends = bs .now;
-      counts = cs .now;
-      px = px .now;
-      py = py .now;
-      cycles = cy .now;
-      steps = st .now;
-      bx = bx .now;
-      by = by .now;
-    }
+    listed next n (is .now) (ks .now) (ss .now) (es .now) (bs .now) (cs .now) (px .now) (py .now) (cy .now) (st .now) (bx .now) (by .now)
 
 abbrev pub Numbers : Type 0
 Numbers = Both (RefT (List ℕ)) (RefT (List ℕ))

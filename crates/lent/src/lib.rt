@@ -4,9 +4,12 @@ ghost use lib.ListN.{set};
 ghost use Rattle.complex.specs.Sound.{cellsMost, bendsMost};
 ghost use Rattle.answer.specs.Late.{Summed};
 ghost use Rattle.lent.specs.Arrays.{positionIn, totalsBy, Lengths, entry};
+ghost use Rattle.lent.specs.Growing.{RowPut};
 ghost use Rattle.lent.specs.Replies.{lineOf};
 use answer::Totals;
 use coordinate::Position;
+use store::Cell;
+use store::Shape;
 
 // What a command answers beside the drawing.
 pub struct Line {
@@ -146,4 +149,99 @@ pub fn bend_at(bx: &[f64; 2048], by: &[f64; 2048], i: usize) -> Position
     ensures { λ r. ⌜ r ≡ positionIn (now (bx .entry)) (now (by .entry)) i ⌝ }
 {
     Position { x: bx[i], y: by[i] }
+}
+
+// A cell is written into a row: every number, and the position of a vertex.
+pub fn put_cell(
+    ids: &mut [u32; 256],
+    kinds: &mut [u32; 256],
+    starts: &mut [u32; 256],
+    ends: &mut [u32; 256],
+    bends: &mut [u32; 256],
+    counts: &mut [u32; 256],
+    px: &mut [f64; 256],
+    py: &mut [f64; 256],
+    row: usize,
+    c: Cell,
+)
+    requires { ⌜ row < cellsMost ⌝ }
+    ensures { λ _. ⌜ RowPut row (c .id) (c .shape) (now (ids .entry)) (now (kinds .entry)) (now (starts .entry)) (now (ends .entry)) (now (bends .entry)) (now (counts .entry)) (now (px .entry)) (now (py .entry)) (now (ids .exit)) (now (kinds .exit)) (now (starts .exit)) (now (ends .exit)) (now (bends .exit)) (now (counts .exit)) (now (px .exit)) (now (py .exit)) ⌝ }
+{
+    let id = c.id;
+    let s = c.shape;
+    match s {
+        Shape::Vertex(p) => {
+            put_position(px, py, row, p);
+            put_row(
+                ids,
+                kinds,
+                starts,
+                ends,
+                bends,
+                counts,
+                row,
+                id,
+                0,
+                0,
+                0,
+                0,
+                0,
+            );
+        }
+        Shape::Open {
+            start,
+            end,
+            bends: n,
+        } => {
+            put_row(
+                ids,
+                kinds,
+                starts,
+                ends,
+                bends,
+                counts,
+                row,
+                id,
+                1,
+                start,
+                end,
+                n,
+                0,
+            );
+        }
+        Shape::Closed { bends: n } => {
+            put_row(
+                ids,
+                kinds,
+                starts,
+                ends,
+                bends,
+                counts,
+                row,
+                id,
+                2,
+                0,
+                0,
+                n,
+                0,
+            );
+        }
+        Shape::Face { cycles: k } => {
+            put_row(
+                ids,
+                kinds,
+                starts,
+                ends,
+                bends,
+                counts,
+                row,
+                id,
+                3,
+                0,
+                0,
+                0,
+                k,
+            );
+        }
+    }
 }

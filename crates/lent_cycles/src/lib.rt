@@ -76,54 +76,8 @@ fn repeated(steps: &[u32; 2048], from: usize, m: usize, s: u32) -> bool
     true
 }
 
-// Whether m halfedges are joined last to first, or all one closed edge in one direction.
-fn path_good(
-    table: &[u8; 1024],
-    ids: &[u32; 256],
-    kinds: &[u32; 256],
-    starts: &[u32; 256],
-    ends: &[u32; 256],
-    n: usize,
-    steps: &[u32; 2048],
-    from: usize,
-    m: usize,
-) -> bool
-    requires { ⌜ Looked n (now table) (now ids) (now kinds) (now starts) (now ends) ⌝ }
-    requires { ⌜ length (now steps) ≡ stepsMost ⌝ }
-    requires { ⌜ 1 ≤ m ⌝ }
-    requires { ⌜ from + m ≤ stepsMost ⌝ }
-    ensures { λ r. ⌜ r ≡ joinsIn (rowsOf n (now (ids .entry)) (now (kinds .entry)) (now (starts .entry)) (now (ends .entry))) (take m (drop from (now (steps .entry)))) ⌝ }
-{
-    let s = steps[from];
-    let row = lent_table::row_of(table, ids, n, s / 2);
-    if n <= row {
-        return false;
-    }
-    let k = kinds[row];
-    if k == OPEN {
-        let u = rows_halfedge::side(ends, starts, n, row, s);
-        let w = rows_halfedge::side(starts, ends, n, row, s);
-        return walk(
-            table,
-            ids,
-            kinds,
-            starts,
-            ends,
-            n,
-            steps,
-            from + 1,
-            m - 1,
-            u,
-            w,
-        );
-    }
-    if k == CLOSED {
-        return repeated(steps, from + 1, m - 1, s);
-    }
-    false
-}
-
-// Whether the cycle with the number c, whose places begin at from, is right.
+// Whether the cycle with the number c, whose places begin at from, is right: a vertex, or halfedges that are joined last to first, or all
+// one closed edge in one direction.
 fn cycle_good(
     table: &[u8; 1024],
     ids: &[u32; 256],
@@ -140,20 +94,25 @@ fn cycle_good(
     requires { ⌜ from + width c ≤ stepsMost ⌝ }
     ensures { λ r. ⌜ r ≡ cycleGood (rowsOf n (now (ids .entry)) (now (kinds .entry)) (now (starts .entry)) (now (ends .entry))) c (drop from (now (steps .entry))) ⌝ }
 {
+    let s = steps[from];
     if c == 0 {
-        return lent_table::is_vertex(table, ids, kinds, n, steps[from]);
+        return lent_table::is_vertex(table, ids, kinds, n, s);
     }
-    path_good(
-        table,
-        ids,
-        kinds,
-        starts,
-        ends,
-        n,
-        steps,
-        from,
-        store::wide(c),
-    )
+    let row = lent_table::row_of(table, ids, n, s / 2);
+    if n <= row {
+        return false;
+    }
+    let k = kinds[row];
+    let m = store::wide(c) - 1;
+    if k == OPEN {
+        let u = rows_halfedge::side(ends, starts, n, row, s);
+        let w = rows_halfedge::side(starts, ends, n, row, s);
+        return walk(table, ids, kinds, starts, ends, n, steps, from + 1, m, u, w);
+    }
+    if k == CLOSED {
+        return repeated(steps, from + 1, m, s);
+    }
+    false
 }
 
 // The steps up to the last of m cycles from the cycle k on, whose steps begin at from; or a fault, at the first cycle

@@ -52,7 +52,7 @@ afterNormal a i = figureRight (rowsIn a) (take (a .count) (a .bends)) i (positio
 abbrev pub afterId : Arrays → ℕ → Bool
 afterId a i = normalAt (a .kinds) (a .starts) (a .ends) (a .bends) (a .counts) i && afterNormal a i
 
-module _ (a : Arrays) (i : ℕ) (t : Totals) (u : Upto a i t) (h : i < a .count) where
+module _ {a : Arrays} {i : ℕ} {t : Totals} (u : Upto a i t) (h : i < a .count) where
   abbrev said : Bool → Said Totals
   said b = cond b (done (totalsUpto a (i + 1))) (no 1)
 
@@ -66,13 +66,13 @@ module _ (a : Arrays) (i : ℕ) (t : Totals) (u : Upto a i t) (h : i < a .count)
   steps-so = ap (λ (s : Totals). s .steps) (u .sums) ∙ ap (stepsUpto (a .cycles)) (sym cycles-so)
 
   bends-with : (b : ℕ) → b ≡ getD (a .bends) i 0 → t .bends + b ≡ placesUpto (a .bends) (i + 1)
-  bends-with b e = ap₂ _+_ (ap (λ (s : Totals). s .bends) (u .sums)) e ∙ sym (places-more (a .bends) i (omega (arith, row-in, u .long .bends)))
+  bends-with b e = ap₂ _+_ (ap (λ (s : Totals). s .bends) (u .sums)) e ∙ sym (places-more (a .bends) i (omega (arith, row-in, u .sized .long .bends)))
 
   cycles-with : (c : ℕ) → c ≡ getD (a .counts) i 0 → t .cycles + c ≡ placesUpto (a .counts) (i + 1)
-  cycles-with c e = ap₂ _+_ cycles-so e ∙ sym (places-more (a .counts) i (omega (arith, row-in, u .long .counts)))
+  cycles-with c e = ap₂ _+_ cycles-so e ∙ sym (places-more (a .counts) i (omega (arith, row-in, u .sized .long .counts)))
 
   pub looked : (ts : List ℕ) → Table (a .count) ts (a .ids) → Looked (a .count) ts (a .ids) (a .kinds) (a .starts) (a .ends)
-  looked ts p = record { table = p; kinds = u .long .kinds; starts = u .long .starts; ends = u .long .ends }
+  looked ts p = record { table = p; kinds = u .sized .long .kinds; starts = u .sized .long .starts; ends = u .sized .long .ends }
 
   -- a rule does not hold
   pub row-fault : rowRight a i ≡ false → no 1 ≡ said (rowRight a i)

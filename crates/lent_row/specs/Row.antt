@@ -5,7 +5,7 @@ use mathlib.Core.Bool.{Bool, true, _&&_, cond}
 use mathlib.Core.List.{List, []}
 use lib.Dec.{eqb, leb, ltb}
 use lib.Ieee.{Float}
-use lib.ListN.{length, take, getD}
+use lib.ListN.{take, getD}
 use denote.Ref.{RefT}
 use Rattle.number.specs.Said.{Said, done, no}
 use Rattle.coordinate.specs.declared.Position.{Position}
@@ -15,7 +15,7 @@ use Rattle.complex.specs.Sound.{cellsMost, cyclesMost, stepsMost, bendsMost}
 use Rattle.store.specs.Edits.{placesOf}
 use Rattle.sound.specs.Rows.{Rows, rowsOf, rowGood}
 use Rattle.answer.specs.declared.Totals.{Totals}
-use Rattle.lent.specs.Arrays.{Arrays, Numbers, Floats, positionIn, normalAt, totalsBy}
+use Rattle.lent.specs.Arrays.{Arrays, Lengths, Numbers, Floats, listed, positionIn, normalAt, totalsBy}
 use Rattle.lent_cycles.specs.Ring.{cyclesRight}
 use Rattle.lent_row.specs.declared.Row.{Row}
 use Rattle.lent_row.specs.declared.Row.the-variants.{Sums, Fault}
@@ -33,6 +33,10 @@ idRight next is i = ltb (getD is i 0) next && ltb (idBefore is i) (getD is i 0)
 -- a vertex lies in bounds, an open edge's ends are vertices, a closed edge has a bend
 abbrev pub figureRight : Rows → List ℕ → ℕ → Position → Bool
 figureRight t bs i p = rowGood t bs i && cond (eqb (getD (t .kinds) i 0) 0) (within p) true
+
+-- the same of the cell in row i of n, which has b bends, as a number says
+abbrev pub FigureRight : Rows → ℕ → ℕ → ℕ → Position → Bool → Type 0
+FigureRight t n i b p r = (bs : List ℕ) → getD bs i 0 ≡ b → r ≡ figureRight t (take n bs) i p
 
 -- the places that the counts of the first i rows stand for
 abbrev pub placesUpto : List ℕ → ℕ → ℕ
@@ -55,60 +59,23 @@ rowRight a i =
 -- a with no place of a bend
 abbrev pub bareOf : Arrays → Arrays
 bareOf a =
-    record {
-      next = a .next;
-      count = a .count;
-      ids = a .ids;
-      kinds = a .kinds;
-      starts = a .starts;
-      ends = a .ends;
-      bends = a .bends;
-      counts = a .counts;
-      px = a .px;
-      py = a .py;
-      cycles = a .cycles;
-      steps = a .steps;
-      bx = [];
-      by = [];
-    }
+    listed (a .next) (a .count) (a .ids) (a .kinds) (a .starts) (a .ends) (a .bends) (a .counts) (a .px) (a .py) (a .cycles) (a .steps) [] []
 
 -- names for a contract: those of references, and at a call's entry
 abbrev pub bare : ℕ → ℕ → RefT (List ℕ) → RefT (List ℕ) → RefT (List ℕ) → RefT (List ℕ) → RefT (List ℕ) → RefT (List ℕ)
     → RefT (List Float) → RefT (List Float) → RefT (List ℕ) → RefT (List ℕ) → Arrays
 bare next n is ks ss es bs cs px py cy st =
-    record {
-      next = next;
-      count = n;
-      ids = is .now;
-      kinds = ks .now;
-      starts = ss .now;
-      ends = es .now;
-      bends = bs .now;
-      counts = cs .now;
-      px = px .now;
-      py = py .now;
-      cycles = cy .now;
-      steps = st .now;
-      bx = [];
-      by = [];
-    }
+    listed next n (is .now) (ks .now) (ss .now) (es .now) (bs .now) (cs .now) (px .now) (py .now) (cy .now) (st .now) [] []
 
 abbrev pub atEntry : ℕ → ℕ → Numbers → Numbers → Numbers → Numbers → Numbers → Numbers → Floats → Floats → Numbers → Numbers → Arrays
 atEntry next n is ks ss es bs cs px py cy st =
     bare next n (is .entry) (ks .entry) (ss .entry) (es .entry) (bs .entry) (cs .entry) (px .entry) (py .entry) (cy .entry) (st .entry)
 
--- the lengths of these arrays
+-- with some places of bends these arrays have their lengths
 pub record RowLengths (a : Arrays) : Type 0 where
-  pub ids : length (a .ids) ≡ cellsMost
-  pub kinds : length (a .kinds) ≡ cellsMost
-  pub starts : length (a .starts) ≡ cellsMost
-  pub ends : length (a .ends) ≡ cellsMost
-  pub bends : length (a .bends) ≡ cellsMost
-  pub counts : length (a .counts) ≡ cellsMost
-  pub px : length (a .px) ≡ cellsMost
-  pub py : length (a .py) ≡ cellsMost
-  pub cycles : length (a .cycles) ≡ cyclesMost
-  pub steps : length (a .steps) ≡ stepsMost
+  pub xs : List Float
+  pub ys : List Float
+  pub long : Lengths (listed (a .next) (a .count) (a .ids) (a .kinds) (a .starts) (a .ends) (a .bends) (a .counts) (a .px) (a .py) (a .cycles) (a .steps) xs ys)
 
 -- ---- what is said of a row
 -- the cases of `Row`: 0 with the sums, or 1
@@ -123,7 +90,7 @@ totalsUpto a i = totalsBy i (a .bends) (a .counts) (a .cycles)
 -- t are the sums of the first i rows, and keep the ceilings
 pub record Upto (a : Arrays) (i : ℕ) (t : Totals) : Type 0 where
   pub few : a .count ≤ cellsMost
-  pub long : RowLengths a
+  pub sized : RowLengths a
   pub sums : t ≡ totalsUpto a i
   pub bends : t .bends ≤ bendsMost
   pub cycles : t .cycles ≤ cyclesMost

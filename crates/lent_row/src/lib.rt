@@ -1,14 +1,13 @@
 ghost use mathlib.Core.Path.{_≡_};
 ghost use mathlib.Core.Bool.{cond};
 ghost use Prim.Native.Nat.{_+_, _<_};
-ghost use lib.ListN.{take, length};
 ghost use Rattle.number.specs.Said.{done, no};
 ghost use Rattle.complex.specs.Sound.{cellsMost};
 ghost use Rattle.sound.specs.Rows.{rowsOf};
 ghost use Rattle.lent.specs.Arrays.{rowNormal};
 ghost use Rattle.lent_table.specs.Table.{Table};
 ghost use Rattle.lent_cycles.specs.Ring.{Looked};
-ghost use Rattle.lent_row.specs.Row.{idRight, figureRight, rowRight, rowSays, totalsUpto, bare, atEntry, RowLengths, Upto};
+ghost use Rattle.lent_row.specs.Row.{idRight, FigureRight, rowRight, rowSays, totalsUpto, bare, atEntry, Upto};
 use answer::Totals;
 use coordinate::Position;
 use lent_cycles::Steps;
@@ -30,35 +29,6 @@ const FACE: u32 = 3;
 pub enum Row {
     Sums(Totals),
     Fault,
-}
-
-// The lengths of the arrays that rows, cycles and steps stand in.
-pub fn known(
-    next: u32,
-    count: usize,
-    ids: &[u32; 256],
-    kinds: &[u32; 256],
-    starts: &[u32; 256],
-    ends: &[u32; 256],
-    bends: &[u32; 256],
-    counts: &[u32; 256],
-    px: &[f64; 256],
-    py: &[f64; 256],
-    cycles: &[u32; 512],
-    steps: &[u32; 2048],
-)
-    ensures { λ _. ⌜ RowLengths (atEntry next count ids kinds starts ends bends counts px py cycles steps) ⌝ }
-{
-    lengths::rows_long(ids);
-    lengths::rows_long(kinds);
-    lengths::rows_long(starts);
-    lengths::rows_long(ends);
-    lengths::rows_long(bends);
-    lengths::rows_long(counts);
-    lengths::places_long(px);
-    lengths::places_long(py);
-    lengths::cycles_long(cycles);
-    lengths::steps_long(steps);
 }
 
 // Whether the id in row i is above the one before it, and below the next id.
@@ -104,22 +74,21 @@ fn row_normal(k: u32, s: u32, e: u32, b: u32, c: u32) -> bool
     false
 }
 
-// Whether a vertex lies in bounds, an open edge's ends are vertices, a closed edge has a bend.
+// Whether a vertex lies in bounds, an open edge's ends are vertices, a closed edge has a bend: of the cell in row i, with b bends.
 fn figure_right(
     table: &[u8; 1024],
     ids: &[u32; 256],
     kinds: &[u32; 256],
     starts: &[u32; 256],
     ends: &[u32; 256],
-    bends: &[u32; 256],
     n: usize,
     i: usize,
+    b: u32,
     p: Position,
 ) -> bool
     requires { ⌜ Looked n (now table) (now ids) (now kinds) (now starts) (now ends) ⌝ }
-    requires { ⌜ length (now bends) ≡ cellsMost ⌝ }
     requires { ⌜ i < n ⌝ }
-    ensures { λ r. ⌜ r ≡ figureRight (rowsOf n (now (ids .entry)) (now (kinds .entry)) (now (starts .entry)) (now (ends .entry))) (take n (now (bends .entry))) i p ⌝ }
+    ensures { λ r. ⌜ FigureRight (rowsOf n (now (ids .entry)) (now (kinds .entry)) (now (starts .entry)) (now (ends .entry))) n i b p r ⌝ }
 {
     let k = kinds[i];
     if k == OPEN {
@@ -129,7 +98,7 @@ fn figure_right(
         return false;
     }
     if k == CLOSED {
-        return bends[i] != 0;
+        return b != 0;
     }
     if k == VERTEX {
         return coordinate::in_bounds(p);
@@ -168,7 +137,7 @@ pub fn row_right(
         return Row::Fault;
     }
     let p = lent::vertex_at(px, py, i);
-    if !figure_right(table, ids, kinds, starts, ends, bends, count, i, p) {
+    if !figure_right(table, ids, kinds, starts, ends, count, i, bends[i], p) {
         return Row::Fault;
     }
     let b = store::wide(bends[i]);

@@ -29,7 +29,7 @@ bounds-few next count e = leb-true count cellsMost (both-true (leb next idsEnd) 
 -- ---- rows, one after another
 module _ (a : Arrays) (l : RowLengths a) (few : a .count ≤ cellsMost) where
   pub rows-start : Upto a 0 (record { cells = 0; cycles = 0; steps = 0; bends = 0 })
-  rows-start = record { few = few; long = l; sums = refl; bends = omega arith; cycles = omega arith; steps = omega arith }
+  rows-start = record { few = few; sized = l; sums = refl; bends = omega arith; cycles = omega arith; steps = omega arith }
 
   module _ (i : ℕ) (h : i < a .count) (r : Row) (e : rowSays r ≡ cond (rowRight a i) (done (totalsUpto a (i + 1))) (no 1)) where
     pub row-wrong : r ≡ Fault → rowRight a i ≡ false
@@ -51,30 +51,18 @@ module _ (a : Arrays) (l : RowLengths a) (few : a .count ≤ cellsMost) where
           let b4 = both-true (leb (placesUpto (a .bends) (i + 1)) bendsMost) _ (b3 .1) in
           let b5 = both-true (leb (placesUpto (a .counts) (i + 1)) cyclesMost) _ (b4 .1) in
           let k = both-true (leb (stepsUpto (a .cycles) (placesUpto (a .counts) i + getD (a .counts) i 0)) stepsMost) _ (b5 .1) in
-          let m = places-more (a .counts) i (omega (arith, h, few, l .counts)) in
+          let m = places-more (a .counts) i (omega (arith, h, few, l .long .counts)) in
           let x = leb-true (placesUpto (a .bends) (i + 1)) bendsMost (b4 .0) in
           let y = leb-true (placesUpto (a .counts) (i + 1)) cyclesMost (b5 .0) in
           let z = leb-true (stepsUpto (a .cycles) (placesUpto (a .counts) i + getD (a .counts) i 0)) stepsMost (k .0) in
           let xt = ap (λ (s : Totals). s .bends) (w .1) in
           let yt = ap (λ (s : Totals). s .cycles) (w .1) in
           let zt = ap (λ (s : Totals). s .steps) (w .1) ∙ ap (stepsUpto (a .cycles)) m in
-          record { few = few; long = l; sums = w .1; bends = omega (arith, x, xt); cycles = omega (arith, y, yt); steps = omega (arith, z, zt) }
+          record { few = few; sized = l; sums = w .1; bends = omega (arith, x, xt); cycles = omega (arith, y, yt); steps = omega (arith, z, zt) }
 
 -- ---- cells, one after another
 pub bare-long : (a : Arrays) → Lengths a → RowLengths (bareOf a)
-bare-long a l =
-    record {
-      ids = l .ids;
-      kinds = l .kinds;
-      starts = l .starts;
-      ends = l .ends;
-      bends = l .bends;
-      counts = l .counts;
-      px = l .px;
-      py = l .py;
-      cycles = l .cycles;
-      steps = l .steps;
-    }
+bare-long a l = record { xs = a .bx; ys = a .by; long = l }
 
 module _ (look : Bool) (a : Arrays) (l : Lengths a) where
   abbrev saidOf : Bool → Said Totals

@@ -4,7 +4,7 @@ ghost use Prim.Native.Nat.{_-_, _≤_};
 ghost use Rattle.number.specs.Said.{done, no};
 ghost use Rattle.complex.specs.Sound.{bendsMost};
 ghost use Rattle.sound.specs.Rows.{allFrom};
-ghost use Rattle.lent.specs.Arrays.{totalsOf, soundArrays, entry};
+ghost use Rattle.lent.specs.Arrays.{totalsOf, Lengths, entry};
 ghost use Rattle.lent_sound.specs.Walk.{bendRight, boundsRight, walkRight, walkSays};
 use answer::Totals;
 use coordinate::Position;
@@ -69,8 +69,9 @@ fn bounds_right(next: u32, count: usize) -> bool
     count <= CELLS_MOST
 }
 
-// The cells one after another: each row, and the places of its bends where they are looked at. The table is filled anew, whatever it held.
-fn walk(
+// Question 1 of any contents of the arrays, and their sums: the cells one after another, each row, and the places of its bends where they
+// are looked at. The table is filled anew, whatever it held.
+pub fn walk(
     next: u32,
     count: usize,
     ids: &[u32; 256],
@@ -89,6 +90,7 @@ fn walk(
     look: bool,
 ) -> Walked
     ensures { λ r. ⌜ walkSays r ≡ cond (walkRight look (entry next count ids kinds starts ends bends counts px py cycles steps bx by)) (done (totalsOf (entry next count ids kinds starts ends bends counts px py cycles steps bx by))) (no 1) ⌝ }
+    ensures { λ _. ⌜ Lengths (entry next count ids kinds starts ends bends counts px py cycles steps bx by) ⌝ }
 {
     lent::known(
         next,
@@ -144,103 +146,4 @@ fn walk(
         i = i + 1;
     }
     Walked::Sound(t)
-}
-
-// Question 1 of any contents of the arrays, and their sums. The table is filled anew, whatever it held.
-pub fn sound(
-    next: u32,
-    count: usize,
-    ids: &[u32; 256],
-    kinds: &[u32; 256],
-    starts: &[u32; 256],
-    ends: &[u32; 256],
-    bends: &[u32; 256],
-    counts: &[u32; 256],
-    px: &[f64; 256],
-    py: &[f64; 256],
-    cycles: &[u32; 512],
-    steps: &[u32; 2048],
-    bx: &[f64; 2048],
-    by: &[f64; 2048],
-    table: &mut [u8; 1024],
-) -> Walked
-    ensures { λ r. ⌜ walkSays r ≡ cond (soundArrays (entry next count ids kinds starts ends bends counts px py cycles steps bx by)) (done (totalsOf (entry next count ids kinds starts ends bends counts px py cycles steps bx by))) (no 1) ⌝ }
-{
-    lent::known(
-        next,
-        count,
-        ids,
-        kinds,
-        starts,
-        ends,
-        bends,
-        counts,
-        px,
-        py,
-        cycles,
-        steps,
-        bx,
-        by,
-    );
-    walk(
-        next,
-        count,
-        ids,
-        kinds,
-        starts,
-        ends,
-        bends,
-        counts,
-        px,
-        py,
-        cycles,
-        steps,
-        bx,
-        by,
-        table,
-        true,
-    )
-}
-
-// Question 1 of any contents of the arrays but for the places of the bends, which are not looked at.
-pub fn rows_sound(
-    next: u32,
-    count: usize,
-    ids: &[u32; 256],
-    kinds: &[u32; 256],
-    starts: &[u32; 256],
-    ends: &[u32; 256],
-    bends: &[u32; 256],
-    counts: &[u32; 256],
-    px: &[f64; 256],
-    py: &[f64; 256],
-    cycles: &[u32; 512],
-    steps: &[u32; 2048],
-    bx: &[f64; 2048],
-    by: &[f64; 2048],
-    table: &mut [u8; 1024],
-) -> bool
-    ensures { λ r. ⌜ r ≡ walkRight false (entry next count ids kinds starts ends bends counts px py cycles steps bx by) ⌝ }
-{
-    let Walked::Sound(_) = walk(
-        next,
-        count,
-        ids,
-        kinds,
-        starts,
-        ends,
-        bends,
-        counts,
-        px,
-        py,
-        cycles,
-        steps,
-        bx,
-        by,
-        table,
-        false,
-    ) else {
-        return false;
-    };
-    true
 }

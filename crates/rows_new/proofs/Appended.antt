@@ -38,10 +38,6 @@ appended-each [] s = sym (appended-none s)
 appended-each (x ∷ xs) s = appended-each xs (appended s x) ∙ sym (appended-next x xs s)
 
 -- ---- in terms of `rebuild`
--- cells go and change, and then cells come
-pub rebuild-appended : (p : ℕ → Bool) (f : ℕ → Figure → Figure) (new : List Figure) (s : Sheet) → rebuild p f new s ≡ appendedAll new (remade p f s)
-rebuild-appended p f new s = refl
-
 pub remade-none : (s : Sheet) → remade everyId asItIs s ≡ s
 remade-none s = ap (λ (l : List LiveCell). record { next = s .next; cells = l }) (reshaped-none (keepIds everyId (s .cells)) ∙ kept-all (s .cells))
 
@@ -50,9 +46,6 @@ appended-all-rebuild xs s = ap (appendedAll xs) (sym (remade-none s))
 
 pub appended-rebuild : (s : Sheet) (x : Figure) → appended s x ≡ rebuild everyId asItIs (one x) s
 appended-rebuild s x = appended-all-rebuild (one x) s
-
-pub appended-many : (xs : List Figure) (s : Sheet) → appendedEach xs s ≡ rebuild everyId asItIs xs s
-appended-many xs s = appended-each xs s ∙ appended-all-rebuild xs s
 
 -- which cells stay depends on their ids, which `reshape` keeps
 pub keep-reshape : (p : ℕ → Bool) (f : ℕ → Figure → Figure) (cs : List LiveCell) → keepIds p (reshape f cs) ≡ reshape f (keepIds p cs)

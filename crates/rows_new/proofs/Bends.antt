@@ -1,11 +1,10 @@
 -- Bends put after those in use, and an edge that has them. Assumes nothing.
 use Prim.Native.Nat.{ℕ, zero, suc, _+_, _*_, _<_}
-use mathlib.Core.Path.{_≡_, ap, ap₂, sym, subst, _∙_}
+use mathlib.Core.Path.{_≡_, ap, sym, subst, _∙_}
 use mathlib.Core.List.{List, [], _++_}
 use native.Mathlib.Omega.{arith}
-use native.Mathlib.Numerals.{add-one}
-use lib.ListN.{length, take, set, getD}
-use lib.Seq.{paste, paste-suc, length-paste, take-paste, take-length}
+use lib.ListN.{length, take, getD}
+use lib.Seq.{paste, length-paste, take-paste, take-length}
 use Rattle.coordinate.specs.declared.Position.{Position}
 use Rattle.coordinate.specs.Positions.{positionAt}
 use Rattle.bends.specs.Bends.{positionsAt}
@@ -15,31 +14,13 @@ use Rattle.store.specs.Sizes.{Sizes}
 use Rattle.complex.specs.Cells.{Figure}
 use Rattle.store.specs.View.{sheetOf, Fits, bendTotal}
 use Rattle.store.specs.Places.{shapeOf, figureCycles, figureBends}
-use Rattle.store.specs.Edits.{appended, withBends, withCells}
+use Rattle.store.specs.Edits.{appended}
 use Rattle.store.proofs.Grow.{append-edge}
 use Rattle.rows_new.specs.Appends.{CellRoom, withCell, withMoreBends}
-
--- a turn of the loop that copies bends
-pub bends-more : (d res : Drawing) (at i : ℕ) (s : List Position) (v z : Position) → res ≡ withBends d (paste (d .bends) at s i)
-    → at + i < length (d .bends) → i < length s → v ≡ getD s i z
-    → withBends res (set (res .bends) (at + i) v) ≡ withBends d (paste (d .bends) at s (i + 1))
-bends-more d res at i s v z e h k g =
-    ap (λ (q : Drawing). withBends q (set (q .bends) (at + i) v)) e
-    ∙ ap (withBends d) (ap (set (paste (d .bends) at s i) (at + i)) g ∙ paste-suc (d .bends) at s i z h k ∙ ap (paste (d .bends) at s) (sym (add-one i)))
-
--- the loop's end
-pub bends-done : (d res : Drawing) (at i n : ℕ) (s : List Position) → res ≡ withBends d (paste (d .bends) at s i) → at ≡ bendTotal d → n ≡ length s → i ≡ n
-    → res ≡ withMoreBends d s
-bends-done d res at i n s e p q f = e ∙ ap₂ (λ (a m : ℕ). withBends d (paste (d .bends) a s m)) p (f ∙ q)
 
 -- r is d with one cell more
 abbrev pub Grew : Drawing → Figure → Drawing → Type 0
 Grew d x r = (sheetOf r ≡ appended (sheetOf d) x) × Fits r
-
--- the bends are in place, and then the cell
-pub cell-done : (d res : Drawing) (bs : List Position) (s : Shape) → res ≡ withMoreBends d bs
-    → withCells res (d .next + 1) (d .count + 1) (set (res .cells) (d .count) (record { id = d .next; shape = s })) ≡ withCell (withMoreBends d bs) s
-cell-done d res bs s e = ap (λ (q : Drawing). withCells q (d .next + 1) (d .count + 1) (set (q .cells) (d .count) (record { id = d .next; shape = s }))) e
 
 -- an edge's bends and its cell
 pub edge-grown : (d : Drawing) → Sizes d → (x : Figure) → CellRoom d x → figureCycles x ≡ [] → (r : Drawing) (s : Shape) → s ≡ shapeOf x

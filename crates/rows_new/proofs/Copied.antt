@@ -1,29 +1,28 @@
 -- The cell in a row, where its bends stand, and a drawing with copies of it. Assumes nothing.
 use Prim.Native.Nat.{ℕ, zero, suc, _+_, _*_, _<_, _≤_}
 use mathlib.Core.Path.{_≡_, refl, ap, ap₂, sym, subst, _∙_}
-use mathlib.Core.Bool.{Bool, true, false, false≢true, cond}
+use mathlib.Core.Bool.{false, false≢true}
 use mathlib.Core.List.{List, [], _∷_, _++_, map, append-assoc, append-nil}
 use mathlib.Core.Option.{some}
 use native.Mathlib.Omega.{arith}
-use lib.Dec.{eqb}
 use lib.ListN.{length, take, drop, getD, replicate, length-replicate, length-append, List·getD-map}
 use lib.Seq.{paste, length-paste, take-paste, take-length, take-all, take-at, drop-at, take-take, getD-take, split-at}
 use Rattle.coordinate.specs.declared.Position.{Position}
 use Rattle.number.specs.Readers.{spread}
-use Rattle.complex.specs.Cells.{Cycle, Figure, vertex, openEdge, closedEdge, face, LiveCell, isFace, origin, ids, lookup, someIf}
+use Rattle.complex.specs.Cells.{Cycle, Figure, vertex, openEdge, closedEdge, face, LiveCell, isFace, origin}
 use Rattle.complex.specs.Edits.{numbered}
 use Rattle.store.specs.declared.Shape.{Shape}
 use Rattle.store.specs.declared.Cell.{Cell}
 use Rattle.store.specs.declared.Drawing.{Drawing}
 use Rattle.store.specs.Sizes.{Sizes}
 use Rattle.store.specs.Sheet.{allReal}
-use Rattle.store.specs.Index.{rowOf}
 use Rattle.store.specs.View.{sheetOf, Fits, bendCount, bendSum, bendTotal}
 use Rattle.store.specs.Places.{shapeOf, entryCell, figureCycles, figureBends, entryCycles, entryBends}
 use Rattle.store.specs.Edits.{withBends, withCells}
 use Rattle.store.proofs.Lists.{map-append}
 use Rattle.store.proofs.Encode.{flat-append, bend-sum}
 use Rattle.store.proofs.Rows.{getD-any}
+pub use Rattle.store.proofs.Rows.{row-lookup}
 use Rattle.store.proofs.Stands.{begins-split, Stands, stands, viewed, fitting, bend-total, count-is}
 use Rattle.store.proofs.Grow.{begins-more, sheet-is, next-is}
 use Rattle.rows_new.specs.Appends.{appendedAll, figureAt, withMoreBends}
@@ -104,17 +103,6 @@ module _ (d : Drawing) (z : Sizes d) (f : Fits d) (row : ℕ) (h : row < d .coun
       let r = row-within in
       let m = f .bends in
       omega arith
-
--- an id's figure stands in its row
-pub row-lookup : (cs : List LiveCell) (i : ℕ) (z : LiveCell) → rowOf i (ids cs) < length cs → lookup cs i ≡ some (getD cs (rowOf i (ids cs)) z .figure)
-row-lookup [] i z h = absurd (omega arith)
-row-lookup (c ∷ cs) i z h = go (eqb (c .id) i) h (row-lookup cs i z)
-  where
-    go : (b : Bool) → cond b 0 (suc (rowOf i (ids cs))) < suc (length cs)
-        → (rowOf i (ids cs) < length cs → lookup cs i ≡ some (getD cs (rowOf i (ids cs)) z .figure))
-        → someIf b (c .figure) (lookup cs i) ≡ some (getD (c ∷ cs) (cond b 0 (suc (rowOf i (ids cs)))) z .figure)
-    go true u ih = refl
-    go false u ih = ih (omega arith)
 
 -- what is no face has no cycles
 pub no-cycles : (x : Figure) → isFace (some x) ≡ false → figureCycles x ≡ []

@@ -1,6 +1,5 @@
 pub mod RunLists
 pub mod Bends
-pub mod Faces
 pub mod Appended
 pub mod Rooms
 pub mod CopyLists

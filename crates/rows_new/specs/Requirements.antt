@@ -4,11 +4,11 @@ use mathlib.Core.Path.{_≡_}
 use mathlib.Core.Bool.{false}
 use mathlib.Core.List.{List}
 use mathlib.Core.Option.{some}
-use lib.ListN.{length, take}
-use Rattle.complex.specs.Cells.{Figure, face, isFace}
+use lib.ListN.{length}
+use Rattle.complex.specs.Cells.{Figure, isFace}
 use Rattle.complex.specs.Sound.{idsEnd, cellsMost, bendsMost}
 use Rattle.store.specs.declared.Drawing.{Drawing}
-use Rattle.store.specs.View.{sheetOf, Fits, cyclesFrom, widthSum, bendTotal}
+use Rattle.store.specs.View.{sheetOf, Fits, bendTotal}
 use Rattle.store.specs.Places.{figureBends}
 use Rattle.rows_new.specs.declared.Runs.{Runs}
 use Rattle.rows_new.specs.Runs.{InRange}
@@ -23,15 +23,6 @@ pub record RunsRoom (d : Drawing) (r : Runs) (x : Figure) : Type 0 where
 pub record BytesRoom (d : Drawing) (script : List ℕ) (first count : ℕ) (x : Figure) : Type 0 where
   pub room : CellRoom d x
   pub range : first + 16 * count ≤ length script
-
--- the face's cycles are the first n of counts, and their steps the first m of steps
-pub record FaceRoom (d : Drawing) (counts : List ℕ) (n : ℕ) (steps : List ℕ) (m : ℕ) : Type 0 where
-  pub room : CellRoom d (face (cyclesFrom (take n counts) steps))
-  pub countsSize : length counts ≡ 512
-  pub stepsSize : length steps ≡ 2048
-  pub within : n ≤ 512
-  pub width : widthSum (take n counts) ≡ m
-  pub places : m ≤ 2048
 
 -- n copies of the cell in a row, which is no face
 pub record CopiesRoom (d : Drawing) (k n : ℕ) : Type 0 where

@@ -1,9 +1,8 @@
 -- Bends taken from an array in runs. Definitions only.
-use Prim.Native.Nat.{ℕ, _+_, _-_, _≤_}
+use Prim.Native.Nat.{ℕ, _+_, _≤_}
 use mathlib.Core.Bool.{Bool, true, false, cond}
 use mathlib.Core.List.{List, [], _++_, reverse}
 use lib.ListN.{take, drop}
-use lib.Dec.{eqb, ltb}
 use Rattle.coordinate.specs.declared.Position.{Position}
 use Rattle.complex.specs.Lists.{one}
 use Rattle.rows_new.specs.declared.Runs.{Runs}
@@ -28,25 +27,3 @@ runsOf bs r =
 pub record InRange (r : Runs) : Type 0 where
   pub one : r .first + r .count ≤ 2048
   pub two : r .first2 + r .count2 ≤ 2048
-
--- ---- the same by places
--- how many come before the second run
-abbrev pub beforeSecond : Runs → ℕ
-beforeSecond r = r .count + cond (r .middle) 1 0
-
-abbrev pub runsLength : Runs → ℕ
-runsLength r = beforeSecond r + r .count2
-
--- the place of a run's k-th element
-abbrev pub inRun : Bool → ℕ → ℕ → ℕ → ℕ
-inRun turned first n k = first + cond turned (n - 1 - k) k
-
--- the place of the k-th bend; 0 for the position between the runs
-abbrev pub runPlace : Runs → ℕ → ℕ
-runPlace r k =
-    cond (ltb k (r .count)) (inRun (r .turned) (r .first) (r .count) k)
-    (cond (ltb k (beforeSecond r)) 0 (inRun (r .turned2) (r .first2) (r .count2) (k - beforeSecond r)))
-
--- the k-th bend, where p is what stands at its place
-abbrev pub runBend : Runs → ℕ → Position → Position
-runBend r k p = cond (r .middle) (cond (eqb k (r .count)) (r .at) p) p

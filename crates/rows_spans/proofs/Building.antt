@@ -16,7 +16,7 @@ use Rattle.store.proofs.Lists.{sum-append, sum-more, sum-le, kept-append, kept-
 use Rattle.store.proofs.Pools.{held-cycles}
 use Rattle.rows_spans.specs.declared.Used.{Used}
 use Rattle.rows_spans.specs.Building.{built, Building, Built, moreCycle}
-use Rattle.rows_spans.proofs.Splicing.{run-take, paste-front, paste-run}
+use Rattle.rows_spans.proofs.Splicing.{paste-front, paste-run}
 
 -- ---- reading cycles
 pub cycles-append : (ns ms st : List ℕ) → cyclesFrom (ns ++ ms) st ≡ cyclesFrom ns st ++ cyclesFrom ms (drop (widthSum ns) st)
@@ -100,14 +100,6 @@ module _ (counts : List ℕ) (u : Used) (steps : List ℕ) (b : Building counts 
   -- a step put down at a place that is not in use
   pub built-set : (at s : ℕ) → u .steps ≤ at → Built (built counts u steps) counts u (set steps at s)
   built-set at s h = built-same (set steps at s) (length-set steps at s) (take-set-le (u .steps) steps at s h)
-
-  -- a run copied to places that are not in use
-  pub built-paste : (at : ℕ) (src : List ℕ) (n : ℕ) → u .steps ≤ at → at + n ≤ length steps → n ≤ length src
-      → Built (built counts u steps) counts u (paste steps at src n)
-  built-paste at src n h k l =
-      built-same (paste steps at src n) (length-paste steps at src n (omega arith) l)
-      (sym (run-take (u .steps) 0 at (paste steps at src n) (omega arith)) ∙ ap (take (u .steps)) (paste-front steps at src n (omega arith) l)
-      ∙ run-take (u .steps) 0 at steps (omega arith))
 
   -- a cycle more
   pub pushed : (c : ℕ) (cs st : List ℕ) → u .cycles < length counts → u .steps + width c ≤ length steps → length cs ≡ length counts → length st ≡ length steps

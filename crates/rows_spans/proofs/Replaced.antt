@@ -22,16 +22,16 @@ use Rattle.store.specs.declared.Index.{Index}
 use Rattle.store.specs.Sizes.{Sizes}
 use Rattle.store.specs.Sheet.{real, allReal, idsOf}
 use Rattle.store.specs.Index.{kindOf, Rising, rowOf, Indexes}
-use Rattle.store.specs.View.{sheetOf, Fits, cyclesFrom, cycleCount, bendCount, widthSum, cycleTotal, stepTotal}
+use Rattle.store.specs.View.{sheetOf, Fits, cyclesFrom, cycleCount, widthSum, cycleTotal, stepTotal}
 use Rattle.store.specs.Places.{shapeOf, entryCell, figureCycles, figureBends, entryCycles, entryBends, numOf, cycleWords}
 use Rattle.store.specs.Edits.{placesOf, withEntries}
-use Rattle.store.proofs.Encode.{flat-append, numbers, places, cycles-real, length-cycles, cycles-back, cycle-sum, bend-sum, width-sum}
+use Rattle.store.proofs.Encode.{flat-append, numbers, places, cycles-real, length-cycles, cycles-back, cycle-sum, width-sum}
 use Rattle.store.proofs.Lists.{map-append, places-sum, width-places}
 use Rattle.store.proofs.Stands.{Begins, begins-split, Stands, stands, viewed, fitting, count-is, cycle-total, step-total, ids-same}
 use Rattle.store.proofs.Grow.{sheet-is, next-is, real-append}
 use Rattle.rows_spans.specs.declared.Span.{Span}
 use Rattle.rows_spans.specs.declared.Spans.{Spans}
-use Rattle.rows_spans.specs.Runs.{spanOf, spansOf, rowSpan, cycleCounts, kinds, cycleSpan, stepSpan, bendSpan, Spliced, Replaces, sheetWithRow}
+use Rattle.rows_spans.specs.Runs.{spanOf, spansOf, rowSpan, cycleCounts, kinds, cycleSpan, stepSpan, Spliced, Replaces, sheetWithRow}
 use Rattle.rows_spans.proofs.Splicing.{part-two, span-take, span-sum, span-parts, spliced-begins}
 
 -- ---- one row of a rising list of cells
@@ -87,15 +87,6 @@ real-parts (k ∷ ks) ls h = go (real k) h (real-parts ks ls)
         → ((b && allReal ks) ≡ true) × (allReal ls ≡ true)
     go true e f = f e
     go false e f = absurd (false≢true e)
-
-map-set : {A B : Type 0} (f : A → B) (l : List A) (i : ℕ) (a : A) → map f (set l i a) ≡ set (map f l) i (f a)
-map-set f [] i a = refl
-map-set f (x ∷ l) zero a = refl
-map-set {A} {B} f (x ∷ l) (suc i) a = ap (λ (r : List B). f x ∷ r) (map-set f l i a)
-
-map-map : {A B C : Type 0} (g : B → C) (f : A → B) (l : List A) → map g (map f l) ≡ map (λ (x : A). g (f x)) l
-map-map g f [] = refl
-map-map {A} {B} {C} g f (x ∷ l) = ap (λ (r : List C). g (f x) ∷ r) (map-map g f l)
 
 three : {A B : Type 0} (f : A → List B) (p : List A) (x : A) (q : List A) → spread f (p ++ (x ∷ q)) ≡ spread f p ++ (f x ++ spread f q)
 three f p x q = flat-append f p (x ∷ q)
@@ -208,9 +199,6 @@ module _ (d : Drawing) (z : Sizes d) (f : Fits d) (row : ℕ) (p : List Entry) (
   pub cycle-span : cycleSpan d row ≡ record { first = length a; count = length b; rest = length c }
   cycle-span = spans-are (λ (k : Cell). cycleCount (k .shape)) entryCycles cycle-sum
 
-  pub bend-span : bendSpan d row ≡ record { first = length (spread entryBends p); count = length (entryBends x); rest = length (spread entryBends q) }
-  bend-span = spans-are (λ (k : Cell). bendCount (k .shape)) entryBends bend-sum
-
   after-cycles : List ℕ
   after-cycles = drop (length (map numOf a ++ (map numOf b ++ map numOf c))) (d .cycles)
 
@@ -254,17 +242,6 @@ module _ (d : Drawing) (z : Sizes d) (f : Fits d) (row : ℕ) (p : List Entry) (
       (drop-at (spread cycleWords a) (spread cycleWords b ++ t) (length (spread cycleWords a)) refl)
       ∙ cycles-back b [] t (reals .1)
       ∙ append-nil b
-
-  -- its bends are read where they stand
-  pub own-bend-list : take (bendSpan d row .count) (drop (bendSpan d row .first) (d .bends)) ≡ entryBends x
-  own-bend-list =
-      let t = drop (length (spread entryBends p ++ (entryBends x ++ spread entryBends q))) (d .bends) in
-      let g : d .bends ≡ spread entryBends p ++ (entryBends x ++ (spread entryBends q ++ t)) =
-      begins-split bends-stand ∙ append-assoc (spread entryBends p) (entryBends x ++ spread entryBends q) t
-      ∙ ap (λ (l : List Position). spread entryBends p ++ l) (append-assoc (entryBends x) (spread entryBends q) t)
-      in
-      ap₂ (λ (s : Span) (l : List Position). take (s .count) (drop (s .first) l)) bend-span g
-      ∙ part-two (spread entryBends p) (entryBends x) (spread entryBends q ++ t) (length (spread entryBends p)) (length (entryBends x)) refl refl
 
   -- ---- the cell with other cycles
   module _ (counts steps : List ℕ) (n m : ℕ) (w : Replaces d row counts n steps m) (r : Drawing) (zr : Sizes r) (ex : r .next ≡ d .next)
@@ -400,9 +377,6 @@ module _ (d : Drawing) (z : Sizes d) (f : Fits d) (row : ℕ) (h : row < d .coun
         (drop (stepSpan d row .first) (d .steps))
     row-cycles = ap cells.cyclesOf found ∙ own-cycles (own .figure) ∙ sym (own-list d z f row before own after split ahead)
 
-    pub row-bends : bendsOf (cellAt (sheetOf d) i) ≡ take (bendSpan d row .count) (drop (bendSpan d row .first) (d .bends))
-    row-bends = ap bendsOf found ∙ own-bends (own .figure) ∙ sym (own-bend-list d z f row before own after split ahead)
-
     pub row-face : isFace (cellAt (sheetOf d) i) ≡ eqb (getD (kinds d) row 0) 3
     row-face = ap isFace found ∙ own-kind (own .figure)
         ∙ ap (λ (n : ℕ). eqb n 3) (sym (own-number d z f row before own after split ahead (λ (c : Cell). kindOf (c .shape)) 0))
@@ -428,12 +402,6 @@ module _ (d : Drawing) (z : Sizes d) (f : Fits d) (ix : Index) (t : Indexes d ix
 -- ---- the spans that counts of cycles give, and the room for other cycles
 module _ (d : Drawing) (z : Sizes d) (row : ℕ) (at counts steps : List ℕ) (n m : ℕ) (e : take (d .count) at ≡ cycleCounts d)
     (w : Replaces d row counts n steps m) where
-  pub counted-cycles : total (placesOf 0) (take (d .count) at) ≡ cycleTotal d
-  counted-cycles = ap (total (placesOf 0)) e ∙ places-sum (λ (c : Cell). cycleCount (c .shape)) (take (d .count) (d .cells))
-
-  pub counted-steps : total (placesOf 1) (take (total (placesOf 0) (take (d .count) at)) (d .cycles)) ≡ stepTotal d
-  counted-steps = ap (λ (k : ℕ). total (placesOf 1) (take k (d .cycles))) counted-cycles ∙ width-places (take (cycleTotal d) (d .cycles))
-
   cycles-read : spanOf 0 at (rowSpan (d .count) row) ≡ cycleSpan d row
   cycles-read =
       sym (span-take 0 at (d .count) (rowSpan (d .count) row) (let h = w .live in omega arith)) ∙ ap (λ (l : List ℕ). spanOf 0 l (rowSpan (d .count) row)) e

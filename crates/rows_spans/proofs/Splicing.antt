@@ -5,7 +5,7 @@ use mathlib.Core.List.{List, [], _∷_, _++_, append-assoc}
 use native.Mathlib.Omega.{arith}
 use native.Mathlib.Numerals.{add-one}
 use lib.ListN.{length, take, drop, set, length-append, length-drop}
-use lib.Seq.{take-add, take-take, take-all, take-at, drop-at, drop-drop, length-take-le, take-suc-set, paste, take-paste, length-paste}
+use lib.Seq.{take-add, take-take, take-all, take-at, drop-at, drop-drop, length-take-le, take-suc-set, paste, take-paste}
 use Rattle.complex.specs.Lists.{total}
 use Rattle.store.specs.Edits.{placesOf}
 use Rattle.store.proofs.Lists.{sum-append}
@@ -50,12 +50,6 @@ module _ {A : Type 0} where
       ∙ ap (take (m + length x)) (drop-at (take j l) (take m (drop j l) ++ x) j (length-take-le j l (omega arith)))
       ∙ take-all (m + length x) (take m (drop j l) ++ x) (omega (arith, length-append (take m (drop j l)) x))
 
-  pub run-paste : (l s : List A) (j m n : ℕ) → j + m ≤ length l → n ≤ length s → take (m + n) (drop j (paste l (j + m) s n)) ≡ take m (drop j l) ++ take n s
-  run-paste l s j m n h k =
-      let e : length (take n s) ≡ n = length-take-le n s k in
-      ap (λ (i : ℕ). take (m + i) (drop j (paste l (j + m) s n))) (sym e)
-      ∙ run-more l (paste l (j + m) s n) (take n s) j m h (ap (λ (i : ℕ). take (j + m + i) (paste l (j + m) s n)) e ∙ take-paste l (j + m) s n h k)
-
   pub run-set : (l : List A) (j m : ℕ) (v : A) → j + m < length l → take (m + 1) (drop j (set l (j + m) v)) ≡ take m (drop j l) ++ (v ∷ [])
   run-set l j m v h = run-more l (set l (j + m) v) (v ∷ []) j m (omega arith)
       (ap (λ (i : ℕ). take i (set l (j + m) v)) (add-one (j + m)) ∙ take-suc-set l (j + m) v h)
@@ -84,27 +78,6 @@ module _ (z : ℕ) where
       let q = ap (total (placesOf z)) (part-two a b (c ++ t) (s .first) (s .count) e f) in
       let r = ap (total (placesOf z)) (ap (take (s .rest)) (part-three a b (c ++ t) (s .first) (s .count) e f) ∙ take-at c t (s .rest) g) in
       λ i. record { first = p i; count = q i; rest = r i }
-
--- ---- three runs pasted one after the other
-module _ (old new out : List ℕ) (s : Span) (n : ℕ) (ho : s .first + s .count + s .rest ≤ length old) (hn : n ≤ length new)
-    (h : s .first + n + s .rest ≤ length out) where
-  pub spliced : (a b : ℕ) (one two three : List ℕ) → a ≡ s .first → one ≡ paste out 0 old (s .first) → b ≡ a + n → two ≡ paste one a new n
-      → three ≡ paste two b (drop (s .first + s .count) old) (s .rest) → Spliced old s new n three
-  spliced a b one two three ea e₁ eb e₂ e₃ =
-      let l₁ : length one ≡ length out = ap length e₁ ∙ length-paste out 0 old (s .first) (omega arith) (omega arith) in
-      let l₂ : length two ≡ length out = ap length e₂ ∙ length-paste one a new n (omega arith) hn ∙ l₁ in
-      let r : s .rest ≤ length (drop (s .first + s .count) old) = omega (arith, length-drop (s .first + s .count) old) in
-      let ez : a ≡ 0 + s .first = omega arith in
-      let f₁ : take a one ≡ take (s .first) old = ap₂ take ez e₁ ∙ take-paste out 0 old (s .first) (omega arith) (omega arith) in
-      let f₂ : take b two ≡ take (s .first) old ++ take n new = ap₂ take eb e₂ ∙ take-paste one a new n (omega arith) hn
-      ∙ ap (λ (q : List ℕ). q ++ take n new) f₁ in
-      let c : s .first + n + s .rest ≡ b + s .rest = omega arith in
-      record {
-        front =
-            ap₂ take c e₃ ∙ take-paste two b (drop (s .first + s .count) old) (s .rest) (omega arith) r
-            ∙ ap (λ (q : List ℕ). q ++ take (s .rest) (drop (s .first + s .count) old)) f₂
-            ∙ append-assoc (take (s .first) old) (take n new) (take (s .rest) (drop (s .first + s .count) old));
-      }
 
 -- what began with three parts begins with a new one in the place of the second
 pub spliced-begins : (old new out a b c x : List ℕ) (s : Span) (n : ℕ) → Begins old (a ++ (b ++ c)) → length a ≡ s .first → length b ≡ s .count

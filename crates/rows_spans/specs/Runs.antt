@@ -8,7 +8,7 @@ use Rattle.complex.specs.Cells.{Figure, Sheet}
 use Rattle.store.specs.declared.Cell.{Cell}
 use Rattle.store.specs.declared.Drawing.{Drawing}
 use Rattle.store.specs.Sheet.{idsOf}
-use Rattle.store.specs.View.{cycleCount, bendCount, widthSum, cycleTotal, stepTotal, Fits}
+use Rattle.store.specs.View.{cycleCount, widthSum, cycleTotal, stepTotal, Fits}
 use Rattle.store.specs.Edits.{placesOf, withEntries}
 use Rattle.store.specs.Index.{kindOf}
 use Rattle.rows_spans.specs.declared.Span.{Span}
@@ -35,9 +35,6 @@ spansOf at n row cycles = record { cycles = spanOf 0 at (rowSpan n row); steps =
 abbrev pub cycleCounts : Drawing → List ℕ
 cycleCounts d = map (λ (c : Cell). cycleCount (c .shape)) (take (d .count) (d .cells))
 
-abbrev pub bendCounts : Drawing → List ℕ
-bendCounts d = map (λ (c : Cell). bendCount (c .shape)) (take (d .count) (d .cells))
-
 abbrev pub kinds : Drawing → List ℕ
 kinds d = map (λ (c : Cell). kindOf (c .shape)) (take (d .count) (d .cells))
 
@@ -47,9 +44,6 @@ cycleSpan d row = spanOf 0 (cycleCounts d) (rowSpan (d .count) row)
 
 abbrev pub stepSpan : Drawing → ℕ → Span
 stepSpan d row = spanOf 1 (d .cycles) (cycleSpan d row)
-
-abbrev pub bendSpan : Drawing → ℕ → Span
-bendSpan d row = spanOf 0 (bendCounts d) (rowSpan (d .count) row)
 
 -- out begins with old, the first n of new in the place of the run s
 pub record Spliced (old : List ℕ) (s : Span) (new : List ℕ) (n : ℕ) (out : List ℕ) : Type 0 where

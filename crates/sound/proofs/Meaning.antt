@@ -19,6 +19,7 @@ use Rattle.store.specs.Sizes.{Sizes}
 use Rattle.store.specs.View.{sheetOf, Fits, cycleTotal, bendTotal, stepTotal, bendCount, cycleCount}
 use Rattle.store.specs.Index.{Rising, Indexes, rowOf, kindOf, shapeStart, shapeEnd, valueAt}
 use Rattle.store.proofs.Stands.{stands, count-is, ids-same}
+use Rattle.store.proofs.Rows.{row-lookup}
 use Rattle.sound.specs.Soundness.{sumsFit, fitsIn, soundSheet, soundDrawing}
 use Rattle.sound.specs.Looks.{indexValue, Looks}
 use Rattle.sound.proofs.Parts.{is-vertex, is-open, is-closed, is-face, idRow, kindRow, startRow, endRow, bendRow, cycleRow, kind-row, start-row, end-row}
@@ -119,16 +120,6 @@ row-live (x ∷ xs) i = go (eqb (x .id) i) (row-live xs i)
     go true k = lt-ltb 0 (suc (length xs)) (omega arith)
     go false k = leb·suc-suc (suc (rowOf i (idRow xs))) (length xs) ∙ k
 
-row-figure : (xs : List LiveCell) (i : ℕ) (y : LiveCell) → rowOf i (idRow xs) < length xs → lookup xs i ≡ some (getD xs (rowOf i (idRow xs)) y .figure)
-row-figure [] i y h = absurd (omega arith)
-row-figure (x ∷ xs) i y h = go (eqb (x .id) i) h (row-figure xs i y)
-  where
-    go : (b : Bool) → cond b 0 (suc (rowOf i (idRow xs))) < suc (length xs)
-        → (rowOf i (idRow xs) < length xs → lookup xs i ≡ some (getD xs (rowOf i (idRow xs)) y .figure))
-        → someIf b (x .figure) (lookup xs i) ≡ some (getD (x ∷ xs) (cond b 0 (suc (rowOf i (idRow xs)))) y .figure)
-    go true k ih = refl
-    go false k ih = ih (omega arith)
-
 module _ (d : Drawing) (z : Sizes d) (f : Fits d) (ix : Index) (x : Indexes d ix) where
   -- an id has a row if its cell is live
   pub live-row : (i : ℕ) → ltb (rowOf i (take (d .count) (ix .ids))) (d .count) ≡ isLive (cellAt (sheetOf d) i)
@@ -141,8 +132,8 @@ module _ (d : Drawing) (z : Sizes d) (f : Fits d) (ix : Index) (x : Indexes d ix
       → cellAt (sheetOf d) i ≡ some (getD (sheetOf d .cells) r y .figure)
   found-row i r e h y =
       let n = count-is d (sheetOf d .cells) (stands d z f) z (f .cells) in
-      let g : r ≡ rowOf i (idRow (sheetOf d .cells)) = e ∙ ap (rowOf i) (ids-are d z f ix x) in
-      row-figure (sheetOf d .cells) i y (omega arith) ∙ ap (λ (k : ℕ). some (getD (sheetOf d .cells) k y .figure)) (sym g)
+      let g : r ≡ rowOf i (ids (sheetOf d .cells)) = e ∙ ap (rowOf i) (x .ids ∙ ids-same d z f) in
+      row-lookup (sheetOf d .cells) i y (omega arith) ∙ ap (λ (k : ℕ). some (getD (sheetOf d .cells) k y .figure)) (sym g)
 
 -- ---- the kind in the row of an id
 module _ {d : Drawing} {ix : Index} (k : Looks d ix) (i : ℕ) where

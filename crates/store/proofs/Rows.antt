@@ -2,12 +2,15 @@
 use Prim.Native.Nat.{ℕ, zero, suc, _+_, _<_, _≤_}
 use mathlib.Core.Path.{_≡_, refl, sym, ap, ap₂, _∙_}
 use mathlib.Core.List.{List, [], _∷_}
-use mathlib.Core.Bool.{Bool, cond}
+use mathlib.Core.Bool.{Bool, true, false, cond}
+use mathlib.Core.Option.{some}
 use native.Mathlib.Omega.{arith}
 use native.Mathlib.Decide.{decLt}
 use lib.ListN.{length, getD, take}
 use lib.Seq.{getD-take, length-take-le}
+use lib.Dec.{eqb}
 use borrow.Author.Tests.{eq-eqb, ne-eqb}
+use Rattle.complex.specs.Cells.{LiveCell, ids, lookup, someIf}
 use Rattle.store.specs.Index.{rowOf, Rising, valueAt}
 
 pub row-found : (x : ℕ) (l : List ℕ) (i : ℕ) → i < length l → getD l i 0 ≡ x → ((k : ℕ) → k < i → getD l k 0 < x) → rowOf x l ≡ i
@@ -73,3 +76,14 @@ module _ (is vs : List ℕ) (n r x z : ℕ) (h : n ≤ length vs) (e : r ≡ row
 
   pub value-none : n ≤ r → z ≡ valueAt z (take n is) (take n vs) x
   value-none k = sym (ap (λ (m : ℕ). getD (take n vs) m z) (sym e) ∙ getD-past (take n vs) r z (let g = length-take-le n vs h in omega arith))
+
+-- the figure of an id stands in its row
+pub row-lookup : (cs : List LiveCell) (i : ℕ) (z : LiveCell) → rowOf i (ids cs) < length cs → lookup cs i ≡ some (getD cs (rowOf i (ids cs)) z .figure)
+row-lookup [] i z h = absurd (omega arith)
+row-lookup (c ∷ cs) i z h = go (eqb (c .id) i) h (row-lookup cs i z)
+  where
+    go : (b : Bool) → cond b 0 (suc (rowOf i (ids cs))) < suc (length cs)
+        → (rowOf i (ids cs) < length cs → lookup cs i ≡ some (getD cs (rowOf i (ids cs)) z .figure))
+        → someIf b (c .figure) (lookup cs i) ≡ some (getD (c ∷ cs) (cond b 0 (suc (rowOf i (ids cs)))) z .figure)
+    go true u ih = refl
+    go false u ih = ih (omega arith)

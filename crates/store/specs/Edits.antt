@@ -29,9 +29,6 @@ withEntries s l = record { next = s .next; cells = l }
 abbrev pub withCells : Drawing → ℕ → ℕ → List Cell → Drawing
 withCells d next n l = record { next = next; count = n; cells = l; cycles = d .cycles; steps = d .steps; bends = d .bends }
 
-abbrev pub withCycles : Drawing → List ℕ → Drawing
-withCycles d l = record { next = d .next; count = d .count; cells = d .cells; cycles = l; steps = d .steps; bends = d .bends }
-
 abbrev pub withSteps : Drawing → List ℕ → Drawing
 withSteps d l = record { next = d .next; count = d .count; cells = d .cells; cycles = d .cycles; steps = l; bends = d .bends }
 

@@ -6,30 +6,19 @@ use mathlib.Core.Path.{_≡_}
 use mathlib.Core.Bool.{cond}
 use mathlib.Core.List.{List, [], _∷_, map}
 use Rattle.store.specs.declared.Shape.{Shape}
-use Rattle.store.specs.declared.Shape.the-variants.{Vertex, Open, Closed, Face}
 use Rattle.store.specs.declared.Cell.{Cell}
 use Rattle.store.specs.declared.Drawing.{Drawing}
 use Rattle.store.specs.declared.Index.{Index}
-use Rattle.store.specs.View.{bendCount, cycleCount}
+use Rattle.store.specs.View.{numbersOf, bendCount, cycleCount}
 
--- a cell's kind: 0 a vertex, 1 an open edge, 2 a closed edge, 3 a face
 abbrev pub kindOf : Shape → ℕ
-kindOf (Vertex p) = 0
-kindOf (Open s e n) = 1
-kindOf (Closed n) = 2
-kindOf (Face k) = 3
+kindOf x = numbersOf x .kind
 
 abbrev pub shapeStart : Shape → ℕ
-shapeStart (Vertex p) = 0
-shapeStart (Open s e n) = s
-shapeStart (Closed n) = 0
-shapeStart (Face k) = 0
+shapeStart x = numbersOf x .start
 
 abbrev pub shapeEnd : Shape → ℕ
-shapeEnd (Vertex p) = 0
-shapeEnd (Open s e n) = e
-shapeEnd (Closed n) = 0
-shapeEnd (Face k) = 0
+shapeEnd x = numbersOf x .end
 
 -- the index r has the numbers of the first n cells
 pub record CellRows (cells : List Cell) (n : ℕ) (r : Index) : Type 0 where

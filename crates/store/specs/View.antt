@@ -31,17 +31,25 @@ abbrev pub cyclesFrom : List ℕ → List ℕ → List Cycle
 cyclesFrom [] st = []
 cyclesFrom (n ∷ ns) st = cycleOf n st ∷ cyclesFrom ns (drop (width n) st)
 
+-- the numbers of a shape; its kind is 0 for a vertex, 1 for an open edge, 2 for a closed edge, 3 for a face
+pub record Numbers : Type 0 where
+  pub kind : ℕ
+  pub start : ℕ
+  pub end : ℕ
+  pub bends : ℕ
+  pub cycles : ℕ
+
+abbrev pub numbersOf : Shape → Numbers
+numbersOf (Vertex p) = record { kind = 0; start = 0; end = 0; bends = 0; cycles = 0 }
+numbersOf (Open s e n) = record { kind = 1; start = s; end = e; bends = n; cycles = 0 }
+numbersOf (Closed n) = record { kind = 2; start = 0; end = 0; bends = n; cycles = 0 }
+numbersOf (Face k) = record { kind = 3; start = 0; end = 0; bends = 0; cycles = k }
+
 abbrev pub cycleCount : Shape → ℕ
-cycleCount (Vertex p) = 0
-cycleCount (Open s e n) = 0
-cycleCount (Closed n) = 0
-cycleCount (Face k) = k
+cycleCount x = numbersOf x .cycles
 
 abbrev pub bendCount : Shape → ℕ
-bendCount (Vertex p) = 0
-bendCount (Open s e n) = n
-bendCount (Closed n) = n
-bendCount (Face k) = 0
+bendCount x = numbersOf x .bends
 
 -- the figure of a shape, its cycles and bends at the front of ks and bs
 abbrev pub figureOf : Shape → List Cycle → List Position → Figure

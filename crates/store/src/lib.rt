@@ -2,7 +2,7 @@ ghost use mathlib.Core.Path.{_≡_};
 ghost use Prim.Native.Nat.{_≤_};
 ghost use lib.ListN.{take, length};
 ghost use Rattle.store.specs.View.{bendCount, cycleCount};
-ghost use Rattle.store.specs.Index.{kindOf, shapeStart, shapeEnd, Rising, rowOf, valueAt};
+ghost use Rattle.store.specs.Index.{Rising, rowOf, valueAt};
 ghost use Rattle.store.specs.Edits.{placesOf};
 use coordinate::Position;
 
@@ -104,42 +104,6 @@ pub fn find(ids: &[u32; 256], n: usize, id: u32) -> usize
         }
     }
     n
-}
-
-// 0 a vertex, 1 an open edge, 2 a closed edge, 3 a face.
-pub fn kind_of(s: Shape) -> u32
-    ensures { λ r. ⌜ r ≡ kindOf s ⌝ }
-{
-    match s {
-        Shape::Vertex(_) => 0,
-        Shape::Open { .. } => 1,
-        Shape::Closed { .. } => 2,
-        Shape::Face { .. } => 3,
-    }
-}
-
-// The start of an open edge, 0 of another cell.
-pub fn start_of(s: Shape) -> u32
-    ensures { λ r. ⌜ r ≡ shapeStart s ⌝ }
-{
-    match s {
-        Shape::Vertex(_) => 0,
-        Shape::Open { start, .. } => start,
-        Shape::Closed { .. } => 0,
-        Shape::Face { .. } => 0,
-    }
-}
-
-// The end of an open edge, 0 of another cell.
-pub fn end_of(s: Shape) -> u32
-    ensures { λ r. ⌜ r ≡ shapeEnd s ⌝ }
-{
-    match s {
-        Shape::Vertex(_) => 0,
-        Shape::Open { end, .. } => end,
-        Shape::Closed { .. } => 0,
-        Shape::Face { .. } => 0,
-    }
 }
 
 // The value in the row of an id, or z if no row has it.

@@ -3,7 +3,7 @@ use borrow.Author.Needs.{needs}
 use mathlib.Core.Path.{sym, _∙_}
 use Rattle.sound.specs.Rows.{rowsOf}
 use Rattle.decode_parts.specs.Lists.{cyclesRead}
-use Rattle.ask_face_named.proofs.Passing.{cycles-named}
+use Rattle.ask_face_named.proofs.Passing.{cycles-named, rowed-valued}
 use Rattle.ask_face.proofs.Meaning.{no-four, no-six, no-zero}
 use Rattle.ask_face.proofs.face_no.Statement.{statement}
 use Rattle.ask_face.proofs.face_no.Tie as tie
@@ -20,7 +20,7 @@ returns c =
     no-zero t ks (cycles-named t ks e) e
 
 cycles-named-requires : tie.Need-cycles-named-requires
-cycles-named-requires c κs = search needs
+cycles-named-requires c κs = let p = c .before .before .before .before .pre in (p .0, rowed-valued (p .1))
 
 returns-2 : tie.Need-returns-2
 returns-2 c =

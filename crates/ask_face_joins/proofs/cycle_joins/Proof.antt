@@ -14,7 +14,7 @@ rows st = rowsOf (st .args .n) (st .args .ids .now) (st .args .kinds .now) (st .
 lone-named-requires : tie.Need-lone-named-requires
 lone-named-requires c κs =
     let st = c .before .before .before in
-    (stands-one (c .before .take-number .ensures) (st .pre .0) (c .if1 .taken), rowed-valued (st .pre .1 .0))
+    (stands-one (c .before .take-number .ensures) (st .pre .0) (c .if1 .taken), rowed-valued (st .pre .1 .rows))
 
 returns : tie.Need-returns
 returns c =
@@ -22,14 +22,14 @@ returns c =
     let st = t .before .before in
     let z = c .before .if1 .taken in
     let e = passes-lone (t .take-number .ensures) (st .pre .0) (rows st) false z _ refl in
-    (walked-as e (reach-lone (t .take-number .ensures) z) (c .lone-named .ensures), st .pre .1 .1)
+    (walked-as e (reach-lone (t .take-number .ensures) z) (c .lone-named .ensures), st .pre .1 .hints)
 
 path-joins-requires : tie.Need-path-joins-requires
 path-joins-requires c κs =
     let t = c .before .before in
     let st = t .before .before in
     let z = c .before .if1 .left in
-    (stands-some (t .take-number .ensures) (st .pre .0) z, (omega arith, (st .pre .1 .0, st .pre .1 .1)))
+    (stands-some (t .take-number .ensures) (st .pre .0) z, (omega arith, st .pre .1))
 
 returns-2 : tie.Need-returns-2
 returns-2 c =

@@ -28,7 +28,7 @@ cycle-joins-requires : tie.Need-cycle-joins-requires Inv-loop μ-loop
 cycle-joins-requires c κs =
     let l = c .before .before .loop .inv in
     let st = c .before .before .before .before in
-    (one-stands (l .0 .walk .stand) (c .before .loop-test .taken) leaves-cycle, (st .pre .1 .0, l .1))
+    (one-stands (l .0 .walk .stand) (c .before .loop-test .taken) leaves-cycle, record { rows = st .pre .1 .0; hints = l .1 })
 
 returns : tie.Need-returns Inv-loop μ-loop
 returns c =

@@ -30,7 +30,7 @@ rows st = rowsOf (st .args .n) (st .args .ids .now) (st .args .kinds .now) (st .
 
 row-of-requires : tie.Need-row-of-requires Inv-loop μ-loop
 row-of-requires c κs =
-    let p = c .before .before .before .before .before .pre .1 .0 in
+    let p = c .before .before .before .before .before .pre .1 .rows in
     (p .few, (p .ids, (c .before .before .before .loop .inv .1, p .rising)))
 
 returns : tie.Need-returns Inv-loop μ-loop
@@ -39,7 +39,7 @@ returns c =
     let l = t .before .before .loop in
     let st = t .before .before .before .before in
     let a = st .args in
-    let p = st .pre .1 .0 in
+    let p = st .pre .1 .rows in
     let s = t .take-number .result .value in
     let r = c .before .row-of .ensures in
     let g =
@@ -49,7 +49,7 @@ returns c =
 
 goes-on-requires : tie.Need-goes-on-requires Inv-loop μ-loop
 goes-on-requires c κs =
-    let p = c .before .before .before .before .before .before .before .pre .1 .0 in
+    let p = c .before .before .before .before .before .before .before .pre .1 .rows in
     (p .few, (p .kinds, (p .starts, (p .ends, c .if1 .left))))
 
 returns-2 : tie.Need-returns-2 Inv-loop μ-loop
@@ -68,7 +68,7 @@ returns-2 c =
 
 side-requires : tie.Need-side-requires Inv-loop μ-loop
 side-requires c κs =
-    let p = c .before .before .before .before .before .before .before .before .before .pre .1 .0 in
+    let p = c .before .before .before .before .before .before .before .before .before .pre .1 .rows in
     (p .few, (p .ends, (p .starts, c .before .before .if1 .left)))
 
 loop-again : tie.Need-loop-again Inv-loop μ-loop
@@ -99,6 +99,6 @@ returns-4 c =
 pub leads-spec : {M : Type 1} → statement M
 leads-spec =
     tie.close
-    (tie.spec Inv-loop μ-loop (λ c. (record { walk = walking-start (c .before .pre .0); is = refl }, c .before .pre .1 .1))
+    (tie.spec Inv-loop μ-loop (λ c. (record { walk = walking-start (c .before .pre .0); is = refl }, c .before .pre .1 .hints))
     (λ c κs. one-stands (c .before .loop .inv .0 .walk .stand) (c .loop-test .taken) leaves-number)
     row-of-requires returns goes-on-requires returns-2 side-requires (λ c. search needs) (λ c. omega arith) loop-again returns-3 returns-4)

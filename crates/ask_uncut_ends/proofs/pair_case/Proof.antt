@@ -1,13 +1,12 @@
 -- `pair_case` meets its contract. Assumes nothing.
 use borrow.Author.Needs.{needs}
-use mathlib.Core.Path.{sym, _∙_}
-use mathlib.Core.Bool.{Bool, true, false}
+use mathlib.Core.Path.{_≡_, sym, _∙_}
+use mathlib.Core.Bool.{Bool, false}
 use lib.ListN.{take}
 use Rattle.store.specs.View.{cyclesFrom}
 use Rattle.sound.specs.Rows.{rowsOf}
 use Rattle.ask_uncut_turns.specs.Turns.{turnsIn}
-use Rattle.ask_uncut_ends.specs.declared.Ends.{Ends}
-use Rattle.ask_uncut_ends.proofs.Deciding.{pair-loop, pair-turns, pair-back, pair-joint}
+use Rattle.ask_uncut_ends.proofs.Deciding.{pair-turns, pair-loop, pair-joint}
 use Rattle.ask_uncut_ends.proofs.pair_case.Statement.{statement}
 use Rattle.ask_uncut_ends.proofs.pair_case.Tie as tie
 
@@ -18,10 +17,6 @@ turned s whole =
     turnsIn (rowsOf (a .n) (a .ids .now) (a .kinds .now) (a .starts .now) (a .ends .now)) whole (a .v)
     (cyclesFrom (take (a .m) (a .cycles .now)) (a .steps .now))
 
--- what holds of any two ends, of those here
-abbrev here : (s : tie.Start) {T : Ends → Bool → Bool → Type 0} → ((x : Ends) (w g : Bool) → T x w g) → T (s .args .x) (turned s true) (turned s false)
-here s f = f (s .args .x) (turned s true) (turned s false)
-
 one-edge-requires : tie.Need-one-edge-requires
 one-edge-requires c κs = search needs
 
@@ -30,35 +25,26 @@ turns-requires c κs = search needs
 
 returns : tie.Need-returns
 returns c =
-    here (c .before .before .before .before) pair-turns
-    (sym (c .before .before .before .one-edge .ensures) ∙ c .before .before .if1 .taken) (sym (c .before .turns .ensures) ∙ c .if2 .taken)
+    let o = c .before .before in
+    pair-turns (o .before .args .x) (turned (o .before)) (o .one-edge .result) (o .one-edge .ensures) (sym (c .before .turns .ensures) ∙ c .if1 .taken)
+
+-- no cycle turns
+module _ (c : tie.Else1) where
+  abbrev asked : tie.After-one-edge
+  asked = c .before .before
+
+  none : turned (asked .before) (asked .one-edge .result) ≡ false
+  none = sym (c .before .turns .ensures) ∙ c .if1 .left
 
 returns-2 : tie.Need-returns-2
 returns-2 c =
-    here (c .before .before .before .before) pair-loop
-    (sym (c .before .before .before .one-edge .ensures) ∙ c .before .before .if1 .taken) (sym (c .before .turns .ensures) ∙ c .if2 .left)
-
-turns-requires-2 : tie.Need-turns-requires-2
-turns-requires-2 c κs = search needs
+    let o = asked (c .before) in
+    pair-loop (o .before .args .x) (turned (o .before)) (o .one-edge .result) (o .one-edge .ensures) (none (c .before)) (c .if2 .taken)
 
 returns-3 : tie.Need-returns-3
 returns-3 c =
-    here (c .before .before .before .before) pair-back
-    (sym (c .before .before .before .one-edge .ensures) ∙ c .before .before .if1 .left) (sym (c .before .turns2 .ensures) ∙ c .if3 .taken)
-
-returns-4 : tie.Need-returns-4
-returns-4 c =
-    here (c .before .before .before .before) pair-joint
-    (sym (c .before .before .before .one-edge .ensures) ∙ c .before .before .if1 .left) (sym (c .before .turns2 .ensures) ∙ c .if3 .left)
+    let o = asked (c .before) in
+    pair-joint (o .before .args .x) (turned (o .before)) (o .one-edge .result) (o .one-edge .ensures) (none (c .before)) (c .if2 .left)
 
 pub pair-case-spec : {M : Type 1} → statement M
-pair-case-spec =
-    tie.close
-    (tie.spec
-    one-edge-requires
-    turns-requires
-    returns
-    returns-2
-    turns-requires-2
-    returns-3
-    returns-4)
+pair-case-spec = tie.close (tie.spec one-edge-requires turns-requires returns returns-2 returns-3)

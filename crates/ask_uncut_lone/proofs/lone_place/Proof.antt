@@ -1,9 +1,10 @@
 -- `lone_place` meets its contract. The loop keeps: the place is among the cycles left. Assumes nothing.
 use borrow.Author.Needs.{needs}
-use Prim.Native.Nat.{_≤_, _-_}
+use Prim.Native.Nat.{ℕ, _+_, _-_, _≤_}
 use mathlib.Core.Path.{sym, _∙_}
 use native.Mathlib.Omega.{arith}
-use lib.ListN.{getD}
+use lib.ListN.{length, getD}
+use Rattle.store.specs.View.{width}
 use Rattle.store.proofs.Lists.{places-one}
 use Rattle.ask_uncut_lone.proofs.Search.{Seeking, seeking-start, seeking-room, seeking-found, seeking-turn, seeking-end}
 use Rattle.ask_uncut_lone.proofs.lone_place.Statement.{statement}
@@ -15,89 +16,49 @@ Inv-loop cycles m steps v from₀ i₀ from i = (i ≤ m) × Seeking v cycles st
 abbrev μ-loop : tie.MeasureT-loop
 μ-loop cycles m steps v from₀ i₀ from i = m - i
 
+-- the cycle at hand
+module _ (t : tie.In-loop Inv-loop μ-loop) where
+  abbrev begun : tie.Start Inv-loop μ-loop
+  begun = t .before .before
+
+  within : begun .args .m ≤ length (begun .args .cycles .now)
+  within = omega (arith, begun .pre .0, begun .pre .1)
+
+  abbrev number : ℕ
+  number = getD (begun .args .cycles .now) (t .before .loop .i) 0
+
+  -- its steps stand within the array
+  room : t .before .loop .from + width number ≤ 2048
+  room = seeking-room (t .before .loop .inv .1) within (omega arith) (begun .pre .1 .1 .1)
+
 loop-holds : tie.Need-loop-holds Inv-loop μ-loop
-loop-holds c = let a = c .args in (omega arith, seeking-start (a .v) (a .cycles .now) (a .steps .now) (a .m))
-
-mul-c : tie.Need-mul-c Inv-loop μ-loop
-mul-c c = search needs
-
-element-copy-out-c : tie.Need-element-copy-out-c Inv-loop μ-loop
-element-copy-out-c c = search needs
+loop-holds c = (omega arith, seeking-start _ _ _ _)
 
 is-lone-requires : tie.Need-is-lone-requires Inv-loop μ-loop
-is-lone-requires c κs =
-    let at = c .before .before in
-    let s = at .before in
-    let a = s .args in
-    let p = s .pre in (
-      p .1 .0,
-      seeking-room (a .v) (a .cycles .now) (a .steps .now) (a .m) (omega (arith, p .0, p .1)) (at .loop .from) (at .loop .i) (omega arith)
-          (at .loop .inv .1) (p .1 .1 .1),
-    )
+is-lone-requires c κs = (begun (c .before) .pre .1 .0, room (c .before))
 
 returns : tie.Need-returns Inv-loop μ-loop
 returns c =
-    let at = c .before .before .before .before in
-    let s = at .before in
-    let a = s .args in
-    let p = s .pre in
-    seeking-found (a .v) (a .cycles .now) (a .steps .now) (a .m) (omega (arith, p .0, p .1)) (at .loop .from) (at .loop .i) (omega arith) (at .loop .inv .1)
-    (sym (c .before .is-lone .ensures) ∙ c .if1 .taken)
-
-places-requires : tie.Need-places-requires Inv-loop μ-loop
-places-requires c κs = search needs
+    let t = c .before .before .before in
+    seeking-found (t .before .loop .inv .1) (within t) (omega arith) (sym (c .before .is-lone .ensures) ∙ c .if1 .taken)
 
 add-from : tie.Need-add-from Inv-loop μ-loop
 add-from c =
-    let at = c .before .before .before .before .before in
-    let s = at .before in
-    let a = s .args in
-    let p = s .pre in
-    let r = seeking-room (a .v) (a .cycles .now) (a .steps .now) (a .m) (omega (arith, p .0, p .1)) (at .loop .from) (at .loop .i)
-    (omega (arith, c .before .before .before .before)) (at .loop .inv .1) (p .1 .1 .1) in
-    let e = c .places .ensures ∙ places-one (getD (a .cycles .now) (at .loop .i) 0) in
-    record { fits = omega (arith, e, r) }
-
-add-i : tie.Need-add-i Inv-loop μ-loop
-add-i c = omega (arith, c .before .before .before .before)
-
-loop-less : tie.Need-loop-less Inv-loop μ-loop
-loop-less c = omega (arith, c .before .before .before .before)
+    let t = c .before .before .before .before in
+    record { fits = omega (arith, c .places .ensures ∙ places-one (number t), room t) }
 
 loop-again : tie.Need-loop-again Inv-loop μ-loop
 loop-again c =
-    let at = c .before .before .before .before .before in
-    let s = at .before in
-    let a = s .args in
-    let p = s .pre in (
-      omega (arith, c .before .before .before .before),
-      seeking-turn (a .v) (a .cycles .now) (a .steps .now) (a .m) (omega (arith, p .0, p .1)) (at .loop .from) (at .loop .i)
-          (omega (arith, c .before .before .before .before)) (at .loop .inv .1)
-          (sym (c .before .before .is-lone .ensures) ∙ c .before .if1 .left) _ (c .places .ensures ∙ places-one (getD (a .cycles .now) (at .loop .i) 0)),
-    )
+    let t = c .before .before .before .before in
+    let e = c .places .ensures ∙ places-one (number t) in
+    let n = sym (c .before .before .is-lone .ensures) ∙ c .before .if1 .left in
+    (omega (arith, t), seeking-turn (t .before .loop .inv .1) (within t) (omega (arith, t)) n _ e)
 
 returns-2 : tie.Need-returns-2 Inv-loop μ-loop
-returns-2 c =
-    let at = c .before in
-    let s = at .before in
-    let a = s .args in
-    let p = s .pre in
-    seeking-end (a .v) (a .cycles .now) (a .steps .now) (a .m) (omega (arith, p .0, p .1)) (at .loop .from) (at .loop .i) (omega arith) (at .loop .inv .1)
+returns-2 c = let p = c .before .before .pre in seeking-end (c .before .loop .inv .1) (omega (arith, p .0, p .1)) (omega arith)
 
 pub lone-place-spec : {M : Type 1} → statement M
 lone-place-spec =
     tie.close
-    (tie.spec
-    Inv-loop
-    μ-loop
-    loop-holds
-    mul-c
-    element-copy-out-c
-    is-lone-requires
-    returns
-    places-requires
-    add-from
-    add-i
-    loop-less
-    loop-again
-    returns-2)
+    (tie.spec Inv-loop μ-loop loop-holds (λ c. search needs) (λ c. search needs) is-lone-requires returns (λ c κs. search needs) add-from
+    (λ c. omega (arith, c .before .before .before .before)) (λ c. omega (arith, c .before .before .before .before)) loop-again returns-2)

@@ -24,11 +24,8 @@ element-copy-out-first c = search needs
 
 loop-holds : tie.Need-loop-holds Inv-loop μ-loop
 loop-holds c =
-    let a = c .before .args in (
-      omega arith,
-      turning-start (turnsAt (rowsOf (a .n) (a .ids .now) (a .kinds .now) (a .starts .now) (a .ends .now)) (a .whole) (a .v)) (a .steps .now)
-          (a .from) (a .m) _ (omega arith) (omega arith) refl,
-    )
+    let a = c .before .args in
+    (omega arith, turning-start _ (a .steps .now) (a .from) (a .m) _ (omega arith) (omega arith) refl)
 
 add-k : tie.Need-add-k Inv-loop μ-loop
 add-k c = search needs
@@ -44,10 +41,7 @@ turns-at-requires c κs = c .before .before .before .before .pre .0
 
 returns : tie.Need-returns Inv-loop μ-loop
 returns c =
-    let at = c .before .before .before .before in
-    let a = at .before .before .args in
-    turning-found (turnsAt (rowsOf (a .n) (a .ids .now) (a .kinds .now) (a .starts .now) (a .ends .now)) (a .whole) (a .v)) (a .steps .now) (a .from)
-    (a .m) _ (omega arith) (at .loop .h) (at .loop .i) (omega arith) (at .loop .inv .1) (sym (c .before .turns-at .ensures) ∙ c .if1 .taken)
+    turning-found (c .before .before .before .before .loop .inv .1) (omega arith) (omega arith) (sym (c .before .turns-at .ensures) ∙ c .if1 .taken)
 
 add-i : tie.Need-add-i Inv-loop μ-loop
 add-i c = search needs
@@ -57,23 +51,14 @@ loop-less c = search needs
 
 loop-again : tie.Need-loop-again Inv-loop μ-loop
 loop-again c =
-    let at = c .before .before .before .before in
-    let a = at .before .before .args in (
-      omega arith,
-      turning-turn (turnsAt (rowsOf (a .n) (a .ids .now) (a .kinds .now) (a .starts .now) (a .ends .now)) (a .whole) (a .v)) (a .steps .now)
-          (a .from) (a .m) _ (omega arith) (at .loop .h) (at .loop .i) (omega arith) (at .loop .inv .1) (sym (c .before .turns-at .ensures) ∙ c .if1 .left),
-    )
+    let t = c .before .before .before .before .loop .inv .1 in
+    (omega arith, turning-turn t (omega arith) (omega arith) (sym (c .before .turns-at .ensures) ∙ c .if1 .left))
 
 turns-at-requires-2 : tie.Need-turns-at-requires-2 Inv-loop μ-loop
 turns-at-requires-2 c κs = c .before .before .before .pre .0
 
 returns-2 : tie.Need-returns-2 Inv-loop μ-loop
-returns-2 c =
-    let at = c .before .before in
-    let a = at .before .before .args in
-    c .turns-at2 .ensures
-    ∙ turning-end (turnsAt (rowsOf (a .n) (a .ids .now) (a .kinds .now) (a .starts .now) (a .ends .now)) (a .whole) (a .v)) (a .steps .now) (a .from)
-    (a .m) _ (omega arith) (at .loop .h) (at .loop .i) (omega arith) (at .loop .inv .1)
+returns-2 c = c .turns-at2 .ensures ∙ turning-end (c .before .before .loop .inv .1) (omega arith) (omega arith)
 
 pub path-turns-spec : {M : Type 1} → statement M
 path-turns-spec =

@@ -1,11 +1,12 @@
 -- `turns` meets its contract. The loop keeps: the whole test is the test of the cycles left, whose steps begin at `from`. Assumes nothing.
 use borrow.Author.Needs.{needs}
-use Prim.Native.Nat.{_≤_, _-_}
+use Prim.Native.Nat.{ℕ, _+_, _-_, _≤_}
 use mathlib.Core.Path.{sym, _∙_}
 use native.Mathlib.Omega.{arith}
 use lib.ListN.{getD}
 use Rattle.complex.specs.Cells.{Cycle, stepsOf}
 use Rattle.complex.specs.Uses.{passages}
+use Rattle.store.specs.View.{width}
 use Rattle.store.proofs.Lists.{places-one}
 use Rattle.sound.specs.Rows.{rowsOf}
 use Rattle.ask_uncut_turns.specs.Turns.{turnsAt}
@@ -20,103 +21,45 @@ Inv-loop ids kinds starts ends n whole cycles m steps v from₀ i₀ from i =
 abbrev μ-loop : tie.MeasureT-loop
 μ-loop ids kinds starts ends n whole cycles m steps v from₀ i₀ from i = m - i
 
+-- the number of the cycle at hand
+abbrev number : tie.In-loop Inv-loop μ-loop → ℕ
+number t = getD (t .before .before .args .cycles .now) (t .before .loop .i) 0
+
+-- its steps stand within the array
+room : (t : tie.In-loop Inv-loop μ-loop) → t .before .loop .from + width (number t) ≤ 2048
+room t = let q = t .before .before .pre .1 in rounding-room (t .before .loop .inv .1) (omega (arith, q .counts, q .few)) (omega arith) 2048 (q .wide)
+
 loop-holds : tie.Need-loop-holds Inv-loop μ-loop
-loop-holds c =
-    let a = c .args in (
-      omega arith,
-      rounding-start (turnsAt (rowsOf (a .n) (a .ids .now) (a .kinds .now) (a .starts .now) (a .ends .now)) (a .whole) (a .v))
-          (λ (k : Cycle). passages (stepsOf k)) (a .cycles .now) (a .steps .now) (a .m),
-    )
-
-mul-c : tie.Need-mul-c Inv-loop μ-loop
-mul-c c = search needs
-
-element-copy-out-c : tie.Need-element-copy-out-c Inv-loop μ-loop
-element-copy-out-c c = search needs
+loop-holds c = (omega arith, rounding-start _ _ _ _ _)
 
 cycle-turns-requires : tie.Need-cycle-turns-requires Inv-loop μ-loop
-cycle-turns-requires c κs =
-    let at = c .before .before in
-    let s = at .before in
-    let a = s .args in
-    let p = s .pre in (
-      p .0,
-      (
-        p .1 .1 .0,
-        rounding-room (turnsAt (rowsOf (a .n) (a .ids .now) (a .kinds .now) (a .starts .now) (a .ends .now)) (a .whole) (a .v))
-            (λ (k : Cycle). passages (stepsOf k)) (a .cycles .now) (a .steps .now) (a .m) (omega (arith, p .1)) (at .loop .from) (at .loop .i) (omega arith)
-            (at .loop .inv .1) 2048 (p .1 .1 .1 .1),
-      ),
-    )
+cycle-turns-requires c κs = let p = c .before .before .before .pre in (p .0, (p .1 .steps, room (c .before)))
 
 returns : tie.Need-returns Inv-loop μ-loop
 returns c =
     let at = c .before .before .before .before in
-    let s = at .before in
-    let a = s .args in
-    let p = s .pre in
-    rounding-found (turnsAt (rowsOf (a .n) (a .ids .now) (a .kinds .now) (a .starts .now) (a .ends .now)) (a .whole) (a .v))
-    (λ (k : Cycle). passages (stepsOf k)) (a .cycles .now) (a .steps .now) (a .m) (omega (arith, p .1)) (at .loop .from) (at .loop .i) (omega arith)
-    (at .loop .inv .1) (sym (c .before .cycle-turns .ensures) ∙ c .if1 .taken)
-
-places-requires : tie.Need-places-requires Inv-loop μ-loop
-places-requires c κs = search needs
+    let q = at .before .pre .1 in
+    rounding-found (at .loop .inv .1) (omega (arith, q .counts, q .few)) (omega arith) (sym (c .before .cycle-turns .ensures) ∙ c .if1 .taken)
 
 add-from : tie.Need-add-from Inv-loop μ-loop
 add-from c =
-    let at = c .before .before .before .before .before in
-    let s = at .before in
-    let a = s .args in
-    let p = s .pre in
-    let r = rounding-room (turnsAt (rowsOf (a .n) (a .ids .now) (a .kinds .now) (a .starts .now) (a .ends .now)) (a .whole) (a .v))
-    (λ (k : Cycle). passages (stepsOf k)) (a .cycles .now) (a .steps .now) (a .m) (omega (arith, p .1)) (at .loop .from) (at .loop .i)
-    (omega (arith, c .before .before .before .before)) (at .loop .inv .1) 2048 (p .1 .1 .1 .1) in
-    let e = c .places .ensures ∙ places-one (getD (a .cycles .now) (at .loop .i) 0) in
-    record { fits = omega (arith, e, r) }
-
-add-i : tie.Need-add-i Inv-loop μ-loop
-add-i c = omega (arith, c .before .before .before .before)
-
-loop-less : tie.Need-loop-less Inv-loop μ-loop
-loop-less c = omega (arith, c .before .before .before .before)
+    let t = c .before .before .before .before in
+    record { fits = omega (arith, c .places .ensures ∙ places-one (number t), room t) }
 
 loop-again : tie.Need-loop-again Inv-loop μ-loop
 loop-again c =
-    let at = c .before .before .before .before .before in
-    let s = at .before in
-    let a = s .args in
-    let p = s .pre in (
-      omega (arith, c .before .before .before .before),
-      rounding-turn (turnsAt (rowsOf (a .n) (a .ids .now) (a .kinds .now) (a .starts .now) (a .ends .now)) (a .whole) (a .v))
-          (λ (k : Cycle). passages (stepsOf k)) (a .cycles .now) (a .steps .now) (a .m) (omega (arith, p .1)) (at .loop .from) (at .loop .i)
-          (omega (arith, c .before .before .before .before)) (at .loop .inv .1)
-          (sym (c .before .before .cycle-turns .ensures) ∙ c .before .if1 .left) _ (c .places .ensures ∙ places-one (getD (a .cycles .now) (at .loop .i) 0)),
+    let t = c .before .before .before .before in
+    let q = t .before .before .pre .1 in (
+      omega (arith, t),
+      rounding-turn (t .before .loop .inv .1) (omega (arith, q .counts, q .few)) (omega (arith, t))
+          (sym (c .before .before .cycle-turns .ensures) ∙ c .before .if1 .left) _ (c .places .ensures ∙ places-one (number t)),
     )
 
 returns-2 : tie.Need-returns-2 Inv-loop μ-loop
-returns-2 c =
-    let at = c .before in
-    let s = at .before in
-    let a = s .args in
-    let p = s .pre in
-    rounding-end (turnsAt (rowsOf (a .n) (a .ids .now) (a .kinds .now) (a .starts .now) (a .ends .now)) (a .whole) (a .v))
-    (λ (k : Cycle). passages (stepsOf k)) (a .cycles .now) (a .steps .now) (a .m) (omega (arith, p .1)) (at .loop .from) (at .loop .i) (omega arith)
-    (at .loop .inv .1)
+returns-2 c = let q = c .before .before .pre .1 in rounding-end (c .before .loop .inv .1) (omega (arith, q .counts, q .few)) (omega arith)
 
 pub turns-spec : {M : Type 1} → statement M
 turns-spec =
     tie.close
-    (tie.spec
-    Inv-loop
-    μ-loop
-    loop-holds
-    mul-c
-    element-copy-out-c
-    cycle-turns-requires
-    returns
-    places-requires
-    add-from
-    add-i
-    loop-less
-    loop-again
-    returns-2)
+    (tie.spec Inv-loop μ-loop loop-holds (λ c. search needs) (λ c. search needs) cycle-turns-requires returns (λ c κs. search needs) add-from
+    (λ c. omega (arith, c .before .before .before .before)) (λ c. omega (arith, c .before .before .before .before)) loop-again returns-2)

@@ -7,15 +7,6 @@ use Rattle.call_load.proofs.Bare.{bare-yes, bare-no, rows-in}
 use Rattle.call_load.proofs.load.Statement.{statement}
 use Rattle.call_load.proofs.load.Tie as tie
 
-counts-at-requires : tie.Need-counts-at-requires
-counts-at-requires c κs = search needs
-
-enum-known-next : tie.Need-enum-known-next
-enum-known-next c = search needs
-
-enum-told : tie.Need-enum-told
-enum-told c = search needs
-
 returns : tie.Need-returns
 returns c =
     let k = c .before .before in
@@ -27,12 +18,6 @@ load-cells-requires c κs =
     let k = kt .before .before .before in
     let C = counts-some _ (k .counts-at .result) (k .counts-at .ensures) _ _ _ (kt .before .next .given .1) in
     (C .inside, C .few)
-
-enum-known-good : tie.Need-enum-known-good
-enum-known-good c = search needs
-
-enum-told-2 : tie.Need-enum-told-2
-enum-told-2 c = search needs
 
 returns-2 : tie.Need-returns-2
 returns-2 c =
@@ -57,13 +42,5 @@ returns-3 c =
 pub load-spec : {M : Type 1} → statement M
 load-spec =
     tie.close
-    (tie.spec
-    counts-at-requires
-    enum-known-next
-    enum-told
-    returns
-    load-cells-requires
-    enum-known-good
-    enum-told-2
-    returns-2
-    returns-3)
+    (tie.spec (λ c κs. search needs) (λ c. search needs) (λ c. search needs) returns load-cells-requires (λ c. search needs) (λ c. search needs)
+    returns-2 returns-3)

@@ -3,8 +3,9 @@ use Prim.Native.Nat.{_-_, _≤_}
 use borrow.Author.Needs.{needs}
 use native.Mathlib.Omega.{arith}
 use mathlib.Core.Path.{refl}
+use Rattle.lent.specs.Arrays.{listed}
 use Rattle.call_load.specs.Bare.{Stays}
-use Rattle.call_load.proofs.Loads.{listed, rowed-room, head-some, head-none, parts-some, parts-none, bends-inside, bends-room, rowed-left}
+use Rattle.call_load.proofs.Loads.{rowed-room, head-some, head-none, parts-some, parts-none, bends-inside, bends-room, rowed-left}
 use Rattle.call_load.proofs.Bare.{Bare, stays-on, bare-start, bare-long, bare-turn, bare-given}
 use Rattle.call_load.proofs.load_cells.Statement.{statement}
 use Rattle.call_load.proofs.load_cells.Tie as tie

@@ -2,22 +2,10 @@
 use borrow.Author.Needs.{needs}
 use mathlib.Core.Path.{sym, _∙_}
 use denote.Ref.{now}
-use Rattle.call_load.proofs.Loads.{listed}
+use Rattle.lent.specs.Arrays.{listed}
 use Rattle.call_read.proofs.Judged.{loaded-some, loaded-none, no-refusal, read-in, not-in}
 use Rattle.call_read.proofs.read.Statement.{statement}
 use Rattle.call_read.proofs.read.Tie as tie
-
-readable-requires : tie.Need-readable-requires
-readable-requires c κs = search needs
-
-load-requires : tie.Need-load-requires
-load-requires c κs = search needs
-
-enum-known-free : tie.Need-enum-known-free
-enum-known-free c = search needs
-
-enum-told : tie.Need-enum-told
-enum-told c = search needs
 
 returns : tie.Need-returns
 returns c =
@@ -46,4 +34,6 @@ returns-3 c =
     (sym (r .readable .ensures .0) ∙ c .if1 .left)
 
 pub read-spec : {M : Type 1} → statement M
-read-spec = tie.close (tie.spec readable-requires load-requires enum-known-free enum-told returns returns-2 returns-3)
+read-spec =
+    tie.close
+    (tie.spec (λ c κs. search needs) (λ c κs. search needs) (λ c. search needs) (λ c. search needs) returns returns-2 returns-3)

@@ -5,35 +5,15 @@ use mathlib.Core.Path.{_≡_, refl}
 use mathlib.Core.List.{List}
 use native.Mathlib.Omega.{arith}
 use lib.Ieee.{Float}
-use Rattle.lent.specs.Arrays.{Arrays}
+use Rattle.lent.specs.Arrays.{Arrays, listed}
 use Rattle.door.specs.Parts.{AllRows}
 use Rattle.door.proofs.Rows.{Put, put-turn, put-all}
 use Rattle.door.proofs.put_cells.Statement.{statement}
 use Rattle.door.proofs.put_cells.Tie as tie
 
--- the arrays of lists
-abbrev held : ℕ → ℕ → List ℕ → List ℕ → List ℕ → List ℕ → List ℕ → List ℕ → List Float → List Float → List ℕ → List ℕ → List Float → List Float → Arrays
-held next n is ks ss es bs cs us vs cy st ps qs =
-    record {
-      next = next;
-      count = n;
-      ids = is;
-      kinds = ks;
-      starts = ss;
-      ends = es;
-      bends = bs;
-      counts = cs;
-      px = us;
-      py = vs;
-      cycles = cy;
-      steps = st;
-      bx = ps;
-      by = qs;
-    }
-
 abbrev Inv-loop : tie.InvT-loop
 Inv-loop next ids₀ kinds₀ starts₀ ends₀ bends₀ counts₀ px₀ py₀ cycles steps bx by cells i₀ ids kinds starts ends bends counts px py i =
-    (i ≤ 256) × Put cells (held next i ids kinds starts ends bends counts px py cycles steps bx by)
+    (i ≤ 256) × Put cells (listed next i ids kinds starts ends bends counts px py cycles steps bx by)
 
 abbrev μ-loop : tie.MeasureT-loop
 μ-loop next ids₀ kinds₀ starts₀ ends₀ bends₀ counts₀ px₀ py₀ cycles steps bx by cells i₀ ids kinds starts ends bends counts px py i =
@@ -43,7 +23,7 @@ abbrev μ-loop : tie.MeasureT-loop
 abbrev rows : tie.Start Inv-loop μ-loop → ℕ → List ℕ → List ℕ → List ℕ → List ℕ → List ℕ → List ℕ → List Float → List Float → Arrays
 rows c n is ks ss es bs cs us vs =
     let a = c .args in
-    held (a .next) n is ks ss es bs cs us vs (a .cycles .now) (a .steps .now) (a .bx .now) (a .by .now)
+    listed (a .next) n is ks ss es bs cs us vs (a .cycles .now) (a .steps .now) (a .bx .now) (a .by .now)
 
 loop-holds : tie.Need-loop-holds Inv-loop μ-loop
 loop-holds c = (omega arith, record { long = c .pre; front = refl; rows = refl })
@@ -66,7 +46,6 @@ loop-less c = search needs
 loop-again : tie.Need-loop-again Inv-loop μ-loop
 loop-again c =
     let w = c .put-cell .ensures in
-    let v = w .1 .1 .1 .1 in
     let t = c .before .before .before .before .before .before .before .before .before .before in
     let lp = t .before .loop in
     let s = t .before .before in
@@ -74,7 +53,7 @@ loop-again c =
     let a = rows s (lp .i) (lp .ids) (lp .kinds) (lp .starts) (lp .ends) (lp .bends) (lp .counts) (lp .px) (lp .py) in (
       omega (arith, k),
       put-turn (s .args .t2) (s .good .1 .0 .1 .0 .1) a (lp .inv .1) _ _ (omega (arith, k)) refl _
-          (λ j. rows s (lp .i + 1) (w .0 j) (w .1 .0 j) (w .1 .1 .0 j) (w .1 .1 .1 .0 j) (v .0 j) (v .1 .0 j) (v .1 .1 .0 j) (v .1 .1 .1 j)),
+          (λ j. rows s (lp .i + 1) (w .ids j) (w .kinds j) (w .starts j) (w .ends j) (w .bends j) (w .counts j) (w .px j) (w .py j)),
     )
 
 returns : tie.Need-returns Inv-loop μ-loop

@@ -1,8 +1,8 @@
 -- `lent_row::row_right` meets its contract. One rule after another. Assumes nothing.
 use borrow.Author.Needs.{needs}
-use Prim.Native.Nat.{ℕ}
+use Prim.Native.Nat.{ℕ, _<_}
 use native.Mathlib.Omega.{arith}
-use mathlib.Core.Path.{_≡_, ap, sym, _∙_}
+use mathlib.Core.Path.{_≡_, refl, ap, sym, _∙_}
 use lib.ListN.{take}
 use borrow.Author.Tests.{not-true, not-false}
 use Rattle.sound.proofs.Testing.{and-true, and-false}
@@ -21,6 +21,9 @@ held s =
 abbrev row : tie.Start → ℕ
 row s = s .args .i
 
+below : (s : tie.Start) → row s < 256
+below s = row-in (s .pre .0) (s .pre .1 .1)
+
 -- ---- the start, from after each rule that holds
 abbrev start1 : tie.Else1 → tie.Start
 start1 c = c .before .before
@@ -32,7 +35,7 @@ abbrev start2 : tie.Else2 → tie.Start
 start2 c = start1 (id-good (c .before))
 
 abbrev row-good : tie.After-figure-right → tie.Else2
-row-good c = c .before .before
+row-good c = c .before .before .before
 
 abbrev start3 : tie.Else3 → tie.Start
 start3 c = start2 (row-good (c .before))
@@ -63,7 +66,8 @@ figure-is : (c : tie.After-figure-right) →
     (positionIn (s .args .px .now) (s .args .py .now) (row s))
 figure-is c =
     let s = start2 (row-good c) in
-    c .figure-right .ensures ∙ ap (figureRight (rowsIn (held s)) (take (s .args .count) (s .args .bends .now)) (row s)) (c .before .vertex-at .ensures)
+    c .figure-right .ensures (s .args .bends .now) refl
+    ∙ ap (figureRight (rowsIn (held s)) (take (s .args .count) (s .args .bends .now)) (row s)) (c .before .before .vertex-at .ensures)
 
 left3 : (c : tie.Else3) → rowRight (held (start3 c)) (row (start3 c)) ≡ afterFigure (held (start3 c)) (row (start3 c))
 left3 c = left2 (row-good (c .before)) ∙ and-true _ (sym (figure-is (c .before)) ∙ not-false _ (c .if3 .left))
@@ -72,7 +76,7 @@ left4 : (c : tie.Else4) → rowRight (held (start4 c)) (row (start4 c)) ≡ afte
 left4 c =
     let s = start4 c in
     let b = c .before .before in
-    left3 (figure-good b) ∙ and-true _ (bends-fit (held s) (row s) (s .args .t) (s .pre .0) (s .pre .1 .1) _ (b .wide .ensures) (c .if4 .left))
+    left3 (figure-good b) ∙ and-true _ (bends-fit (s .pre .0) (s .pre .1 .1) _ (b .wide .ensures) (c .if4 .left))
 
 -- the numbers of cycles and bends, after all these
 abbrev counted : tie.Else6 → tie.After-wide2
@@ -85,7 +89,7 @@ left6 : (c : tie.Else6) → rowRight (held (start6 c)) (row (start6 c)) ≡ afte
 left6 c =
     let s = start6 c in
     let w = counted c in
-    left4 (bends-good w) ∙ and-true _ (cycles-fit (held s) (row s) (s .args .t) (s .pre .0) (s .pre .1 .1) _ (w .wide2 .ensures) (c .if6 .left))
+    left4 (bends-good w) ∙ and-true _ (cycles-fit (s .pre .0) (s .pre .1 .1) _ (w .wide2 .ensures) (c .if6 .left))
 
 -- ---- the needs
 id-right-requires : tie.Need-id-right-requires
@@ -95,7 +99,7 @@ returns : tie.Need-returns
 returns c =
     let q = c .before in
     let s = q .before in
-    row-fault (held s) (row s) (s .args .t) (s .pre .0) (s .pre .1 .1) (and-false _ (sym (q .id-right .ensures) ∙ not-true _ (c .if1 .taken)))
+    row-fault (s .pre .0) (s .pre .1 .1) (and-false _ (sym (q .id-right .ensures) ∙ not-true _ (c .if1 .taken)))
 
 mul-row-normal : tie.Need-mul-row-normal
 mul-row-normal c = search needs
@@ -134,22 +138,28 @@ returns-2 : tie.Need-returns-2
 returns-2 c =
     let q = c .before in
     let s = start1 (id-good q) in
-    row-fault (held s) (row s) (s .args .t) (s .pre .0) (s .pre .1 .1)
+    row-fault (s .pre .0) (s .pre .1 .1)
     (left1 (id-good q) ∙ and-false _ (sym (q .row-normal .ensures) ∙ not-true _ (c .if2 .taken)))
 
 vertex-at-requires : tie.Need-vertex-at-requires
 vertex-at-requires c κs = search needs
 
+mul-figure-right : tie.Need-mul-figure-right
+mul-figure-right c = search needs
+
+element-copy-out-figure-right : tie.Need-element-copy-out-figure-right
+element-copy-out-figure-right c = search needs
+
 figure-right-requires : tie.Need-figure-right-requires
 figure-right-requires c κs =
-    let s = start2 (c .before) in
-    (looked (held s) (row s) (s .args .t) (s .pre .0) (s .pre .1 .1) _ (s .pre .1 .0), (s .pre .0 .long .bends, s .pre .1 .1))
+    let s = start2 (c .before .before) in
+    (looked (s .pre .0) (s .pre .1 .1) _ (s .pre .1 .0), s .pre .1 .1)
 
 returns-3 : tie.Need-returns-3
 returns-3 c =
     let q = c .before in
     let s = start2 (row-good q) in
-    row-fault (held s) (row s) (s .args .t) (s .pre .0) (s .pre .1 .1) (left2 (row-good q) ∙ and-false _ (sym (figure-is q) ∙ not-true _ (c .if3 .taken)))
+    row-fault (s .pre .0) (s .pre .1 .1) (left2 (row-good q) ∙ and-false _ (sym (figure-is q) ∙ not-true _ (c .if3 .taken)))
 
 mul-wide : tie.Need-mul-wide
 mul-wide c = search needs
@@ -167,8 +177,8 @@ returns-4 : tie.Need-returns-4
 returns-4 c =
     let q = c .before .before in
     let s = start3 (figure-good q) in
-    row-fault (held s) (row s) (s .args .t) (s .pre .0) (s .pre .1 .1)
-    (left3 (figure-good q) ∙ and-false _ (bends-over (held s) (row s) (s .args .t) (s .pre .0) (s .pre .1 .1) _ (q .wide .ensures) (c .if4 .taken)))
+    row-fault (s .pre .0) (s .pre .1 .1)
+    (left3 (figure-good q) ∙ and-false _ (bends-over (s .pre .0) (s .pre .1 .1) _ (q .wide .ensures) (c .if4 .taken)))
 
 mul-wide-2 : tie.Need-mul-wide-2
 mul-wide-2 c = search needs
@@ -179,22 +189,20 @@ element-copy-out-wide-2 c = search needs
 wide-requires-2 : tie.Need-wide-requires-2
 wide-requires-2 c κs = search needs
 
-add-t46 : tie.Need-add-t46
-add-t46 c =
-    let s = start4 (bends-good (c .before)) in
-    record { fits = omega (arith, row-in (held s) (row s) (s .args .t) (s .pre .0) (s .pre .1 .1)) }
-
-add-t47 : tie.Need-add-t47
-add-t47 c = search needs
-
 add-t48 : tie.Need-add-t48
-add-t48 c = search needs
+add-t48 c = record { fits = omega (arith, below (start4 (bends-good (c .before)))) }
+
+add-t49 : tie.Need-add-t49
+add-t49 c = search needs
+
+add-t50 : tie.Need-add-t50
+add-t50 c = search needs
 
 returns-5 : tie.Need-returns-5
 returns-5 c =
     let w = c .before .before .before in
     let s = start4 (bends-good w) in
-    row-plain (held s) (row s) (s .args .t) (s .pre .0) (s .pre .1 .1) _ (w .wide2 .ensures) (left4 (bends-good w)) _ (bent w .wide .ensures)
+    row-plain (s .pre .0) (s .pre .1 .1) _ (w .wide2 .ensures) (left4 (bends-good w)) _ (bent w .wide .ensures)
     (c .before .before .if5 .taken)
 
 sub-if6 : tie.Need-sub-if6
@@ -204,16 +212,16 @@ returns-6 : tie.Need-returns-6
 returns-6 c =
     let w = c .before .before .before in
     let s = start4 (bends-good w) in
-    row-fault (held s) (row s) (s .args .t) (s .pre .0) (s .pre .1 .1)
-    (left4 (bends-good w) ∙ and-false _ (cycles-over (held s) (row s) (s .args .t) (s .pre .0) (s .pre .1 .1) _ (w .wide2 .ensures) (c .if6 .taken)))
+    row-fault (s .pre .0) (s .pre .1 .1)
+    (left4 (bends-good w) ∙ and-false _ (cycles-over (s .pre .0) (s .pre .1 .1) _ (w .wide2 .ensures) (c .if6 .taken)))
 
 cycles-good-requires : tie.Need-cycles-good-requires
 cycles-good-requires c κs =
     let s = start6 c in
     let u = s .pre .0 in
     let h = s .pre .1 .1 in (
-      looked (held s) (row s) (s .args .t) u h _ (s .pre .1 .0),
-      (u .long .cycles, (u .long .steps, (omega (arith, c .if6 .left, u .cycles), (steps-so (held s) (row s) (s .args .t) u h, u .steps)))),
+      looked u h _ (s .pre .1 .0),
+      (u .sized .long .cycles, (u .sized .long .steps, (omega (arith, c .if6 .left, u .cycles), (steps-so u h, u .steps)))),
     )
 
 enum-known-s : tie.Need-enum-known-s
@@ -227,13 +235,11 @@ returns-7 c =
     let w = c .before .before in
     let q = w .before in
     let s = start6 q in
-    row-stop (held s) (row s) (s .args .t) (s .pre .0) (s .pre .1 .1) _ (counted q .wide2 .ensures) (left6 q) _ (w .cycles-good .ensures)
+    row-stop (s .pre .0) (s .pre .1 .1) _ (counted q .wide2 .ensures) (left6 q) _ (w .cycles-good .ensures)
     (c .enum-told .given .1)
 
 add-t30 : tie.Need-add-t30
-add-t30 c =
-    let s = start6 (c .before .before .before .before) in
-    record { fits = omega (arith, row-in (held s) (row s) (s .args .t) (s .pre .0) (s .pre .1 .1)) }
+add-t30 c = record { fits = omega (arith, below (start6 (c .before .before .before .before))) }
 
 add-t34 : tie.Need-add-t34
 add-t34 c = search needs
@@ -247,7 +253,7 @@ returns-8 c =
     let w = k .before .before in
     let q = w .before in
     let s = start6 q in
-    row-done (held s) (row s) (s .args .t) (s .pre .0) (s .pre .1 .1) _ (counted q .wide2 .ensures) (left6 q) _ (bent (counted q) .wide .ensures) _
+    row-done (s .pre .0) (s .pre .1 .1) _ (counted q .wide2 .ensures) (left6 q) _ (bent (counted q) .wide .ensures) _
     (w .cycles-good .ensures) _ (k .s .given .1)
 
 pub row-right-spec : {M : Type 1} → statement M
@@ -269,6 +275,8 @@ row-right-spec =
     row-normal-requires
     returns-2
     vertex-at-requires
+    mul-figure-right
+    element-copy-out-figure-right
     figure-right-requires
     returns-3
     mul-wide
@@ -279,9 +287,9 @@ row-right-spec =
     mul-wide-2
     element-copy-out-wide-2
     wide-requires-2
-    add-t46
-    add-t47
     add-t48
+    add-t49
+    add-t50
     returns-5
     sub-if6
     returns-6

@@ -3,12 +3,10 @@ use borrow.Author.Needs.{needs}
 use Prim.Native.Nat.{ℕ, _+_, _-_, _≤_}
 use mathlib.Core.Path.{_≡_, sym, _∙_}
 use mathlib.Core.Bool.{true}
-use mathlib.Core.List.{List}
-use lib.Ieee.{Float}
 use native.Mathlib.Omega.{arith}
 use borrow.Author.Tests.{not-true, not-false}
 use Rattle.sound.proofs.Testing.{Counting, counting-start}
-use Rattle.lent.specs.Arrays.{Arrays, Lengths, lent}
+use Rattle.lent.specs.Arrays.{Arrays, Lengths, listed, lent}
 use Rattle.lent_row.specs.Row.{rowRight, bareOf, Upto}
 use Rattle.lent_sound.specs.Walk.{rightAt, boundsRight}
 use Rattle.lent_sound.proofs.Cells.{bounds-few, bare-long, rows-start, row-wrong, row-holds}
@@ -16,28 +14,9 @@ use Rattle.lent_sound.proofs.Cells.{rows-turn, walk-out, walk-fault, wa
 use Rattle.lent_sound.proofs.walk.Statement.{statement}
 use Rattle.lent_sound.proofs.walk.Tie as tie
 
-abbrev arrays : ℕ → ℕ → List ℕ → List ℕ → List ℕ → List ℕ → List ℕ → List ℕ → List Float → List Float → List ℕ → List ℕ → List Float → List Float → Arrays
-arrays next count ids kinds starts ends bends counts px py cycles steps bx by =
-    record {
-      next = next;
-      count = count;
-      ids = ids;
-      kinds = kinds;
-      starts = starts;
-      ends = ends;
-      bends = bends;
-      counts = counts;
-      px = px;
-      py = py;
-      cycles = cycles;
-      steps = steps;
-      bx = bx;
-      by = by;
-    }
-
 abbrev Inv-loop : tie.InvT-loop
 Inv-loop next count ids kinds starts ends bends counts px py cycles steps bx by table look t₀ i₀ t i =
-    let a = arrays next count ids kinds starts ends bends counts px py cycles steps bx by in
+    let a = listed next count ids kinds starts ends bends counts px py cycles steps bx by in
     (i ≤ count) × Counting (rightAt look a) count i × Upto (bareOf a) i t
 
 abbrev μ-loop : tie.MeasureT-loop
@@ -96,8 +75,8 @@ bounds-right-requires c κs = search needs
 returns : tie.Need-returns Inv-loop μ-loop
 returns c =
     let b = c .before in
-    walk-out (b .before .before .args .look) (held (b .before .before)) (b .before .known .ensures)
-    (sym (b .bounds-right .ensures) ∙ not-true _ (c .if1 .taken))
+    let l = b .before .known .ensures in
+    (walk-out (b .before .before .args .look) (held (b .before .before)) l (sym (b .bounds-right .ensures) ∙ not-true _ (c .if1 .taken)), l)
 
 fill-requires : tie.Need-fill-requires Inv-loop μ-loop
 fill-requires c κs = few (c .before)
@@ -125,23 +104,25 @@ returns-2 c =
     let turn = q .before .before in
     let at = turn .before in
     let e = inside q in
-    let a = held (start e) in
-    walk-fault (start e .args .look) a (sized e) (bounded e) (at .loop .i) (omega (arith, turn)) (at .loop .inv .1)
-    (row-wrong (bareOf a) (bare-long a (sized e)) (few e) (at .loop .i) (omega (arith, turn)) _ (q .row-right .ensures) (c .enum-told .given .1))
+    let a = held (start e) in (
+      walk-fault (start e .args .look) a (sized e) (bounded e) (at .loop .i) (omega (arith, turn)) (at .loop .inv .1)
+          (row-wrong (bareOf a) (bare-long a (sized e)) (few e) (at .loop .i) (omega (arith, turn)) _ (q .row-right .ensures) (c .enum-told .given .1)),
+      sized e,
+    )
 
 bends-asked-requires : tie.Need-bends-asked-requires Inv-loop μ-loop
 bends-asked-requires c κs = summed c .bends
 
 returns-3 : tie.Need-returns-3 Inv-loop μ-loop
 returns-3 c =
-    let b = c .before in
-    let k = b .before in
-    let q = k .before .before .before in
-    let turn = q .before .before in
+    let k = c .before .before in
+    let turn = asked k .before .before in
     let at = turn .before in
-    let e = inside q in
-    walk-bent (start e .args .look) (held (start e)) (sized e) (bounded e) (at .loop .i) (omega (arith, turn)) (at .loop .inv .1)
-    (right k) (at .loop .t) _ (at .loop .inv .2) (summed k) _ (b .bends-asked .ensures) (not-true _ (c .if2 .taken))
+    let e = inside (asked k) in (
+      walk-bent (start e .args .look) (held (start e)) (sized e) (bounded e) (at .loop .i) (omega (arith, turn)) (at .loop .inv .1)
+          (right k) (at .loop .t) _ (at .loop .inv .2) (summed k) _ (c .before .bends-asked .ensures) (not-true _ (c .if2 .taken)),
+      sized e,
+    )
 
 add-i : tie.Need-add-i Inv-loop μ-loop
 add-i c =
@@ -155,23 +136,23 @@ loop-less c =
 
 loop-again : tie.Need-loop-again Inv-loop μ-loop
 loop-again c =
-    let b = c .before in
-    let k = b .before in
-    let q = k .before .before .before in
-    let turn = q .before .before in
+    let k = c .before .before in
+    let turn = asked k .before .before in
     let at = turn .before in
-    let e = inside q in (
+    let e = inside (asked k) in (
       omega (arith, turn),
       walk-turn (start e .args .look) (held (start e)) (sized e) (bounded e) (at .loop .i) (omega (arith, turn)) (at .loop .inv .1)
-          (right k) (at .loop .t) _ (at .loop .inv .2) (summed k) _ (b .bends-asked .ensures) (not-false _ (c .if2 .left)),
+          (right k) (at .loop .t) _ (at .loop .inv .2) (summed k) _ (c .before .bends-asked .ensures) (not-false _ (c .if2 .left)),
       summed k,
     )
 
 returns-4 : tie.Need-returns-4 Inv-loop μ-loop
 returns-4 c =
     let at = c .before in
-    let e = at .before .before .before in
-    walk-end (start e .args .look) (held (start e)) (sized e) (bounded e) (at .loop .i) (at .loop .t) (omega arith) (at .loop .inv .1) (at .loop .inv .2)
+    let e = at .before .before .before in (
+      walk-end (start e .args .look) (held (start e)) (sized e) (bounded e) (at .loop .i) (at .loop .t) (omega arith) (at .loop .inv .1) (at .loop .inv .2),
+      sized e,
+    )
 
 pub walk-spec : {M : Type 1} → statement M
 walk-spec =

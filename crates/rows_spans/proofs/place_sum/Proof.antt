@@ -1,7 +1,8 @@
 -- `place_sum` meets its contract: after i counts the sum is of those. Assumes nothing.
 use borrow.Author.Needs.{needs}
-use Prim.Native.Nat.{_≤_, _-_, _+_}
+use Prim.Native.Nat.{ℕ, _≤_, _-_, _+_}
 use mathlib.Core.Path.{_≡_, ap, ap₂, sym, _∙_}
+use mathlib.Core.List.{List}
 use native.Mathlib.Omega.{arith}
 use lib.ListN.{take, drop, length-drop}
 use lib.Seq.{getD-drop}
@@ -32,16 +33,26 @@ shared-slice-read-places c = search needs
 places-requires : tie.Need-places-requires Inv-loop μ-loop
 places-requires c κs = search needs
 
+-- one count more
+module _ (c : tie.After-places Inv-loop μ-loop) where
+  abbrev at : tie.At-loop Inv-loop μ-loop
+  at = c .before .before .before
+
+  abbrev run : List ℕ
+  run = drop (at .before .before .args .from) (at .before .before .args .counts .now)
+
+  more : at .loop .sum + c .places .result ≡ total (placesOf (at .before .before .args .z)) (take (at .loop .i + 1) run)
+  more =
+      let a = at .before .before .args in
+      let z = length-drop (a .from) (a .counts .now) in
+      ap₂ _+_ (at .loop .inv .1) (c .places .ensures ∙ ap (placesOf (a .z)) (sym (getD-drop (a .from) (a .counts .now) (at .loop .i) 0)))
+      ∙ sym (sum-more (placesOf (a .z)) run (at .loop .i) 0 (omega arith))
+
 add-sum : tie.Need-add-sum Inv-loop μ-loop
 add-sum c =
-    let at = c .before .before .before in
-    let a = at .before .before .args in
-    let l = drop (a .from) (a .counts .now) in
-    let z = length-drop (a .from) (a .counts .now) in
-    let e = ap₂ _+_ (at .loop .inv .1) (c .places .ensures ∙ ap (placesOf (a .z)) (sym (getD-drop (a .from) (a .counts .now) (at .loop .i) 0)))
-    ∙ sym (sum-more (placesOf (a .z)) l (at .loop .i) 0 (omega arith)) in
-    let h = sum-le (placesOf (a .z)) l (at .loop .i + 1) (a .n) (omega arith) in
-    record { fits = omega (arith, e, h, at .before .before .pre .1) }
+    let s = at c .before .before in
+    let h = sum-le (placesOf (s .args .z)) (run c) (at c .loop .i + 1) (s .args .n) (omega arith) in
+    record { fits = omega (arith, more c, h, s .pre .1) }
 
 add-i : tie.Need-add-i Inv-loop μ-loop
 add-i c = search needs
@@ -50,14 +61,7 @@ loop-less : tie.Need-loop-less Inv-loop μ-loop
 loop-less c = search needs
 
 loop-again : tie.Need-loop-again Inv-loop μ-loop
-loop-again c =
-    let at = c .before .before .before in
-    let a = at .before .before .args in
-    let l = drop (a .from) (a .counts .now) in
-    let z = length-drop (a .from) (a .counts .now) in
-    let e = ap₂ _+_ (at .loop .inv .1) (c .places .ensures ∙ ap (placesOf (a .z)) (sym (getD-drop (a .from) (a .counts .now) (at .loop .i) 0)))
-    ∙ sym (sum-more (placesOf (a .z)) l (at .loop .i) 0 (omega arith)) in
-    (omega arith, e)
+loop-again c = (omega arith, more c)
 
 returns : tie.Need-returns Inv-loop μ-loop
 returns c =

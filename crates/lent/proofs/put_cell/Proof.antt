@@ -1,9 +1,9 @@
 -- `put_cell` meets its contract, shape by shape. Assumes nothing.
 use borrow.Author.Needs.{needs}
 use mathlib.Core.Path.{refl}
-use Rattle.call_load.proofs.Rows.{row-as}
-use Rattle.call_load.proofs.put_cell.Statement.{statement}
-use Rattle.call_load.proofs.put_cell.Tie as tie
+use Rattle.lent.proofs.Grown.{row-as}
+use Rattle.lent.proofs.put_cell.Statement.{statement}
+use Rattle.lent.proofs.put_cell.Tie as tie
 
 enum-known-s : tie.Need-enum-known-s
 enum-known-s c = search needs
