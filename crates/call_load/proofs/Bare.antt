@@ -22,7 +22,7 @@ use Rattle.file_read.specs.Heads.{readHead, ReadAt}
 use Rattle.file_read.specs.Outcome.{CellsOver}
 use Rattle.kernel_add.specs.Comes.{BendsPut}
 use Rattle.kernel_add.proofs.Put.{put-none, put-more}
-use Rattle.lent.specs.Arrays.{Arrays, listed, positionIn, positionsIn, heldBy, Lengths}
+use Rattle.lent.specs.Arrays.{Arrays, ofLists, positionIn, positionsIn, heldBy, Lengths}
 use Rattle.lent.specs.Growing.{RowPut}
 use Rattle.lent.proofs.Held.{numbered, numbered-long}
 use Rattle.call_load.specs.declared.Looked.{Looked}
@@ -113,7 +113,7 @@ module _ (keep : Bool) (s : List ℕ) (at n p : ℕ) (A : List Float → List Fl
       (W : RowPut (held .count) (c .id) (c .shape) (held .ids) (held .kinds) (held .starts) (held .ends) (held .bends) (held .counts) (held .px)
       (held .py) is ks ss es bs cs px py) where
     abbrev more : List Float → List Float → Arrays
-    more us vs = listed (held .next) (held .count + 1) is ks ss es bs cs px py counts′ steps′ us vs
+    more us vs = ofLists (held .next) (held .count + 1) is ks ss es bs cs px py counts′ steps′ us vs
 
     abbrev spots : List Position
     spots = positionsAt s first (bendCount (c .shape))

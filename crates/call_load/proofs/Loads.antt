@@ -36,7 +36,7 @@ use Rattle.file_read.proofs.Filled.{Filled, filled-start, filled-room, filled-t
 use Rattle.file_read.proofs.Verdict.{cells-read}
 use Rattle.kernel_add.specs.Comes.{BendsPut}
 use Rattle.sound.specs.Rows.{allFrom}
-use Rattle.lent.specs.Arrays.{Arrays, listed, positionsIn, heldBy, normalAt, normal, Lengths}
+use Rattle.lent.specs.Arrays.{Arrays, ofLists, positionsIn, heldBy, normalAt, normal, Lengths}
 use Rattle.lent.specs.Growing.{acrossWith, upWith, RowPut}
 use Rattle.lent.proofs.Held.{held-sizes, numbered, numbered-long, positions-length as places-length}
 use Rattle.lent.proofs.Grown.{shape-long, shape-held, shape-normal}
@@ -201,10 +201,10 @@ module _ (s : List ℕ) (at n p : ℕ) (a : Arrays) (used : Used) (R : Rowed s a
     -- the row is written
     pub rowed-next : (is ks ss es bs cs : List ℕ) (px py : List Float) → RowPut (a .count) (c .id) (c .shape) (a .ids) (a .kinds) (a .starts) (a .ends)
         (a .bends) (a .counts) (a .px) (a .py) is ks ss es bs cs px py
-        → Rowed s at n next (listed (a .next) (a .count + 1) is ks ss es bs cs px py counts′ steps′ xs′ ys′) used′
+        → Rowed s at n next (ofLists (a .next) (a .count + 1) is ks ss es bs cs px py counts′ steps′ xs′ ys′) used′
     rowed-next is ks ss es bs cs px py W =
         subst (λ (b : Arrays). Rowed s at n next b used′)
-        (sym (λ i. listed (a .next) (a .count + 1) (W .ids i) (W .kinds i) (W .starts i) (W .ends i) (W .bends i) (W .counts i) (W .px i) (W .py i) counts′
+        (sym (λ i. ofLists (a .next) (a .count + 1) (W .ids i) (W .kinds i) (W .starts i) (W .ends i) (W .bends i) (W .counts i) (W .px i) (W .py i) counts′
         steps′ xs′ ys′)) rowed-turn
 
   -- ---- a cell's head

@@ -4,7 +4,7 @@ ghost use mathlib.Core.Path.{_≡_};
 ghost use lib.ListN.{length};
 ghost use Rattle.complex.specs.File.{readFile};
 ghost use Rattle.lent.specs.Arrays.{entry, exit};
-ghost use Rattle.call_read.specs.Taken.{ReadIn};
+ghost use Rattle.call_open.specs.Taken.{ReadIn};
 ghost use Rattle.call_asked.specs.Entries.{Begun, restOn, starOn, eulerOn, writeOn};
 ghost use Rattle.entry_command.specs.Commands.{CommandedIn};
 ghost use Rattle.entry_files.specs.Calls.{filledAs, starAt, eulerAs, eulerAt, again};

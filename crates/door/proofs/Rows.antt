@@ -10,7 +10,7 @@ use lib.ListN.{length, getD, take}
 use Rattle.store.specs.declared.Cell.{Cell}
 use Rattle.store.specs.declared.Drawing.{Drawing}
 use Rattle.store.proofs.Rows.{getD-past}
-use Rattle.lent.specs.Arrays.{Arrays, listed, shapeAt, positionsIn, heldBy, rowNormal, normalAt, normal, Lengths}
+use Rattle.lent.specs.Arrays.{Arrays, ofLists, shapeAt, positionsIn, heldBy, rowNormal, normalAt, normal, Lengths}
 use Rattle.lent.specs.Growing.{withShape}
 use Rattle.lent.proofs.Held.{cells-length, all-at, all-intro, numbered, numbered-long}
 use Rattle.lent.proofs.Grown.{shape-long, shape-held, shape-normal}
@@ -67,7 +67,7 @@ module _ (l : List Cell) (h : length l ≡ 256) (a : Arrays) (p : Put l a) where
 -- ---- the whole
 abbrev pub apart : Drawing → Arrays → List Float → List Float → Arrays
 apart d a xs ys =
-    listed (d .next) (d .count) (a .ids) (a .kinds) (a .starts) (a .ends) (a .bends) (a .counts) (a .px) (a .py) (d .cycles) (d .steps) xs ys
+    ofLists (d .next) (d .count) (a .ids) (a .kinds) (a .starts) (a .ends) (a .bends) (a .counts) (a .px) (a .py) (d .cycles) (d .steps) xs ys
 
 module _ (d : Drawing) (a : Arrays) (xs ys : List Float) (r : AllRows (d .cells) a) where
   pub apart-held : positionsIn xs ys ≡ d .bends → heldBy (apart d a xs ys) ≡ d

@@ -15,7 +15,7 @@ use Rattle.file_write.specs.Writes.{writeAnswered}
 use Rattle.answer.specs.declared.Totals.{Totals}
 use Rattle.lent.specs.Arrays.{Arrays, heldBy}
 use Rattle.call_save.specs.Saved.{SavedIn}
-use Rattle.call_read.specs.Taken.{FileIn}
+use Rattle.call_open.specs.Taken.{FileIn}
 use Rattle.entry_told.specs.Told.{toldOf, front}
 use Rattle.entry_run.specs.Runs.{RanIn}
 use Rattle.entry_files.specs.Calls.{drawn}

@@ -32,7 +32,7 @@ pub fn run(
     let mut steps = [0u32; 2048];
     let mut bx = [0.0; 2048];
     let mut by = [0.0; 2048];
-    let Walked::Sound(_) = call_read::open(
+    let Walked::Sound(_) = call_open::open(
         &mut next,
         &mut n,
         &mut ids,

@@ -22,7 +22,7 @@ use Rattle.answer.specs.declared.Totals.{Totals}
 use Rattle.lent.specs.Arrays.{Arrays, heldBy}
 use Rattle.lent.proofs.Sums.{ready-drawing}
 use Rattle.call_cells.proofs.Files.{call-is}
-use Rattle.call_read.specs.Taken.{FileIn}
+use Rattle.call_open.specs.Taken.{FileIn}
 use Rattle.entry_files.specs.Calls.{isFile, drawn, starAt, eulerAs, eulerAt, again}
 
 -- ---- bytes that are no file

@@ -23,7 +23,7 @@ pub fn open_number(file: &[u8]) -> u32
     let mut steps = [0u32; 2048];
     let mut bx = [0.0; 2048];
     let mut by = [0.0; 2048];
-    let Walked::Sound(_) = call_read::open(
+    let Walked::Sound(_) = call_open::open(
         &mut next,
         &mut n,
         &mut ids,
@@ -63,7 +63,7 @@ pub fn star(file: &[u8], id: u32, buffer: &mut [u32], count: &mut u32) -> u32
     let mut steps = [0u32; 2048];
     let mut bx = [0.0; 2048];
     let mut by = [0.0; 2048];
-    let Walked::Sound(t) = call_read::open(
+    let Walked::Sound(t) = call_open::open(
         &mut next,
         &mut n,
         &mut ids,
@@ -124,7 +124,7 @@ pub fn euler(file: &[u8], value: &mut i32) -> u32
     let mut steps = [0u32; 2048];
     let mut bx = [0.0; 2048];
     let mut by = [0.0; 2048];
-    let Walked::Sound(_) = call_read::open(
+    let Walked::Sound(_) = call_open::open(
         &mut next,
         &mut n,
         &mut ids,
@@ -182,7 +182,7 @@ pub fn write_again(file: &[u8], buffer: &mut [u8], count: &mut u32) -> u32
     let mut steps = [0u32; 2048];
     let mut bx = [0.0; 2048];
     let mut by = [0.0; 2048];
-    let Walked::Sound(t) = call_read::open(
+    let Walked::Sound(t) = call_open::open(
         &mut next,
         &mut n,
         &mut ids,

@@ -37,7 +37,7 @@ use Rattle.lent.specs.Arrays.{Arrays, shapeBy, shapeAt, positionIn, positionsIn
 use Rattle.lent.specs.Growing.{withRow}
 use Rattle.lent.proofs.Held.{all-at, cells-shape, cells-told, held-sizes, told, positions-at, positions-set, positions-length, place-other, place-same}
 use Rattle.lent.proofs.Grown.{row-long, row-held, row-normal}
-use Rattle.kernel_copies.specs.Copies.{filled, numbered, RowsPut, CopiesCome, UsesCopied}
+use Rattle.kernel_copies.specs.Copies.{filledRows, numberedRows, RowsPut, CopiesCome, UsesCopied}
 
 -- ---- places in a round
 pub round-next : (j i k r : ℕ) → i ≡ j % k → r ≡ (i + 1) % k → r ≡ (j + 1) % k
@@ -65,8 +65,9 @@ bend-put us₀ vs₀ us vs us′ vs′ base n first k i j p l₀ m₀ l m e ei h
     ∙ bend-more ps₀ ps base n first k j p e h (omega (arith, g, z, l₀)) t
 
 -- ---- the lists of rows, one turn at a time
-fill-more : {A : Type 0} {m m′ : List A} (l : List A) (at : ℕ) (x : A) (i : ℕ) → m ≡ filled l at x i → m′ ≡ set m (at + i) x → m′ ≡ filled l at x (i + 1)
-fill-more {A} l at x i e f = f ∙ ap (λ (q : List A). set q (at + i) x) e ∙ ap (filled l at x) (sym (add-one i))
+fill-more : {A : Type 0} {m m′ : List A} (l : List A) (at : ℕ) (x : A) (i : ℕ) → m ≡ filledRows l at x i → m′ ≡ set m (at + i) x
+    → m′ ≡ filledRows l at x (i + 1)
+fill-more {A} l at x i e f = f ∙ ap (λ (q : List A). set q (at + i) x) e ∙ ap (filledRows l at x) (sym (add-one i))
 
 pub rows-turn : {next count row i : ℕ} {is ks ss es bs cs : List ℕ} {us vs : List Float} {is′ ks′ ss′ es′ bs′ cs′ : List ℕ} {us′ vs′ : List Float}
     → RowsPut next count row i is ks ss es bs cs us vs is′ ks′ ss′ es′ bs′ cs′ us′ vs′
@@ -77,7 +78,7 @@ pub rows-turn : {next count row i : ℕ} {is ks ss es bs cs : List ℕ} {us vs :
     → RowsPut next count row (i + 1) is ks ss es bs cs us vs is″ ks″ ss″ es″ bs″ cs″ us″ vs″
 rows-turn {next} {count} {row} {i} {is} {ks} {ss} {es} {bs} {cs} {us} {vs} {is′} {ks′} {ss′} {es′} {bs′} {cs′} {us′} {vs′} r ei ep e k s f b c u v =
     record {
-      ids = e ∙ ap₂ (λ (q : List ℕ) (n : ℕ). set q (count + i) n) (r .ids) ei ∙ ap (numbered is count next) (sym (add-one i));
+      ids = e ∙ ap₂ (λ (q : List ℕ) (n : ℕ). set q (count + i) n) (r .ids) ei ∙ ap (numberedRows is count next) (sym (add-one i));
       kinds = fill-more ks count (getD ks row 0) i (r .kinds) k;
       starts = fill-more ss count (getD ss row 0) i (r .starts) s;
       ends = fill-more es count (getD es row 0) i (r .ends) f;
@@ -179,10 +180,10 @@ module _ (a : Arrays) (l : Lengths a) (m : normal a ≡ true) (row n : ℕ) (h :
   -- with i rows more
   abbrev grown : ℕ → ℕ → ℕ → Arrays
   grown i next k =
-      withRows a next k (numbered (a .ids) (a .count) (a .next) i) (filled (a .kinds) (a .count) (getD (a .kinds) row 0) i)
-      (filled (a .starts) (a .count) (getD (a .starts) row 0) i) (filled (a .ends) (a .count) (getD (a .ends) row 0) i)
-      (filled (a .bends) (a .count) (getD (a .bends) row 0) i) (filled (a .counts) (a .count) (getD (a .counts) row 0) i)
-      (filled (a .px) (a .count) (getD (a .px) row nan) i) (filled (a .py) (a .count) (getD (a .py) row nan) i)
+      withRows a next k (numberedRows (a .ids) (a .count) (a .next) i) (filledRows (a .kinds) (a .count) (getD (a .kinds) row 0) i)
+      (filledRows (a .starts) (a .count) (getD (a .starts) row 0) i) (filledRows (a .ends) (a .count) (getD (a .ends) row 0) i)
+      (filledRows (a .bends) (a .count) (getD (a .bends) row 0) i) (filledRows (a .counts) (a .count) (getD (a .counts) row 0) i)
+      (filledRows (a .px) (a .count) (getD (a .px) row nan) i) (filledRows (a .py) (a .count) (getD (a .py) row nan) i)
 
   some-rows : (i : ℕ) → i ≤ n → RowsCome a (shapeAt a row) n i (grown i (a .next + i) (a .count + i))
   some-rows zero g =

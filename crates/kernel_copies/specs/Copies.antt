@@ -16,25 +16,25 @@ use Rattle.rows_copied.specs.Copying.{copied}
 use Rattle.lent.specs.Arrays.{Arrays, heldBy, normal, Lengths}
 
 -- x put n times from a place on, and the n numbers from x on
-abbrev pub filled : {A : Type 0} → List A → ℕ → A → ℕ → List A
-filled l at x zero = l
-filled l at x (suc n) = set (filled l at x n) (at + n) x
+abbrev pub filledRows : {A : Type 0} → List A → ℕ → A → ℕ → List A
+filledRows l at x zero = l
+filledRows l at x (suc n) = set (filledRows l at x n) (at + n) x
 
-abbrev pub numbered : List ℕ → ℕ → ℕ → ℕ → List ℕ
-numbered l at x zero = l
-numbered l at x (suc n) = set (numbered l at x n) (at + n) (x + n)
+abbrev pub numberedRows : List ℕ → ℕ → ℕ → ℕ → List ℕ
+numberedRows l at x zero = l
+numberedRows l at x (suc n) = set (numberedRows l at x n) (at + n) (x + n)
 
 -- the lists of rows have i more like the one in a row, after the last, with the next ids
 pub record RowsPut (next count row i : ℕ) (is ks ss es bs cs : List ℕ) (us vs : List Float) (is′ ks′ ss′ es′ bs′ cs′ : List ℕ) (us′ vs′ : List Float)
     : Type 0 where
-  pub ids : is′ ≡ numbered is count next i
-  pub kinds : ks′ ≡ filled ks count (getD ks row 0) i
-  pub starts : ss′ ≡ filled ss count (getD ss row 0) i
-  pub ends : es′ ≡ filled es count (getD es row 0) i
-  pub bends : bs′ ≡ filled bs count (getD bs row 0) i
-  pub counts : cs′ ≡ filled cs count (getD cs row 0) i
-  pub px : us′ ≡ filled us count (getD us row nan) i
-  pub py : vs′ ≡ filled vs count (getD vs row nan) i
+  pub ids : is′ ≡ numberedRows is count next i
+  pub kinds : ks′ ≡ filledRows ks count (getD ks row 0) i
+  pub starts : ss′ ≡ filledRows ss count (getD ss row 0) i
+  pub ends : es′ ≡ filledRows es count (getD es row 0) i
+  pub bends : bs′ ≡ filledRows bs count (getD bs row 0) i
+  pub counts : cs′ ≡ filledRows cs count (getD cs row 0) i
+  pub px : us′ ≡ filledRows us count (getD us row nan) i
+  pub py : vs′ ≡ filledRows vs count (getD vs row nan) i
 
 -- b holds a's drawing with n copies of the cell in a row
 pub record CopiesCome (a : Arrays) (row n : ℕ) (b : Arrays) : Type 0 where

@@ -24,7 +24,7 @@ use Rattle.rows_stretches.proofs.Paths.{few-front, few-left}
 use Rattle.rows_stretches.proofs.Lists.{few-after}
 use Rattle.kernel_paths.specs.declared.Run.{Run}
 use Rattle.kernel_paths.specs.declared.Sides.{Sides}
-use Rattle.kernel_paths.specs.Runs.{runOf, RunRoom, Inside, sidesOf, Puts}
+use Rattle.kernel_paths.specs.Runs.{pathRun, RunRoom, Inside, sidesOf, Puts}
 
 -- ---- one element goes
 module _ {A : Type 0} where
@@ -85,10 +85,10 @@ module _ {cycles steps : List ℕ} {p : Place} (l : Lies cycles steps p) where
   -- ---- a run of the face's cycles with its steps, and the two runs
   run-room : (r : Run) → length (take (r .count) (drop (r .first) cycles)) ≡ r .count → r .first + r .count ≤ 512 → r .from + r .len ≤ 2048
       → widthSum (take (r .count) (drop (r .first) cycles)) ≡ r .len → {numbers : List ℕ} {u : Used} {places : List ℕ} → Building numbers u places
-      → RoomFor (length numbers) (length places) (built numbers u places ++ runOf cycles steps r) → RunRoom cycles steps r numbers u places
+      → RoomFor (length numbers) (length places) (built numbers u places ++ pathRun cycles steps r) → RunRoom cycles steps r numbers u places
   run-room r el hc hs ew b f =
       let ns = take (r .count) (drop (r .first) cycles) in
-      let x = few-left b (runOf cycles steps r) f in
+      let x = few-left b (pathRun cycles steps r) f in
       let fc = x .0 in
       let fs = x .1 in
       let z = l .within .stepsSize in
@@ -107,15 +107,15 @@ module _ {cycles steps : List ℕ} {p : Place} (l : Lies cycles steps p) where
 
   module _ {t : Sides} (e : t ≡ sidesOf p) where
     abbrev front : List Cycle
-    front = runOf cycles steps (t .ahead)
+    front = pathRun cycles steps (t .ahead)
 
     abbrev back : List Cycle
-    back = runOf cycles steps (t .behind)
+    back = pathRun cycles steps (t .behind)
 
     ahead-room : {numbers : List ℕ} {u : Used} {places : List ℕ} → Building numbers u places
         → RoomFor (length numbers) (length places) (built numbers u places ++ front) → RunRoom cycles steps (t .ahead) numbers u places
     ahead-room {numbers} {u} {places} b =
-        subst (λ (s : Sides). RoomFor (length numbers) (length places) (built numbers u places ++ runOf cycles steps (s .ahead))
+        subst (λ (s : Sides). RoomFor (length numbers) (length places) (built numbers u places ++ pathRun cycles steps (s .ahead))
         → RunRoom cycles steps (s .ahead) numbers u places) (sym e)
         (run-room (sidesOf p .ahead) ahead-length (omega (arith, l .cycle, l .within .inCycles)) (omega (arith, l .place, widths, l .within .inSteps))
         (omega (arith, l .place)) b)
@@ -123,7 +123,7 @@ module _ {cycles steps : List ℕ} {p : Place} (l : Lies cycles steps p) where
     behind-room : {numbers : List ℕ} {u : Used} {places : List ℕ} → Building numbers u places
         → RoomFor (length numbers) (length places) (built numbers u places ++ back) → RunRoom cycles steps (t .behind) numbers u places
     behind-room {numbers} {u} {places} b =
-        subst (λ (s : Sides). RoomFor (length numbers) (length places) (built numbers u places ++ runOf cycles steps (s .behind))
+        subst (λ (s : Sides). RoomFor (length numbers) (length places) (built numbers u places ++ pathRun cycles steps (s .behind))
         → RunRoom cycles steps (s .behind) numbers u places) (sym e)
         (run-room (sidesOf p .behind) behind-length (omega (arith, l .cycle, l .within .inCycles)) (omega (arith, l .place, widths, l .within .inSteps))
         (omega (arith, l .place, widths)) b)
@@ -139,11 +139,11 @@ module _ {cycles steps : List ℕ} {p : Place} (l : Lies cycles steps p) where
         ∙ ap (λ (q : List ℕ). cyclesFrom ahead st ++ (own ∷ cyclesFrom behind q))
         (ap₂ drop own-width (drop-drop (widthSum ahead) (p .spans .steps .first) steps ∙ ap (λ (n : ℕ). drop n steps) (l .place))
         ∙ drop-drop (p .count) (p .at) steps)
-        ∙ ap (λ (s : Sides). runOf cycles steps (s .ahead) ++ (own ∷ runOf cycles steps (s .behind))) (sym e)
+        ∙ ap (λ (s : Sides). pathRun cycles steps (s .ahead) ++ (own ∷ pathRun cycles steps (s .behind))) (sym e)
 
     front-length : length front ≡ p .cycle
     front-length =
-        ap (λ (s : Sides). length (runOf cycles steps (s .ahead))) e ∙ length-cycles ahead (drop (p .spans .steps .first) steps) ∙ ahead-length
+        ap (λ (s : Sides). length (pathRun cycles steps (s .ahead))) e ∙ length-cycles ahead (drop (p .spans .steps .first) steps) ∙ ahead-length
 
     others-about : othersAt cycles steps p ≡ front ++ back
     others-about =

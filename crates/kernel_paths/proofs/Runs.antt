@@ -14,7 +14,7 @@ use Rattle.rows_spans.specs.Building.{Built, built}
 use Rattle.rows_spans.proofs.Building.{cycles-append, held, built-same}
 use Rattle.rows_spans.proofs.Splicing.{paste-front, paste-run}
 use Rattle.kernel_paths.specs.declared.Run.{Run}
-use Rattle.kernel_paths.specs.Runs.{runOf, RunRoom}
+use Rattle.kernel_paths.specs.Runs.{pathRun, RunRoom}
 
 -- cycles are read from their own places alone
 cycles-same : (l : List ℕ) (k : ℕ) (s t : List ℕ) → k ≤ length l → widthSum (take k l) ≤ length s → widthSum (take k l) ≤ length t
@@ -27,7 +27,7 @@ cycles-same l k s t h hs ht e =
 pub run-built : {cycles steps : List ℕ} {r : Run} {numbers : List ℕ} {u : Used} {places : List ℕ} → RunRoom cycles steps r numbers u places
     → (c s : ℕ) (cs ps : List ℕ) → c ≡ u .cycles + r .count → cs ≡ paste numbers (u .cycles) (drop (r .first) cycles) (r .count)
     → s ≡ u .steps + r .len → ps ≡ paste places (u .steps) (drop (r .from) steps) (r .len)
-    → Built (built numbers u places ++ runOf cycles steps r) cs (record { cycles = c; steps = s }) ps
+    → Built (built numbers u places ++ pathRun cycles steps r) cs (record { cycles = c; steps = s }) ps
 run-built {cycles} {steps} {r} {numbers} {u} {places} room c s cs ps ec ecs es eps =
     let k = r .count in
     let m = r .len in

@@ -15,8 +15,8 @@ use Rattle.kernel_paths.specs.declared.Run.{Run}
 use Rattle.kernel_paths.specs.declared.Sides.{Sides}
 
 -- the cycles of a run
-abbrev pub runOf : List ℕ → List ℕ → Run → List Cycle
-runOf cycles steps r = cyclesFrom (take (r .count) (drop (r .first) cycles)) (drop (r .from) steps)
+abbrev pub pathRun : List ℕ → List ℕ → Run → List Cycle
+pathRun cycles steps r = cyclesFrom (take (r .count) (drop (r .first) cycles)) (drop (r .from) steps)
 
 -- a run lies in a drawing's arrays, and a list has room for it
 pub record RunRoom (cycles steps : List ℕ) (r : Run) (numbers : List ℕ) (u : Used) (places : List ℕ) : Type 0 where

@@ -4,7 +4,7 @@ ghost use lib.ListN.{length};
 ghost use Rattle.complex.specs.Lists.{one};
 ghost use Rattle.rows_spans.specs.Building.{Built, built, RoomFor};
 ghost use Rattle.rows_stretches.specs.Paths.{pathOf, PathRoom, othersAt, putAt, Besides, mergedList, Merging, partedList, Parting, ringedList, Ringing};
-ghost use Rattle.kernel_paths.specs.Runs.{runOf, RunRoom, Inside, sidesOf, Puts};
+ghost use Rattle.kernel_paths.specs.Runs.{pathRun, RunRoom, Inside, sidesOf, Puts};
 use rows_spans::Used;
 use rows_stretches::Place;
 use rows_stretches::Stretch;
@@ -58,7 +58,7 @@ fn copy_cycles(
     u: Used,
 ) -> Used
     requires { ⌜ RunRoom (now cycles) (now steps) r (now numbers) u (now places) ⌝ }
-    ensures { λ x. ⌜ Built (built (now (numbers .entry)) u (now (places .entry)) ++ runOf (now (cycles .entry)) (now (steps .entry)) r) (now (numbers .exit)) x (now (places .exit)) ⌝ }
+    ensures { λ x. ⌜ Built (built (now (numbers .entry)) u (now (places .entry)) ++ pathRun (now (cycles .entry)) (now (steps .entry)) r) (now (numbers .exit)) x (now (places .exit)) ⌝ }
 {
     let c = rows_spans::copy_run(cycles, r.first, r.count, numbers, u.cycles);
     let s = rows_spans::copy_run(steps, r.from, r.len, places, u.steps);

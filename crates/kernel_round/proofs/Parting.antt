@@ -33,7 +33,7 @@ use Rattle.law_cut_face.specs.Rounds.{stayed, left}
 use Rattle.kernel_cycles.specs.Replacing.{andOne}
 use Rattle.kernel_cycles.proofs.Moving.{one-front}
 use Rattle.rows_corners.proofs.Runs.{runs-long, runs-built}
-use Rattle.kernel_round.specs.Parting.{Fit, Flagged, TwoBuilt, Parting, Put, Parted}
+use Rattle.kernel_round.specs.Parting.{Fit, Flagged, TwoBuilt, RoundParting, Put, RoundParted}
 
 -- ---- one list in the place of a run, and another after all numbers
 pub put-is : (old mid : List ℕ) (s : Span) (new : List ℕ) (n : ℕ) (more : List ℕ) (m : ℕ) (out : List ℕ) → length mid ≡ length old → Spliced old s new n mid
@@ -215,10 +215,10 @@ step-built ks e =
           record { countsSize = omega arith; stepsSize = omega arith; width = refl; cycleRoom = omega arith; stepRoom = omega arith };
     }
 
-module _ (cycles steps : List ℕ) (s : Spans) (script : List ℕ) (moved place e : ℕ) (p : Parting cycles steps s script moved place e) where
+module _ (cycles steps : List ℕ) (s : Spans) (script : List ℕ) (moved place e : ℕ) (p : RoundParting cycles steps s script moved place e) where
   none-parted : (cs ss : List ℕ) → Put cycles (after (s .cycles)) (1 ∷ 1 ∷ []) 1 (1 ∷ []) 1 cs
       → Put steps (after (s .steps)) ((2 * e) ∷ (2 * e + 1) ∷ []) 1 ((2 * e + 1) ∷ []) 1 ss
-      → Parted cycles steps s (stayed [] (cyclesAt cycles steps s) e) (left [] (cyclesAt cycles steps s) e) (used s) single cs ss
+      → RoundParted cycles steps s (stayed [] (cyclesAt cycles steps s) e) (left [] (cyclesAt cycles steps s) e) (used s) single cs ss
   none-parted cs ss a b =
       let w = p .within in
       let hc : s .cycles .count < cyclesMost = omega (arith, p .cycleRoom) in
@@ -237,10 +237,10 @@ module _ (cycles steps : List ℕ) (s : Spans) (script : List ℕ) (moved place 
   -- none is named, and none is read
   pub none-read : moved ≡ 0 → (cs ss : List ℕ) → Put cycles (after (s .cycles)) (1 ∷ 1 ∷ []) 1 (1 ∷ []) 1 cs
       → Put steps (after (s .steps)) ((2 * e) ∷ (2 * e + 1) ∷ []) 1 ((2 * e + 1) ∷ []) 1 ss
-      → Parted cycles steps s (stayed (numbersRead script place moved) (cyclesAt cycles steps s) e)
+      → RoundParted cycles steps s (stayed (numbersRead script place moved) (cyclesAt cycles steps s) e)
       (left (numbersRead script place moved) (cyclesAt cycles steps s) e) (used s) single cs ss
   none-read z cs ss a b =
-      subst (λ (m : ℕ). Parted cycles steps s (stayed (numbersRead script place m) (cyclesAt cycles steps s) e)
+      subst (λ (m : ℕ). RoundParted cycles steps s (stayed (numbersRead script place m) (cyclesAt cycles steps s) e)
       (left (numbersRead script place m) (cyclesAt cycles steps s) e) (used s) single cs ss) (sym z) (none-parted cs ss a b)
 
   -- ---- some go: each cycle does, or it stays

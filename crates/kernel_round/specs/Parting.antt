@@ -40,7 +40,7 @@ pub record TwoBuilt (ks ls : List Cycle) (counts : List ℕ) (u v : Used) (steps
   pub latter : Built ls (drop (u .cycles) counts) v (drop (u .steps) steps)
 
 -- the cycles stand at s, the script names those that go, and there is room for two cycles of one step more
-pub record Parting (cycles steps : List ℕ) (s : Spans) (script : List ℕ) (moved place e : ℕ) : Type 0 where
+pub record RoundParting (cycles steps : List ℕ) (s : Spans) (script : List ℕ) (moved place e : ℕ) : Type 0 where
   pub within : Within cycles steps s
   pub stand : Stand readNumber script place moved
   pub rise : places 0 (numbersRead script place moved) (s .cycles .count) ≡ true
@@ -55,7 +55,7 @@ pub record Put (old : List ℕ) (s : Span) (new : List ℕ) (n : ℕ) (more : Li
   pub end : take (s .first + n + s .rest + m) out ≡ take (s .first + n + s .rest) out ++ take m more
 
 -- cs and ss have the cycles ks in the place of those at s, and the cycles ls after the last
-pub record Parted (cycles steps : List ℕ) (s : Spans) (ks ls : List Cycle) (u v : Used) (cs ss : List ℕ) : Type 0 where
+pub record RoundParted (cycles steps : List ℕ) (s : Spans) (ks ls : List Cycle) (u v : Used) (cs ss : List ℕ) : Type 0 where
   pub counts : List ℕ
   pub words : List ℕ
   pub counts2 : List ℕ

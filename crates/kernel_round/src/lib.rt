@@ -11,7 +11,7 @@ ghost use Rattle.store.specs.Edits.{kept};
 ghost use Rattle.decode_parts.specs.Lists.{numbersRead};
 ghost use Rattle.rows_corners.specs.Faces.{Within, cyclesAt};
 ghost use Rattle.law_cut_face.specs.Rounds.{stayed, left};
-ghost use Rattle.kernel_round.specs.Parting.{Fit, Flagged, TwoBuilt, Parting, Put, Parted};
+ghost use Rattle.kernel_round.specs.Parting.{Fit, Flagged, TwoBuilt, RoundParting, Put, RoundParted};
 use rows_spans::Span;
 use rows_spans::Spans;
 use rows_spans::Used;
@@ -106,9 +106,9 @@ fn part_in(
     counts: &mut [u32],
     places: &mut [u32],
 ) -> Parts
-    requires { ⌜ Parting (now cycles) (now steps) s (now script) moved place e ⌝ }
+    requires { ⌜ RoundParting (now cycles) (now steps) s (now script) moved place e ⌝ }
     requires { ⌜ Fit s (length (now counts)) (length (now places)) ⌝ }
-    ensures { λ r. ⌜ Parted (now (cycles .entry)) (now (steps .entry)) s (stayed (numbersRead (now (script .entry)) place moved) (cyclesAt (now (cycles .entry)) (now (steps .entry)) s) e) (left (numbersRead (now (script .entry)) place moved) (cyclesAt (now (cycles .entry)) (now (steps .entry)) s) e) (r .old) (r .new) (now (cycles .exit)) (now (steps .exit)) ⌝ }
+    ensures { λ r. ⌜ RoundParted (now (cycles .entry)) (now (steps .entry)) s (stayed (numbersRead (now (script .entry)) place moved) (cyclesAt (now (cycles .entry)) (now (steps .entry)) s) e) (left (numbersRead (now (script .entry)) place moved) (cyclesAt (now (cycles .entry)) (now (steps .entry)) s) e) (r .old) (r .new) (now (cycles .exit)) (now (steps .exit)) ⌝ }
 {
     let mut goes = [false; 512];
     script::mark_moved(script, place, moved, &mut goes);
@@ -132,8 +132,8 @@ pub fn part(
     place: usize,
     e: u32,
 ) -> Parts
-    requires { ⌜ Parting (now cycles) (now steps) s (now script) moved place e ⌝ }
-    ensures { λ r. ⌜ Parted (now (cycles .entry)) (now (steps .entry)) s (stayed (numbersRead (now (script .entry)) place moved) (cyclesAt (now (cycles .entry)) (now (steps .entry)) s) e) (left (numbersRead (now (script .entry)) place moved) (cyclesAt (now (cycles .entry)) (now (steps .entry)) s) e) (r .old) (r .new) (now (cycles .exit)) (now (steps .exit)) ⌝ }
+    requires { ⌜ RoundParting (now cycles) (now steps) s (now script) moved place e ⌝ }
+    ensures { λ r. ⌜ RoundParted (now (cycles .entry)) (now (steps .entry)) s (stayed (numbersRead (now (script .entry)) place moved) (cyclesAt (now (cycles .entry)) (now (steps .entry)) s) e) (left (numbersRead (now (script .entry)) place moved) (cyclesAt (now (cycles .entry)) (now (steps .entry)) s) e) (r .old) (r .new) (now (cycles .exit)) (now (steps .exit)) ⌝ }
 {
     if moved == 0 {
         let c = s.cycles;

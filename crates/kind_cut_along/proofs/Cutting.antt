@@ -44,7 +44,7 @@ use Rattle.kernel_part.specs.Rounds.{HoldsIn, PartRoom}
 use Rattle.kind_cut_face.specs.Cuts.{FaceCuts}
 use Rattle.kind_cut_face.proofs.Cuts.{newLine, new-outcome}
 use Rattle.kind_cut_chord.specs.Chords.{vertexIn, Chorded}
-use Rattle.kind_cut_along.specs.Cuts.{Asks, Goes}
+use Rattle.kind_cut_along.specs.Cuts.{Asks, CutGoes}
 use Rattle.kind_cut_along.proofs.Chords.{ChordFace, chord-face}
 use Rattle.kind_cut_along.proofs.Ends as ends
 
@@ -135,12 +135,12 @@ module _ (a : Arrays) (t : Totals) (script : List ℕ) (f : ℕ) (s : Spans) (c1
     -- the cut may go with small lists, where there are few cycles and steps, and with lists as large as a drawing's
     module _ (row : ℕ) (er : row ≡ rowOf f (take (a .count) (a .ids))) where
       pub goes-small : (b : Bool) → b ≡ ltb (s .cycles .count) 32 && ltb (s .steps .count) 127 → b ≡ true
-          → Goes a t script f row s c1 s1 c2 s2 k first moved place 32 128
+          → CutGoes a t script f row s c1 s1 c2 s2 k first moved place 32 128
       goes-small b e q =
           let h = few-told (s .cycles .count) (s .steps .count) b e q in
           record { asks = x; late = z; at = er; fit = small-room sizes yes span (lit≤ tt) (lit≤ tt) (h .0) (omega (arith, h .1)) }
 
-      pub goes-large : Goes a t script f row s c1 s1 c2 s2 k first moved place 512 2048
+      pub goes-large : CutGoes a t script f row s c1 s1 c2 s2 k first moved place 512 2048
       goes-large = record { asks = x; late = z; at = er; fit = large-room sizes yes span }
 
     obeyed : (j : ℕ) → 1 ≤ j → (o : Arrays) → o .next ≡ a .next + j → o .count ≡ a .count + j → Holds (faceCutAlong (sheetOf (heldBy a)) f c1 s1 c2 s2 bs ms) o
@@ -157,7 +157,7 @@ module _ (a : Arrays) (t : Totals) (script : List ℕ) (f : ℕ) (s : Spans) (c1
 
 -- ---- the cut
 module _ (a : Arrays) (t : Totals) (script : List ℕ) (f row : ℕ) (s : Spans) (c1 s1 c2 s2 k first moved place i j : ℕ)
-    (x : Goes a t script f row s c1 s1 c2 s2 k first moved place i j) where
+    (x : CutGoes a t script f row s c1 s1 c2 s2 k first moved place i j) where
   abbrev own : List Cycle
   own = cyclesOf (cellAt (sheetOf (heldBy a)) f)
 

@@ -32,7 +32,7 @@ pub record Asks (a : Arrays) (t : Totals) (script : List ℕ) (f : ℕ) (s : Spa
   pub along : Along (heldBy a) (rowsBy a) script f c1 s1 c2 s2 k first moved place
 
 -- questions 3 to 8 got a yes, the face stands in the row, and arrays of n counts and m steps have room for the lists of its cycles
-pub record Goes (a : Arrays) (t : Totals) (script : List ℕ) (f row : ℕ) (s : Spans) (c1 s1 c2 s2 k first moved place n m : ℕ) : Type 0 where
+pub record CutGoes (a : Arrays) (t : Totals) (script : List ℕ) (f row : ℕ) (s : Spans) (c1 s1 c2 s2 k first moved place n m : ℕ) : Type 0 where
   pub asks : Asks a t script f s c1 s1 c2 s2 k first moved place
   pub late : cutNo (a .next) t (a .cycles) s c1 c2 k ≡ 0
   pub at : row ≡ rowOf f (take (a .count) (a .ids))

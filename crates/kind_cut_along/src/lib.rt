@@ -4,7 +4,7 @@ ghost use Rattle.complex.specs.Decode.{cutFaceOpen};
 ghost use Rattle.decode_parts.specs.Lists.{numbersRead};
 ghost use Rattle.lent.specs.Arrays.{lent, entry, exit};
 ghost use Rattle.lent.specs.Replies.{Ready, Obeyed};
-ghost use Rattle.kind_cut_along.specs.Cuts.{InScript, Goes};
+ghost use Rattle.kind_cut_along.specs.Cuts.{InScript, CutGoes};
 use answer::Totals;
 use lent::Line;
 use rows_spans::Spans;
@@ -42,7 +42,7 @@ fn cut_in(
     numbers: &mut [u32],
     places: &mut [u32],
 ) -> Line
-    requires { ⌜ Goes (lent (now next) (now count) ids kinds starts ends bends counts px py cycles steps bx by) t (now script) f row spans c1 s1 c2 s2 k first moved place (length (now numbers)) (length (now places)) ⌝ }
+    requires { ⌜ CutGoes (lent (now next) (now count) ids kinds starts ends bends counts px py cycles steps bx by) t (now script) f row spans c1 s1 c2 s2 k first moved place (length (now numbers)) (length (now places)) ⌝ }
     ensures { λ r. ⌜ Obeyed (entry (now (next .entry)) (now (count .entry)) ids kinds starts ends bends counts px py cycles steps bx by) (cutFaceOpen f c1 s1 c2 s2 (positionsAt (now (script .entry)) first k) (numbersRead (now (script .entry)) place moved)) (exit (now (next .exit)) (now (count .exit)) ids kinds starts ends bends counts px py cycles steps bx by) r ⌝ }
 {
     let n = *count;

@@ -18,8 +18,8 @@ use Rattle.kernel_swap.proofs.Lent.{withPools}
 use Rattle.kernel_drop.specs.Gone.{EdgeRow, RowGone}
 use Rattle.kind_cut_plan.specs.declared.Plan.{Plan}
 use Rattle.kind_cut_plan.specs.Plans.{Goes}
-use Rattle.kind_cut_edge.specs.declared.Parts.{Parts}
-use Rattle.kind_cut_edge.specs.Parting.{partsOf, parted}
+use Rattle.kind_cut_parts.specs.declared.Parts.{Parts}
+use Rattle.kind_cut_parts.specs.Parting.{partsOf, parted}
 use Rattle.kind_cut_edge.proofs.Parting.{SwapAsks}
 use Rattle.kind_cut_edge.proofs.OpenCuts as opens
 use Rattle.kind_cut_edge.proofs.RingCuts as rings

@@ -41,7 +41,7 @@ use Rattle.kernel_part.specs.Rounds.{PartRoom}
 use Rattle.kernel_part.proofs.Coming.{part-holds}
 use Rattle.kind_cut_face.specs.Cuts.{FaceCuts}
 use Rattle.kind_cut_face.proofs.Cuts.{counted, span, replaces, replaced-sheet}
-use Rattle.kernel_round.specs.Parting.{Parting, Parted}
+use Rattle.kernel_round.specs.Parting.{RoundParting, RoundParted}
 
 -- the places of a row's cycles and steps, among all
 spans-all : (counts cycles : List ℕ) (row : ℕ) (t : Totals) → RowCounted counts cycles row t → (s : Spans) → s ≡ spansOf counts (t .cells) row cycles
@@ -82,7 +82,7 @@ module _ (a : Arrays) (t : Totals) (y : Ready a t) (script : List ℕ) (f k firs
       spanned : Spanned (heldBy a) f s
       spanned = span a t f keptList bothCells cuts row er s es
 
-      pub parting : Parting (a .cycles) (a .steps) s script moved place (a .next)
+      pub parting : RoundParting (a .cycles) (a .steps) s script moved place (a .next)
       parting =
           let g = round-asks (heldBy a) (ready-sizes a t y) (rowsBy a) script f k first moved place r s spanned in
           let n = spans-all (a .counts) (a .cycles) row t row-counted s es in
@@ -97,7 +97,7 @@ module _ (a : Arrays) (t : Totals) (y : Ready a t) (script : List ℕ) (f k firs
 
       -- cs and ss have the cycles parted
       module _ (u v : Used) (cs ss : List ℕ)
-          (p : Parted (a .cycles) (a .steps) s (stayed (numbersRead script place moved) (cyclesAt (a .cycles) (a .steps) s) (a .next))
+          (p : RoundParted (a .cycles) (a .steps) s (stayed (numbersRead script place moved) (cyclesAt (a .cycles) (a .steps) s) (a .next))
           (left (numbersRead script place moved) (cyclesAt (a .cycles) (a .steps) s) (a .next)) u v cs ss) where
         kept-is : built (p .counts) u (p .words) ≡ keptList
         kept-is = old-list (heldBy a) (ready-sizes a t y) (rowsBy a) script f k first moved place r s spanned (p .counts) u (p .words) (p .stay)

@@ -8,7 +8,7 @@ use Rattle.store.specs.declared.Index.{Index}
 use Rattle.store.specs.Index.{Rising}
 
 -- n rows by rising ids, with their kinds and their numbers of cycles
-pub record Rows (ids kinds counts : List ℕ) (n : ℕ) : Type 0 where
+pub record FaceRows (ids kinds counts : List ℕ) (n : ℕ) : Type 0 where
   pub few : n ≤ cellsMost
   pub idsSize : length ids ≡ cellsMost
   pub kindsSize : length kinds ≡ cellsMost
@@ -16,5 +16,5 @@ pub record Rows (ids kinds counts : List ℕ) (n : ℕ) : Type 0 where
   pub rising : Rising (take n ids)
 
 -- an index of these alone
-abbrev pub rowsWith : List ℕ → List ℕ → List ℕ → Index
-rowsWith ids kinds counts = record { ids = ids; kinds = kinds; starts = []; ends = []; bends = []; cycles = counts }
+abbrev pub indexWith : List ℕ → List ℕ → List ℕ → Index
+indexWith ids kinds counts = record { ids = ids; kinds = kinds; starts = []; ends = []; bends = []; cycles = counts }

@@ -10,7 +10,7 @@ ghost use Rattle.decode_parts.specs.Lists.{Stand, numbersRead};
 ghost use Rattle.law_cut_face.specs.Rounds.{RoundCut, roundNo};
 ghost use Rattle.lent.specs.Arrays.{heldBy, rowsBy, lent, entry, exit};
 ghost use Rattle.lent.specs.Replies.{Ready, Obeyed, Holds};
-ghost use Rattle.kind_cut_round.specs.Asking.{Rows, rowsWith};
+ghost use Rattle.kind_cut_round.specs.Asking.{FaceRows, indexWith};
 use answer::Totals;
 use lent::Line;
 
@@ -95,9 +95,9 @@ fn round_no(
     place: usize,
     moved: u32,
 ) -> u32
-    requires { ⌜ Rows (now ids) (now kinds) (now counts) n ⌝ }
+    requires { ⌜ FaceRows (now ids) (now kinds) (now counts) n ⌝ }
     requires { ⌜ Stand readNumber (now script) place moved ⌝ }
-    ensures { λ r. ⌜ r ≡ roundNo (rowsWith (now (ids .entry)) (now (kinds .entry)) (now (counts .entry))) n f k (numbersRead (now (script .entry)) place moved) ⌝ }
+    ensures { λ r. ⌜ r ≡ roundNo (indexWith (now (ids .entry)) (now (kinds .entry)) (now (counts .entry))) n f k (numbersRead (now (script .entry)) place moved) ⌝ }
 {
     let kind = store::value_at(4, ids, kinds, n, f);
     if kind != 3 {

@@ -19,7 +19,7 @@ use Rattle.store.specs.Index.{Indexes, kindOf, shapeStart, shapeEnd}
 use Rattle.store.specs.Sizes.{Sizes}
 use Rattle.sound.specs.Rows.{allFrom}
 use Rattle.sound.proofs.Testing.{shifted}
-use Rattle.lent.specs.Arrays.{Arrays, listed, shapeBy, shapeAt, positionIn, positionsIn, cellsBy, heldBy, rowsBy, rowNormal, normalAt, normal, Lengths}
+use Rattle.lent.specs.Arrays.{Arrays, ofLists, shapeBy, shapeAt, positionIn, positionsIn, cellsBy, heldBy, rowsBy, rowNormal, normalAt, normal, Lengths}
 
 -- ---- tests of rows
 pub and-first : (a b : Bool) → a && b ≡ true → a ≡ true
@@ -161,7 +161,7 @@ row-told (suc (suc (suc (suc k)))) s e b c p h =
 -- ---- another next id, and another number of rows, change nothing else
 abbrev pub numbered : Arrays → ℕ → ℕ → Arrays
 numbered a x n =
-    listed x n (a .ids) (a .kinds) (a .starts) (a .ends) (a .bends) (a .counts) (a .px) (a .py) (a .cycles) (a .steps) (a .bx) (a .by)
+    ofLists x n (a .ids) (a .kinds) (a .starts) (a .ends) (a .bends) (a .counts) (a .px) (a .py) (a .cycles) (a .steps) (a .bx) (a .by)
 
 pub numbered-long : (a : Arrays) (x n : ℕ) → Lengths a → Lengths (numbered a x n)
 numbered-long a x n l =

@@ -39,8 +39,8 @@ pub record Arrays : Type 0 where
   pub by : List Float
 
 -- the arrays of lists
-abbrev pub listed : ℕ → ℕ → List ℕ → List ℕ → List ℕ → List ℕ → List ℕ → List ℕ → List Float → List Float → List ℕ → List ℕ → List Float → List Float → Arrays
-listed next n is ks ss es bs cs px py cy st bx by =
+abbrev pub ofLists : ℕ → ℕ → List ℕ → List ℕ → List ℕ → List ℕ → List ℕ → List ℕ → List Float → List Float → List ℕ → List ℕ → List Float → List Float → Arrays
+ofLists next n is ks ss es bs cs px py cy st bx by =
     record {
       next = next;
       count = n;
@@ -152,7 +152,7 @@ abbrev pub lent : ℕ → ℕ
     → RefT (List ℕ) → RefT (List ℕ) → RefT (List ℕ) → RefT (List ℕ) → RefT (List ℕ) → RefT (List ℕ)
     → RefT (List Float) → RefT (List Float) → RefT (List ℕ) → RefT (List ℕ) → RefT (List Float) → RefT (List Float) → Arrays
 lent next n is ks ss es bs cs px py cy st bx by =
-    listed next n (is .now) (ks .now) (ss .now) (es .now) (bs .now) (cs .now) (px .now) (py .now) (cy .now) (st .now) (bx .now) (by .now)
+    ofLists next n (is .now) (ks .now) (ss .now) (es .now) (bs .now) (cs .now) (px .now) (py .now) (cy .now) (st .now) (bx .now) (by .now)
 
 abbrev pub Numbers : Type 0
 Numbers = Both (RefT (List ℕ)) (RefT (List ℕ))

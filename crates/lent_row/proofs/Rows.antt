@@ -20,7 +20,8 @@ use Rattle.lent_table.specs.Table.{Table}
 use Rattle.lent_cycles.specs.Ring.{Looked, stepsUpto, cycleRight, cyclesRight, stepsSay}
 use Rattle.lent_cycles.specs.declared.Steps.{Steps}
 use Rattle.lent_cycles.specs.declared.Steps.the-variants.{Upto as Summed, Fault as Stop}
-use Rattle.lent_row.specs.Row.{figureRight, placesUpto, rowsIn, rowRight, totalsUpto, Upto}
+use Rattle.lent_row.specs.Row.{placesUpto, rowsIn, rowRight, totalsUpto, Upto}
+use Rattle.lent_figure.specs.Figure.{figureRight}
 
 -- ---- an answer of 0 or 1
 module _ {A : Type 0} where

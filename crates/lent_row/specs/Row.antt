@@ -1,43 +1,25 @@
 -- The rules of one row of lent arrays, but for the places of its bends. Definitions only.
-use Prim.Native.Nat.{ℕ, zero, suc, _+_, _≤_}
+use Prim.Native.Nat.{ℕ, _+_, _≤_}
 use mathlib.Core.Path.{_≡_}
-use mathlib.Core.Bool.{Bool, true, _&&_, cond}
+use mathlib.Core.Bool.{Bool, _&&_}
 use mathlib.Core.List.{List, []}
-use lib.Dec.{eqb, leb, ltb}
+use lib.Dec.{leb}
 use lib.Ieee.{Float}
 use lib.ListN.{take, getD}
 use denote.Ref.{RefT}
 use Rattle.number.specs.Said.{Said, done, no}
-use Rattle.coordinate.specs.declared.Position.{Position}
-use Rattle.coordinate.specs.Bounds.{within}
 use Rattle.complex.specs.Lists.{total}
 use Rattle.complex.specs.Sound.{cellsMost, cyclesMost, stepsMost, bendsMost}
 use Rattle.store.specs.Edits.{placesOf}
-use Rattle.sound.specs.Rows.{Rows, rowsOf, rowGood}
+use Rattle.sound.specs.Rows.{Rows, rowsOf}
 use Rattle.answer.specs.declared.Totals.{Totals}
-use Rattle.lent.specs.Arrays.{Arrays, Lengths, Numbers, Floats, listed, positionIn, normalAt, totalsBy}
+use Rattle.lent.specs.Arrays.{Arrays, Lengths, Numbers, Floats, ofLists, positionIn, normalAt, totalsBy}
 use Rattle.lent_cycles.specs.Ring.{cyclesRight}
+use Rattle.lent_figure.specs.Figure.{idRight, figureRight}
 use Rattle.lent_row.specs.declared.Row.{Row}
 use Rattle.lent_row.specs.declared.Row.the-variants.{Sums, Fault}
 
 -- ---- the rules
--- the id of the row before, 0 before the first
-abbrev pub idBefore : List ℕ → ℕ → ℕ
-idBefore is zero = 0
-idBefore is (suc i) = getD is i 0
-
--- the id in row i is above the one before it, and below the next id
-abbrev pub idRight : ℕ → List ℕ → ℕ → Bool
-idRight next is i = ltb (getD is i 0) next && ltb (idBefore is i) (getD is i 0)
-
--- a vertex lies in bounds, an open edge's ends are vertices, a closed edge has a bend
-abbrev pub figureRight : Rows → List ℕ → ℕ → Position → Bool
-figureRight t bs i p = rowGood t bs i && cond (eqb (getD (t .kinds) i 0) 0) (within p) true
-
--- the same of the cell in row i of n, which has b bends, as a number says
-abbrev pub FigureRight : Rows → ℕ → ℕ → ℕ → Position → Bool → Type 0
-FigureRight t n i b p r = (bs : List ℕ) → getD bs i 0 ≡ b → r ≡ figureRight t (take n bs) i p
-
 -- the places that the counts of the first i rows stand for
 abbrev pub placesUpto : List ℕ → ℕ → ℕ
 placesUpto l i = total (placesOf 0) (take i l)
@@ -59,13 +41,13 @@ rowRight a i =
 -- a with no place of a bend
 abbrev pub bareOf : Arrays → Arrays
 bareOf a =
-    listed (a .next) (a .count) (a .ids) (a .kinds) (a .starts) (a .ends) (a .bends) (a .counts) (a .px) (a .py) (a .cycles) (a .steps) [] []
+    ofLists (a .next) (a .count) (a .ids) (a .kinds) (a .starts) (a .ends) (a .bends) (a .counts) (a .px) (a .py) (a .cycles) (a .steps) [] []
 
 -- names for a contract: those of references, and at a call's entry
 abbrev pub bare : ℕ → ℕ → RefT (List ℕ) → RefT (List ℕ) → RefT (List ℕ) → RefT (List ℕ) → RefT (List ℕ) → RefT (List ℕ)
     → RefT (List Float) → RefT (List Float) → RefT (List ℕ) → RefT (List ℕ) → Arrays
 bare next n is ks ss es bs cs px py cy st =
-    listed next n (is .now) (ks .now) (ss .now) (es .now) (bs .now) (cs .now) (px .now) (py .now) (cy .now) (st .now) [] []
+    ofLists next n (is .now) (ks .now) (ss .now) (es .now) (bs .now) (cs .now) (px .now) (py .now) (cy .now) (st .now) [] []
 
 abbrev pub atEntry : ℕ → ℕ → Numbers → Numbers → Numbers → Numbers → Numbers → Numbers → Floats → Floats → Numbers → Numbers → Arrays
 atEntry next n is ks ss es bs cs px py cy st =
@@ -75,7 +57,8 @@ atEntry next n is ks ss es bs cs px py cy st =
 pub record RowLengths (a : Arrays) : Type 0 where
   pub xs : List Float
   pub ys : List Float
-  pub long : Lengths (listed (a .next) (a .count) (a .ids) (a .kinds) (a .starts) (a .ends) (a .bends) (a .counts) (a .px) (a .py) (a .cycles) (a .steps) xs ys)
+  pub long : Lengths (ofLists (a .next) (a .count) (a .ids) (a .kinds) (a .starts) (a .ends) (a .bends) (a .counts)
+      (a .px) (a .py) (a .cycles) (a .steps) xs ys)
 
 -- ---- what is said of a row
 -- the cases of `Row`: 0 with the sums, or 1

@@ -16,7 +16,8 @@ use Rattle.lent.specs.Arrays.{Arrays, positionIn, normalAt, totalsOf, Lengths}
 use Rattle.lent_cycles.specs.Ring.{stepsUpto}
 use Rattle.lent_row.specs.declared.Row.{Row}
 use Rattle.lent_row.specs.declared.Row.the-variants.{Sums, Fault}
-use Rattle.lent_row.specs.Row.{idRight, figureRight, placesUpto, rowsIn, rowRight, bareOf, rowSays, totalsUpto, RowLengths, Upto}
+use Rattle.lent_row.specs.Row.{placesUpto, rowsIn, rowRight, bareOf, rowSays, totalsUpto, RowLengths, Upto}
+use Rattle.lent_figure.specs.Figure.{idRight, figureRight}
 use Rattle.lent_row.proofs.Rows.{said-no, said-done, places-more}
 use Rattle.lent_sound.specs.declared.Walked.{Walked}
 use Rattle.lent_sound.specs.declared.Walked.the-variants.{Sound, Fault as Wrong}

@@ -16,7 +16,8 @@ use Rattle.store.specs.View.{width}
 use Rattle.store.proofs.Lists.{places-one}
 use Rattle.sound.specs.Rows.{Rows, cycleGood, cyclesGood, allFrom}
 use Rattle.lent_cycles.specs.Ring.{stepsUpto, cycleRight}
-use Rattle.lent_row.specs.Row.{idBefore, idRight, placesUpto}
+use Rattle.lent_row.specs.Row.{placesUpto}
+use Rattle.lent_figure.specs.Figure.{idBefore, idRight}
 use Rattle.lent_row.proofs.Rows.{places-more}
 
 pub same-truth : (a b : Bool) → (a ≡ true → b ≡ true) → (b ≡ true → a ≡ true) → a ≡ b

@@ -23,7 +23,8 @@ use Rattle.lent.specs.Arrays.{Arrays, shapeBy, shapeAt, positionIn, heldBy, row
 use Rattle.lent.proofs.Held.{all-at, all-intro, cells-all, positions-length, positions-at, held-sizes, held-indexes}
 use Rattle.lent.proofs.Sums.{bends-held, cycles-held, steps-held}
 use Rattle.lent_cycles.specs.Ring.{stepsUpto, cycleRight}
-use Rattle.lent_row.specs.Row.{idRight, figureRight, placesUpto, rowsIn, rowRight}
+use Rattle.lent_row.specs.Row.{placesUpto, rowsIn, rowRight}
+use Rattle.lent_figure.specs.Figure.{idRight, figureRight}
 use Rattle.lent_row.proofs.Rows.{places-more}
 use Rattle.lent_sound.specs.Walk.{bendRight, rightAt, boundsRight, walkRight}
 use Rattle.lent_sound.proofs.Ranges.{same-truth, range-of, first-at, first-of, cycles-at}

@@ -32,14 +32,14 @@ cyclesFrom [] st = []
 cyclesFrom (n ∷ ns) st = cycleOf n st ∷ cyclesFrom ns (drop (width n) st)
 
 -- the numbers of a shape; its kind is 0 for a vertex, 1 for an open edge, 2 for a closed edge, 3 for a face
-pub record Numbers : Type 0 where
+pub record ShapeNumbers : Type 0 where
   pub kind : ℕ
   pub start : ℕ
   pub end : ℕ
   pub bends : ℕ
   pub cycles : ℕ
 
-abbrev pub numbersOf : Shape → Numbers
+abbrev pub numbersOf : Shape → ShapeNumbers
 numbersOf (Vertex p) = record { kind = 0; start = 0; end = 0; bends = 0; cycles = 0 }
 numbersOf (Open s e n) = record { kind = 1; start = s; end = e; bends = n; cycles = 0 }
 numbersOf (Closed n) = record { kind = 2; start = 0; end = 0; bends = n; cycles = 0 }

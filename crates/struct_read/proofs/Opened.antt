@@ -15,7 +15,7 @@ use Rattle.file_read.specs.declared.ReadAnswer.{ReadAnswer}
 use Rattle.file_read.specs.Outcome.{FileRead}
 use Rattle.lent.specs.Arrays.{Arrays, heldBy}
 use Rattle.lent.proofs.Replies.{drawing-of}
-use Rattle.call_read.specs.Taken.{ReadIn}
+use Rattle.call_open.specs.Taken.{ReadIn}
 use Rattle.call_asked.specs.Entries.{EmptyIn}
 
 module _ (s : List ℕ) (a b : Arrays) (n : ℕ) (o : ReadIn s a b n) (z : EmptyIn a) where

@@ -3,7 +3,7 @@ use Prim.Native.Nat.{_-_, _≤_}
 use borrow.Author.Needs.{needs}
 use native.Mathlib.Omega.{arith}
 use mathlib.Core.Path.{refl}
-use Rattle.lent.specs.Arrays.{listed}
+use Rattle.lent.specs.Arrays.{ofLists}
 use Rattle.call_load.specs.Bare.{Stays}
 use Rattle.call_load.proofs.Loads.{rowed-room, head-some, head-none, parts-some, parts-none, bends-inside, bends-room, rowed-left}
 use Rattle.call_load.proofs.Bare.{Bare, stays-on, bare-start, bare-long, bare-turn, bare-given}
@@ -14,7 +14,7 @@ abbrev Inv-loop : tie.InvT-loop
 Inv-loop s at n ids₀ kinds₀ starts₀ ends₀ bends₀ counts₀ px₀ py₀ cycles₀ steps₀ bx₀ by₀ keep used₀ good₀ place₀ i₀ ids kinds starts ends bends counts px py
     cycles steps bx by used good place i =
     (i ≤ n)
-    × (Bare keep s at n place (listed 0 i ids kinds starts ends bends counts px py cycles steps) bx by used good × Stays keep bx₀ by₀ bx by)
+    × (Bare keep s at n place (ofLists 0 i ids kinds starts ends bends counts px py cycles steps) bx by used good × Stays keep bx₀ by₀ bx by)
 
 abbrev μ-loop : tie.MeasureT-loop
 μ-loop s at n ids₀ kinds₀ starts₀ ends₀ bends₀ counts₀ px₀ py₀ cycles₀ steps₀ bx₀ by₀ keep used₀ good₀ place₀ i₀ ids kinds starts ends bends counts px py

@@ -2,8 +2,8 @@
 use borrow.Author.Needs.{needs}
 use mathlib.Core.Path.{sym, _∙_}
 use denote.Ref.{now}
-use Rattle.lent.specs.Arrays.{listed}
-use Rattle.call_read.proofs.Judged.{loaded-some, loaded-none, no-refusal, read-in, not-in}
+use Rattle.lent.specs.Arrays.{ofLists}
+use Rattle.call_open.proofs.Judged.{loaded-some, loaded-none, no-refusal, read-in, not-in}
 use Rattle.call_read.proofs.read.Statement.{statement}
 use Rattle.call_read.proofs.read.Tie as tie
 
@@ -29,7 +29,7 @@ returns-3 c =
     let a = r .before .before .before .before .args in
     let e = r .readable .ensures .1 in
     not-in (now (a .bytes)) _ _
-    (λ j. listed (now (a .next)) (now (a .count)) (now (a .ids)) (now (a .kinds)) (now (a .starts)) (now (a .ends)) (now (a .bends)) (now (a .counts))
+    (λ j. ofLists (now (a .next)) (now (a .count)) (now (a .ids)) (now (a .kinds)) (now (a .starts)) (now (a .ends)) (now (a .bends)) (now (a .counts))
     (now (a .px)) (now (a .py)) (now (a .cycles)) (now (a .steps)) (e .0 j) (e .1 j))
     (sym (r .readable .ensures .0) ∙ c .if1 .left)
 

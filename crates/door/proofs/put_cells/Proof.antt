@@ -5,7 +5,7 @@ use mathlib.Core.Path.{_≡_, refl}
 use mathlib.Core.List.{List}
 use native.Mathlib.Omega.{arith}
 use lib.Ieee.{Float}
-use Rattle.lent.specs.Arrays.{Arrays, listed}
+use Rattle.lent.specs.Arrays.{Arrays, ofLists}
 use Rattle.door.specs.Parts.{AllRows}
 use Rattle.door.proofs.Rows.{Put, put-turn, put-all}
 use Rattle.door.proofs.put_cells.Statement.{statement}
@@ -13,7 +13,7 @@ use Rattle.door.proofs.put_cells.Tie as tie
 
 abbrev Inv-loop : tie.InvT-loop
 Inv-loop next ids₀ kinds₀ starts₀ ends₀ bends₀ counts₀ px₀ py₀ cycles steps bx by cells i₀ ids kinds starts ends bends counts px py i =
-    (i ≤ 256) × Put cells (listed next i ids kinds starts ends bends counts px py cycles steps bx by)
+    (i ≤ 256) × Put cells (ofLists next i ids kinds starts ends bends counts px py cycles steps bx by)
 
 abbrev μ-loop : tie.MeasureT-loop
 μ-loop next ids₀ kinds₀ starts₀ ends₀ bends₀ counts₀ px₀ py₀ cycles steps bx by cells i₀ ids kinds starts ends bends counts px py i =
@@ -23,7 +23,7 @@ abbrev μ-loop : tie.MeasureT-loop
 abbrev rows : tie.Start Inv-loop μ-loop → ℕ → List ℕ → List ℕ → List ℕ → List ℕ → List ℕ → List ℕ → List Float → List Float → Arrays
 rows c n is ks ss es bs cs us vs =
     let a = c .args in
-    listed (a .next) n is ks ss es bs cs us vs (a .cycles .now) (a .steps .now) (a .bx .now) (a .by .now)
+    ofLists (a .next) n is ks ss es bs cs us vs (a .cycles .now) (a .steps .now) (a .bx .now) (a .by .now)
 
 loop-holds : tie.Need-loop-holds Inv-loop μ-loop
 loop-holds c = (omega arith, record { long = c .pre; front = refl; rows = refl })

@@ -6,7 +6,7 @@ use denote.Ref.{now}
 use mathlib.Core.Path.{_≡_, ap, _∙_}
 use mathlib.Core.Bool.{Bool, true}
 use lib.ListN.{length}
-use Rattle.call_read.proofs.Judged.{opened-file, opened-none}
+use Rattle.call_open.proofs.Judged.{opened-file, opened-none}
 use Rattle.entry_room.specs.Rooms.{roomFor}
 use Rattle.entry_room.proofs.Rooms.{Room, room-parts, nine-of, none-of}
 use Rattle.entry_file_run.proofs.Running.{saved-few, run-refused, run-short, run-done}

@@ -4,7 +4,7 @@ use mir.Syntax.{w32}
 use mir.ValLaws.{toZ-ofZ}
 use denote.Ref.{now}
 use mathlib.Core.Path.{_≡_, _∙_}
-use Rattle.call_read.proofs.Judged.{opened-file, opened-none}
+use Rattle.call_open.proofs.Judged.{opened-file, opened-none}
 use Rattle.entry_files.proofs.Opening.{euler-refused, euler-is}
 use Rattle.entry_files.proofs.euler.Statement.{statement}
 use Rattle.entry_files.proofs.euler.Tie as tie

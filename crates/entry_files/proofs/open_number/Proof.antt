@@ -1,7 +1,7 @@
 -- `entry_files::open_number` meets its contract: 0, or 10. Assumes nothing.
 use borrow.Author.Needs.{needs}
 use mathlib.Core.Path.{sym}
-use Rattle.call_read.proofs.Judged.{opened-file, opened-none}
+use Rattle.call_open.proofs.Judged.{opened-file, opened-none}
 use Rattle.entry_files.proofs.open_number.Statement.{statement}
 use Rattle.entry_files.proofs.open_number.Tie as tie
 

@@ -5,7 +5,7 @@ use borrow.Author.Needs.{needs}
 use denote.Ref.{now}
 use mathlib.Core.Path.{_≡_, ap, _∙_}
 use Rattle.complex.specs.Calls.{Filled}
-use Rattle.call_read.proofs.Judged.{opened-file, opened-none}
+use Rattle.call_open.proofs.Judged.{opened-file, opened-none}
 use Rattle.entry_files.proofs.Counts.{star-few}
 use Rattle.entry_files.proofs.Opening.{star-refused, star-is}
 use Rattle.entry_files.proofs.star.Statement.{statement}

@@ -6,7 +6,7 @@ use denote.Ref.{now}
 use mathlib.Core.Path.{_≡_, ap, _∙_}
 use Rattle.number.proofs.Bytes.{Bytes}
 use Rattle.complex.specs.Calls.{Filled}
-use Rattle.call_read.proofs.Judged.{opened-file, opened-none}
+use Rattle.call_open.proofs.Judged.{opened-file, opened-none}
 use Rattle.entry_files.proofs.Counts.{write-few}
 use Rattle.entry_files.proofs.Opening.{again-refused, again-is}
 use Rattle.entry_files.proofs.write_again.Statement.{statement}

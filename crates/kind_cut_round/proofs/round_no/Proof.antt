@@ -11,12 +11,12 @@ use Rattle.store.specs.declared.Index.{Index}
 use Rattle.store.specs.Index.{valueAt}
 use Rattle.decode_parts.specs.Lists.{numbersRead}
 use Rattle.law_cut_face.proofs.Rounds.{no-face, no-bend, no-rise, no-none}
-use Rattle.kind_cut_round.specs.Asking.{rowsWith}
+use Rattle.kind_cut_round.specs.Asking.{indexWith}
 use Rattle.kind_cut_round.proofs.round_no.Statement.{statement}
 use Rattle.kind_cut_round.proofs.round_no.Tie as tie
 
 abbrev rows : tie.Start → Index
-rows s = let a = s .args in rowsWith (a .ids .now) (a .kinds .now) (a .counts .now)
+rows s = let a = s .args in indexWith (a .ids .now) (a .kinds .now) (a .counts .now)
 
 abbrev named : (s : tie.Start) → List ℕ
 named s = numbersRead (s .args .script .now) (s .args .place) (s .args .moved)

@@ -7,7 +7,8 @@ use lib.ListN.{take}
 use borrow.Author.Tests.{not-true, not-false}
 use Rattle.sound.proofs.Testing.{and-true, and-false}
 use Rattle.lent.specs.Arrays.{Arrays, positionIn}
-use Rattle.lent_row.specs.Row.{figureRight, rowsIn, rowRight, bare}
+use Rattle.lent_row.specs.Row.{rowsIn, rowRight, bare}
+use Rattle.lent_figure.specs.Figure.{figureRight}
 use Rattle.lent_row.proofs.Rows.{afterId, afterNormal, afterBends, afterCycles, afterFigure}
 use Rattle.lent_row.proofs.Rows.{row-in, steps-so, looked, row-fault, bends-over, bends-fit, cycles-over, cycles-fit, row-stop, row-done, row-plain}
 use Rattle.lent_row.proofs.row_right.Statement.{statement}

@@ -6,7 +6,7 @@ use mathlib.Core.Bool.{true}
 use native.Mathlib.Omega.{arith}
 use borrow.Author.Tests.{not-true, not-false}
 use Rattle.sound.proofs.Testing.{Counting, counting-start}
-use Rattle.lent.specs.Arrays.{Arrays, Lengths, listed, lent}
+use Rattle.lent.specs.Arrays.{Arrays, Lengths, ofLists, lent}
 use Rattle.lent_row.specs.Row.{rowRight, bareOf, Upto}
 use Rattle.lent_sound.specs.Walk.{rightAt, boundsRight}
 use Rattle.lent_sound.proofs.Cells.{bounds-few, bare-long, rows-start, row-wrong, row-holds}
@@ -16,7 +16,7 @@ use Rattle.lent_sound.proofs.walk.Tie as tie
 
 abbrev Inv-loop : tie.InvT-loop
 Inv-loop next count ids kinds starts ends bends counts px py cycles steps bx by table look t₀ i₀ t i =
-    let a = listed next count ids kinds starts ends bends counts px py cycles steps bx by in
+    let a = ofLists next count ids kinds starts ends bends counts px py cycles steps bx by in
     (i ≤ count) × Counting (rightAt look a) count i × Upto (bareOf a) i t
 
 abbrev μ-loop : tie.MeasureT-loop
