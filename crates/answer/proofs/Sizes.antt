@@ -5,7 +5,7 @@ use mathlib.Core.Path.{_≡_, refl, ap}
 use mathlib.Core.Bool.{Bool, not}
 use mathlib.Core.List.{List, [], _∷_}
 use mathlib.Core.Option.{Option, none, some}
-use lib.ListN.{length, length-append, length-map}
+use lib.ListN.{length, length-append}
 use lib.Dec.{T, eqb, leb, leb→le, le→leb}
 use Rattle.number.specs.Readers.{spread}
 use Rattle.coordinate.specs.declared.Position.{Position}
@@ -24,6 +24,7 @@ use Rattle.complex.proofs.Keep.{Sound}
 use Rattle.complex.proofs.Sums.{total-zero, total-ones, total-by}
 use Rattle.complex.proofs.Euler.{over-reshaped, over-keep, over-rebuild, over-kept, over-added, over-changed}
 use Rattle.complex.proofs.Faces.{Without, without-one, vertex-at}
+use Rattle.complex.proofs.RenumberSound.{cycles-rewired, bends-rewired}
 
 -- it was asked 3 to 6
 abbrev pub Asked6 : Sheet → Command → Type 0
@@ -135,18 +136,6 @@ pub record Rewires (s : Sheet) (us new : List Figure) (d h : Halfedge → ℕ) (
   pub extra : total (usedBy h) us ≡ 0
 
 module _ (r : ℕ → ℕ) (σ : Halfedge → List Halfedge) where
-  cycles-rewired : (i : ℕ) (t : Figure) → cyclesIn (rewired r σ i t) ≡ cyclesIn t
-  cycles-rewired i (vertex p) = refl
-  cycles-rewired i (openEdge a b bs) = refl
-  cycles-rewired i (closedEdge bs) = refl
-  cycles-rewired i (face ks) = length-map ks _
-
-  bends-rewired : (i : ℕ) (t : Figure) → bendsIn (rewired r σ i t) ≡ bendsIn t
-  bends-rewired i (vertex p) = refl
-  bends-rewired i (openEdge a b bs) = refl
-  bends-rewired i (closedEdge bs) = refl
-  bends-rewired i (face ks) = refl
-
   module _ (d h : Halfedge → ℕ) (fair : (x : Halfedge) → length (σ x) + d x ≡ 1 + h x) where
     length-spread : (hs : List Halfedge) → length (spread σ hs) + total d hs ≡ length hs + total h hs
     length-spread [] = refl
@@ -167,8 +156,8 @@ module _ (r : ℕ → ℕ) (σ : Halfedge → List Halfedge) where
         → sizesOf (rebuild p (rewired r σ) new s .cells) ≡ changedBy (sizesOf (s .cells)) c
     rewired-sizes s p us new w c k =
         let a = over-kept each (rewired r σ) (λ i t. refl) p new s in
-        let b = over-kept cyclesIn (rewired r σ) cycles-rewired p new s in
-        let e = over-kept bendsIn (rewired r σ) bends-rewired p new s in
+        let b = over-kept cyclesIn (rewired r σ) (cycles-rewired r σ) p new s in
+        let e = over-kept bendsIn (rewired r σ) (bends-rewired r σ) p new s in
         let f = over-rebuild stepsIn p (rewired r σ) new s in
         let g = over-reshaped stepsIn (usedBy d) (usedBy h) (rewired r σ) steps-rewired (keepIds p (s .cells)) in
         let w1 = w each in

@@ -10,7 +10,7 @@ use Rattle.number.specs.Said.{done, no}
 use Rattle.complex.specs.Sound.{sound}
 use Rattle.complex.specs.Euler.{euler}
 use Rattle.complex.specs.Calls.{EulerAnswer, eulerCall}
-use Rattle.complex.specs.Decode.{Command, decode}
+use Rattle.complex.specs.Decode.{Order, decode}
 use Rattle.complex.specs.Answer.{restRead, rest}
 use Rattle.complex.proofs.Bools.{truth, true-of}
 use Rattle.complex.proofs.Obey.{euler-of}
@@ -101,6 +101,6 @@ module _ (a : Arrays) where
       ∙ of-sound (eulerCall (sheetOf (heldBy a))) (record { number = 1; value = pos 0 }) w
 
   -- the rest of a script is what decoding leaves
-  pub rest-is : T (soundArrays a) → (s : List ℕ) (q : Read Command) → decode s ≡ q → restOn a s ≡ restRead s q
+  pub rest-is : T (soundArrays a) → (s : List ℕ) (q : Read Order) → decode s ≡ q → restOn a s ≡ restRead s q
   unfolding rest
   rest-is w s q e = rw (true-of (soundArrays a) w, true-of (sound (sheetOf (heldBy a))) (sheet-of w), e)

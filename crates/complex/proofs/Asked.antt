@@ -10,9 +10,9 @@ use Rattle.coordinate.specs.declared.Position.{Position}
 use Rattle.coordinate.specs.Bounds.{within}
 use Rattle.complex.specs.Lists.{all, one}
 use Rattle.complex.specs.Cells.{Sheet}
-use Rattle.complex.specs.Decode.{Command}
+use Rattle.complex.specs.Decode.{Command, Order, edit, renumber}
 use Rattle.complex.specs.Commands.{positions, question3, question4, question5, question6, result}
-use Rattle.complex.specs.Answer.{Answer, no, done, removedFrom, firstNo, ofBytes, ofResult, questions, answered, asked3}
+use Rattle.complex.specs.Answer.{Answer, no, done, removedFrom, firstNo, ofBytes, ofResult, questions, answered, asked3, renewed, ordered}
 use Rattle.complex.proofs.Keep.{Sound}
 use Rattle.complex.proofs.Questions.{FirstNo, first-no, no-first, among}
 use Rattle.complex.proofs.Rebuilt.{result-rebuilt}
@@ -35,8 +35,14 @@ module _ (s : Sheet) (c : Command) where
   first-number = subst (FirstNo (questions s c)) (sym number-is) (no-first (questions s c))
 
   -- these questions don't answer 2
-  pub not-two : asked3 s c .number ≡ 2 → ⊥
+  not-two : asked3 s c .number ≡ 2 → ⊥
   not-two e = among (questions s c) (asked3 s c .number) 1 first-number tt e
+
+-- no order that is read answers 2
+pub order-not-two : (s : Sheet) (o : Order) → ordered s o .number ≡ 2 → ⊥
+unfolding renewed
+order-not-two s (edit c) e = not-two s c e
+order-not-two s renumber e = omega (arith, e)
 
 -- ---- the questions of the bytes alone: their first no, or 0
 abbrev pub early : Command → ℕ

@@ -1,9 +1,9 @@
--- Refusals change nothing, ids are issued in turn and never twice, and the removed are counted. Assumes nothing.
+-- Refusals change nothing, ids are issued in turn and again only after a renumbering, and the removed are counted. Assumes nothing.
 use Prim.Native.Nat.{ℕ, suc, _+_, _-_, _≤_, _<_}
 use native.Mathlib.Omega.{arith}
 use mathlib.Core.Path.{_≡_, refl, sym, ap, _∙_}
 use mathlib.Core.Logic.{inl, inr}
-use mathlib.Core.Bool.{Bool, true, false, not, cond}
+use mathlib.Core.Bool.{Bool, true, false, not, cond, true≢false}
 use mathlib.Core.List.{List, [], _∷_}
 use mathlib.Core.Option.{Option, none, some}
 use lib.ListN.{length, length-append, length-map}
@@ -13,16 +13,21 @@ use Rattle.complex.specs.Lists.{all, filter, consIf, rising}
 use Rattle.complex.specs.Cells.{Figure, LiveCell, Sheet, empty, someIf, lookup, cellAt, ids, isLive}
 use Rattle.complex.specs.Sound.{sound}
 use Rattle.complex.specs.Edits.{keepIds, reshape, numbered, rebuild}
-use Rattle.complex.specs.Decode.{Command}
+use Rattle.number.specs.Readers.{got}
+use Rattle.complex.specs.Decode.{Command, renumber, decode}
+use Rattle.complex.specs.Renumber.{renumbered}
 use Rattle.complex.specs.Commands.{result}
-use Rattle.complex.specs.Answer.{Answer, no, removedFrom, command}
-use Rattle.complex.specs.Demands.{commandStep, after, live, Refusals, Issues, NeverAgain, IdsIssued}
+use Rattle.complex.specs.Answer.{Answer, no, removedFrom, renewed, command}
+use Rattle.complex.specs.Demands.{after, live, Refusals, renumbering, NoRenumbering, NeverAgain, IdsIssued, Again, Renumberings}
+use Rattle.complex.specs.Rows.{dot}
 use Rattle.complex.proofs.Bools.{truth, true-of, either, both, pair}
 use Rattle.complex.proofs.Lookup.{orElse, changed, lookup-rebuild, rising-lt}
-use Rattle.complex.proofs.Keep.{Sound}
+use Rattle.complex.proofs.Keep.{Sound, sound-parts, parts-sound}
+use Rattle.complex.proofs.Renumber.{length-numbered, renumber-order, renumber-cells, renumber-twice}
+use Rattle.complex.proofs.RenumberSound.{renumber-sound, renumber-euler, renumber-late}
+use Rattle.complex.proofs.RenumberStar.{renumber-stars}
 use Rattle.complex.proofs.Rebuilt.{Rebuilt, rebuilt, result-rebuilt}
-use Rattle.complex.proofs.Steps.{items-good}
-use Rattle.complex.proofs.Obey.{Outcome, refusal, obeyed, outcome}
+use Rattle.complex.proofs.Obey.{Outcome, refusal, obeyed, renews, outcome}
 
 -- every command's outcome: an unsound drawing is refused by 1
 answered : (s : Sheet) (b : List ℕ) → Outcome s b
@@ -34,9 +39,11 @@ answered s b = elim (either (sound s)) [
 
 -- ---- refusals
 pub refusals : Refusals
+unfolding renewed
 refusals s b r = elim (answered s b) [
   | refusal n z q ↦ q ∙ ap (λ (a : Answer). no (a .number) s) (sym q)
   | obeyed c t e p q ↦ absurd (r (ap (λ (a : Answer). a .number) q))
+  | renews t e q ↦ absurd (r (ap (λ (a : Answer). a .number) q))
 ]
 
 -- ---- t comes of s by issuing ids from the next on
@@ -88,7 +95,8 @@ follows-result s c = follows-of (result-rebuilt s c)
 
 -- ---- ids
 pub issues : IdsIssued
-issues s b = elim (answered s b) [
+unfolding renewed
+issues s b n = elim (answered s b) [
   | refusal n z q ↦ record {
     next-id = rw q (omega arith);
     first-id = rw q (λ h. absurd
@@ -105,21 +113,39 @@ issues s b = elim (answered s b) [
         issued = rw q (F .no-gap);
         live-before = rw q (F .no-other);
       }
+  | renews t e q ↦ absurd (true≢false (rw (q, e) at n))
 ]
 
 -- an id that was issued and is dead stays dead
 abbrev Spent : ℕ → Sheet → Type 0
 Spent i s = (i < s .next) × (live s i → ⊥)
 
-stays-dead : (i : ℕ) (s : Sheet) (b : List ℕ) → Spent i s → Spent i (command s b .sheet)
-stays-dead i s b h =
-    let I = issues s b in
+stays-dead : (i : ℕ) (s : Sheet) (b : List ℕ) → renumbering s b ≡ false → Spent i s → Spent i (command s b .sheet)
+stays-dead i s b e h =
+    let I = issues s b e in
     let n = I .next-id in
     let l = h .0 in
     (omega arith, λ z. h .1 (I .live-before i l z))
 
+all-dead : (i : ℕ) (s : Sheet) (cs : List (List ℕ)) → NoRenumbering s cs → Spent i s → Spent i (after s cs)
+all-dead i s [] n h = h
+all-dead i s (c ∷ cs) n h = all-dead i (command s c .sheet) cs (n .1) (stays-dead i s c (n .0) h)
+
 pub never-again : NeverAgain
-never-again bs cs i h d = items-good commandStep (Spent i) (stays-dead i) (after empty bs) cs (h, d) .1
+never-again bs cs i n h d = all-dead i (after empty bs) cs n (h, d) .1
+
+-- a vertex is made and deleted; after a renumbering the next one has its id
+pub again : Again
+unfolding command
+again =
+    record {
+      before = dot ∷ (0x06 ∷ 1 ∷ []) ∷ [];
+      later = (0x0F ∷ []) ∷ dot ∷ [];
+      id = 1;
+      was-issued = omega arith;
+      was-dead = λ l. l;
+      is-live = tt;
+    }
 
 -- ---- the removed
 -- every cell is live where it stands
@@ -142,10 +168,12 @@ removed-none cs (d ∷ ds) h =
     let b = both (isLive (lookup cs (d .id))) (all (λ (c : LiveCell). isLive (lookup cs (c .id))) ds) h in
     rw (true-of (isLive (lookup cs (d .id))) (b .0)) (removed-none cs ds (b .1))
 
-pub removed-count : (s : Sheet) (b : List ℕ) → command s b .removed ≡ length (removedFrom s (command s b .sheet))
-removed-count s b = elim (answered s b) [
+pub removed-count : (s : Sheet) (b : List ℕ) → renumbering s b ≡ false → command s b .removed ≡ length (removedFrom s (command s b .sheet))
+unfolding renewed
+removed-count s b n = elim (answered s b) [
   | refusal n z q ↦ rw (q, removed-none (s .cells) (s .cells) (all-live (s .cells)))
   | obeyed c t e p q ↦ rw q
+  | renews t e q ↦ absurd (true≢false (rw (q, e) at n))
 ]
 
 -- ---- of the cells of a rebuild: those that went and those that are there are those that were and the new ones
@@ -183,7 +211,23 @@ removed-rebuilt s S t (rebuilt p f new) =
     let c = length-map {B = LiveCell} (keepIds p (s .cells)) (λ (x : LiveCell). record { id = x .id; figure = f (x .id) (x .figure) }) in
     let d = length-numbered (s .next) new in
     omega arith
-  where
-    length-numbered : (n : ℕ) (xs : List Figure) → length (numbered n xs) ≡ length xs
-    length-numbered n [] = refl
-    length-numbered n (x ∷ xs) = ap suc (length-numbered (suc n) xs)
+
+-- ---- 0F
+renumber-answers : (s : Sheet) → T (sound s) → (b t : List ℕ) → decode b ≡ got renumber t → command s b ≡ renewed s
+unfolding command
+renumber-answers s S b t e = rw (true-of (sound s) S, e)
+
+pub renumberings : Renumberings
+unfolding renewed renumbered
+renumberings s S =
+    record {
+      answers = renumber-answers s S;
+      late-yes = renumber-late s S;
+      stays-sound = parts-sound (renumbered s) (renumber-sound s (sound-parts s S));
+      next-id = refl;
+      same-euler = renumber-euler s;
+      in-order = renumber-order s S;
+      same-cells = renumber-cells s;
+      same-stars = renumber-stars s S;
+      twice = renumber-twice s;
+    }

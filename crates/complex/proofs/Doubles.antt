@@ -18,29 +18,24 @@ use Rattle.complex.specs.Cells.{headOf, bendsOf, cyclesOf, positionOf}
 use Rattle.complex.specs.Sound.{double, figureDouble, doubles, sound}
 use Rattle.complex.specs.Decode.{Command, create, move, delete, glueVertices, glueEdges, unglue, cutEdge, cutFaceVertex, cutFaceOpen, cutFaceClosed}
 use Rattle.complex.specs.Decode.{uncut}
-use Rattle.complex.specs.Edits.{keepIds, reshape, numbered, rebuild, everyId, others, asItIs, replaced, rewired}
+use Rattle.complex.specs.Edits.{keepIds, reshape, numbered, rebuild, everyId, others, asItIs, replaced}
 use Rattle.complex.specs.Uses.{onUses}
 use Rattle.complex.specs.Unglue.{newEnds, copies, parts, ungluing}
 use Rattle.complex.specs.Cut.{points, cutPlace, bendsBefore, bendsAfter, bendsRound, cutFigure, splitInTwo, bridged}
 use Rattle.complex.specs.Uncut.{Uncut, refused, lonely, loop, joint, twoFaces, oneCycle, rings, withoutLone, bendsAlong, joined, uncutResult, uncutCase}
 use Rattle.complex.specs.Commands.{positions, result}
-use Rattle.complex.specs.Answer.{Answer, command}
+use Rattle.complex.specs.Answer.{Answer, renewed, command}
 use Rattle.complex.specs.Demands.{commandStep, after}
 use Rattle.complex.proofs.Bools.{truth, either, both, pair, all-append, all-map}
 use Rattle.complex.proofs.Lookup.{all-at}
 use Rattle.complex.proofs.CutEdge.{all-take, all-drop}
 use Rattle.complex.proofs.UncutVertex.{all-filter, all-reverse}
 use Rattle.complex.proofs.Steps.{items-good}
-use Rattle.complex.proofs.Obey.{refusal, obeyed, outcome}
+use Rattle.complex.proofs.RenumberSound.{all-numbered, double-rewired, renumber-doubles}
+use Rattle.complex.proofs.Obey.{refusal, obeyed, renews, outcome}
 use Rattle.complex.proofs.ReadDoubles.{fits-double, decode-doubles}
 
 -- ---- a change keeps f64s if it keeps each cell's, and the new cells have them
-numbered-double : (n : ℕ) (new : List Figure) → T (all figureDouble new) → T (all (λ (c : LiveCell). figureDouble (c .figure)) (numbered n new))
-numbered-double n [] t = tt
-numbered-double n (x ∷ xs) t =
-    let b = both (figureDouble x) (all figureDouble xs) t in
-    pair (figureDouble x) (all (λ (c : LiveCell). figureDouble (c .figure)) (numbered (suc n) xs)) (b .0) (numbered-double (suc n) xs (b .1))
-
 abbrev Steady : (ℕ → Figure → Figure) → Type 0
 Steady f = (i : ℕ) (x : Figure) → T (figureDouble x) → T (figureDouble (f i x))
 
@@ -51,7 +46,7 @@ rebuild-doubles p f new s F N S =
     all-append D (reshape f (keepIds p (s .cells))) (numbered (s .next) new)
     (all-map D D (λ (c : LiveCell). record { id = c .id; figure = f (c .id) (c .figure) }) (λ c t. F (c .id) (c .figure) t) (keepIds p (s .cells))
     (all-filter D D (λ (c : LiveCell). p (c .id)) (λ c q t. t) (s .cells) S))
-    (numbered-double (s .next) new N)
+    (all-numbered figureDouble (s .next) new N)
 
 -- ---- the changes
 as-steady : Steady asItIs
@@ -63,12 +58,6 @@ replaced-steady i y d j x t = go (eqb i j)
     go : (b : Bool) → T (figureDouble (cond b y x))
     go true = d
     go false = t
-
-rewired-steady : (r : ℕ → ℕ) (σ : Halfedge → List Halfedge) → Steady (rewired r σ)
-rewired-steady r σ i (vertex p) t = t
-rewired-steady r σ i (openEdge a b bs) t = t
-rewired-steady r σ i (closedEdge bs) t = t
-rewired-steady r σ i (face ks) t = tt
 
 lone-steady : (v : ℕ) → Steady (withoutLone v)
 lone-steady v i (vertex p) t = t
@@ -169,7 +158,7 @@ module _ (s : Sheet) (S : T (doubles s)) where
       let v = vertex (cutPlace (cellAt s) (some (openEdge a b bs)) q) in
       let x = openEdge a (s .next) (bendsBefore bs q) in
       let y = openEdge (s .next) b (bendsAfter bs q) in
-      rebuild-doubles (others e) _ (v ∷ x ∷ y ∷ []) s (rewired-steady _ _)
+      rebuild-doubles (others e) _ (v ∷ x ∷ y ∷ []) s (double-rewired _ _)
       (pair (figureDouble v) (all figureDouble (x ∷ y ∷ [])) (cut-double (cellAt s) (some (openEdge a b bs)) q h)
       (both-double x y (all-take double (q / 2) bs h) (all-drop double (q / 2 + q % 2) bs h))) S
   cut-kept e q (some (closedEdge bs)) h =
@@ -177,7 +166,7 @@ module _ (s : Sheet) (S : T (doubles s)) where
       let x = openEdge (s .next) (s .next) (bendsRound bs q) in
       let m = q / 2 + 1 in
       let n = q / 2 + (1 - q % 2) in
-      rebuild-doubles (others e) _ (v ∷ x ∷ []) s (rewired-steady _ _)
+      rebuild-doubles (others e) _ (v ∷ x ∷ []) s (double-rewired _ _)
       (both-double v x (cut-double (cellAt s) (some (closedEdge bs)) q h)
       (all-append double (drop m bs) (take n bs) (all-drop double m bs h) (all-take double n bs h))) S
   cut-kept e q (some (face ks)) h = S
@@ -220,12 +209,12 @@ module _ (s : Sheet) (S : T (doubles s)) where
       let p = positionOf (cellAt s i) in
       let bs = bendsOf (cellAt s e) in
       let x = closedEdge (p ∷ bs) in
-      rebuild-doubles _ _ (one x) s (rewired-steady _ _)
+      rebuild-doubles _ _ (one x) s (double-rewired _ _)
       (single-double x (pair (double p) (all double bs) (place-at (cellAt s i) (double-at s i S)) (bends-at (cellAt s e) (double-at s e S)))) S
   uncut-kept i (joint h k) =
       let p = positionOf (cellAt s i) in
       let x = joined (cellAt s) p h k in
-      rebuild-doubles _ _ (one x) s (rewired-steady _ _) (single-double x (joined-double p h k (place-at (cellAt s i) (double-at s i S)))) S
+      rebuild-doubles _ _ (one x) s (double-rewired _ _) (single-double x (joined-double p h k (place-at (cellAt s i) (double-at s i S)))) S
   uncut-kept i (twoFaces u w) = rebuild-doubles _ _ [] s (replaced-steady _ _ tt) tt S
   uncut-kept i (oneCycle u w) = rebuild-doubles _ _ [] s (replaced-steady _ _ tt) tt S
   uncut-kept i (rings u w) = rebuild-doubles _ _ [] s (replaced-steady _ _ tt) tt S
@@ -250,8 +239,8 @@ module _ (s : Sheet) (S : T (doubles s)) where
   result-doubles (create x) t = rebuild-doubles everyId asItIs (one x) s as-steady (single-double x (figure-from x t)) S
   result-doubles (move v p) t = rebuild-doubles everyId (replaced v (vertex p)) [] s (replaced-steady v (vertex p) (both (double p) true t .0)) tt S
   result-doubles (delete i) t = rebuild-doubles _ asItIs [] s as-steady tt S
-  result-doubles (glueVertices a b) t = rebuild-doubles _ _ [] s (rewired-steady _ _) tt S
-  result-doubles (glueEdges a b flag) t = rebuild-doubles _ _ [] s (rewired-steady _ _) tt S
+  result-doubles (glueVertices a b) t = rebuild-doubles _ _ [] s (double-rewired _ _) tt S
+  result-doubles (glueEdges a b flag) t = rebuild-doubles _ _ [] s (double-rewired _ _) tt S
   result-doubles (unglue i) t =
       let o = cellAt s i in
       let n = parts (s .cells) i o in
@@ -264,11 +253,12 @@ module _ (s : Sheet) (S : T (doubles s)) where
 
 -- ---- any bytes as a command, and any list of them
 pub command-doubles : (s : Sheet) (b : List ℕ) → T (doubles s) → T (doubles (command s b .sheet))
-unfolding command
+unfolding command renewed
 command-doubles s b S = elim (either (sound s)) [
   | inl e ↦ elim (outcome s b (truth e)) [
     | refusal n z q ↦ subst (λ (a : Answer). T (doubles (a .sheet))) (sym q) S
     | obeyed c t d p q ↦ subst (λ (a : Answer). T (doubles (a .sheet))) (sym q) (result-doubles s S c (decode-doubles b t c d))
+    | renews t d q ↦ subst (λ (a : Answer). T (doubles (a .sheet))) (sym q) (renumber-doubles s S)
   ]
   | inr e ↦ rw e S
 ]

@@ -6,7 +6,7 @@ use mathlib.Core.Logic.{_⊎_, inl, inr}
 use mathlib.Core.Bool.{Bool, true, false, not, _&&_, _||_, cond, Bool·beq}
 use mathlib.Core.List.{List, [], _∷_, _++_, map}
 use mathlib.Core.Option.{Option, none, some}
-use lib.ListN.{length}
+use lib.ListN.{length, length-append}
 use lib.Dec.{T, eqb, ltb, leb, eqb→eq, eqb-refl}
 use borrow.Author.Tests.{eq-eqb, ne-eqb, eqb-true, eqb-false}
 use Rattle.number.specs.Readers.{spread}
@@ -154,6 +154,11 @@ module _ (look look′ : Look) (r : ℕ → ℕ) (σ : Halfedge → List Halfedg
 pub spread-one : (hs : List Halfedge) → spread one hs ≡ hs
 spread-one [] = refl
 spread-one (h ∷ hs) = ap (λ (ks : List Halfedge). h ∷ ks) (spread-one hs)
+
+-- where each step becomes one there are as many
+pub length-each : (σ : Halfedge → List Halfedge) → ((h : Halfedge) → length (σ h) ≡ 1) → (hs : List Halfedge) → length (spread σ hs) ≡ length hs
+length-each σ each [] = refl
+length-each σ each (h ∷ hs) = omega (arith, length-append (σ h) (spread σ hs), each h, length-each σ each hs)
 
 -- what is an open edge, a closed edge or a vertex stays one, an open edge with its ends
 pub record Keeps (look look′ : Look) : Type 0 where

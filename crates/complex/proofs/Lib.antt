@@ -24,6 +24,9 @@ pub mod UncutCycle
 pub mod UncutVertex
 pub mod Uncut
 pub mod Star
+pub mod Renumber
+pub mod RenumberSound
+pub mod RenumberStar
 pub mod Steps
 pub mod Obey
 pub mod Demand

@@ -1,4 +1,4 @@
--- A command either refuses and keeps the drawing, or was asked every question and gives its result; from there to any list of commands. Assumes nothing.
+-- A command refuses and keeps the drawing, or was asked every question and gives its result, or renumbers; from there to any list of commands. Assumes nothing.
 use Prim.Native.Nat.{ℕ, zero, suc, _+_, _≤_, _<_}
 use native.Mathlib.Omega.{arith}
 use mathlib.Core.Path.{_≡_, refl, sym, ap, _∙_, subst}
@@ -14,10 +14,11 @@ use Rattle.complex.specs.Cells.{LiveCell, Sheet, empty, lookup, isLive}
 use Rattle.complex.specs.Boundary.{star}
 use Rattle.complex.specs.Sound.{idsEnd, ceilings, sound}
 use Rattle.complex.specs.Euler.{euler}
-use Rattle.complex.specs.Decode.{Command, delete, decode}
+use Rattle.complex.specs.Decode.{Command, delete, edit, renumber, Order, decode}
 use Rattle.complex.specs.Delete.{deleted}
 use Rattle.complex.specs.Commands.{question3, question4, question5, question6, result}
-use Rattle.complex.specs.Answer.{Answer, no, done, firstNo, questions, answered, asked2, asked3, command}
+use Rattle.complex.specs.Renumber.{renumbered}
+use Rattle.complex.specs.Answer.{Answer, no, done, firstNo, questions, answered, asked2, asked3, renewed, command}
 use Rattle.complex.specs.Calls.{starCall, eulerCall}
 use Rattle.complex.specs.Demands.{commandStep, after, accepted, shareRead, shareOf, shares, live, Took, DeleteExact, Deletes, AfterAll, Demand3}
 use Rattle.complex.proofs.Bools.{truth, true-of, either}
@@ -27,11 +28,13 @@ use Rattle.complex.proofs.Passes.{Passes, KeepsSound}
 use Rattle.complex.proofs.Euler.{Balanced, balanced-euler}
 use Rattle.complex.proofs.Delete.{deleted-took}
 use Rattle.complex.proofs.Star.{star-right}
+use Rattle.complex.proofs.RenumberSound.{renumber-sound, renumber-euler}
 use Rattle.complex.proofs.Steps.{items-good, items-sum, items-each}
 
 pub data Outcome (s : Sheet) (b : List ℕ) : Type 0 where
   refusal : (n : ℕ) → (n ≡ 0 → ⊥) → command s b ≡ no n s → Outcome s b
-  obeyed : (c : Command) (t : List ℕ) → decode b ≡ got c t → Passes s c → command s b ≡ done s (result s c) → Outcome s b
+  obeyed : (c : Command) (t : List ℕ) → decode b ≡ got (edit c) t → Passes s c → command s b ≡ done s (result s c) → Outcome s b
+  renews : (t : List ℕ) → decode b ≡ got renumber t → command s b ≡ renewed s → Outcome s b
 
 pub data Asked (s : Sheet) (c : Command) : Type 0 where
   refusal : (n : ℕ) → (n ≡ 0 → ⊥) → asked3 s c ≡ no n s → Asked s c
@@ -55,9 +58,10 @@ outcome s b S = go (decode b) refl
     one : command s b ≡ asked2 s (decode b)
     one = rw (true-of (sound s) S)
 
-    go : (r : Read Command) → decode b ≡ r → Outcome s b
+    go : (r : Read Order) → decode b ≡ r → Outcome s b
     go bad e = refusal 2 (λ z. omega arith) (one ∙ ap (asked2 s) e)
-    go (got c t) e = elim (asked s c) [
+    go (got renumber t) e = renews t e (one ∙ ap (asked2 s) e)
+    go (got (edit c) t) e = elim (asked s c) [
       | refusal n z q ↦ refusal n z (one ∙ ap (asked2 s) e ∙ q)
       | passed p q ↦ obeyed c t e p (one ∙ ap (asked2 s) e ∙ q)
     ]
@@ -70,15 +74,19 @@ euler-of s S = rw (true-of (sound s) S)
 -- ---- from each command to all of them
 module _ (keeps : (c : Command) → KeepsSound c) (balances : (c : Command) (s : Sheet) → Sound s → Passes s c → Balanced s c) where
   pub command-sound : (s : Sheet) (b : List ℕ) → T (sound s) → T (sound (command s b .sheet))
+  unfolding renewed
   command-sound s b S = elim (outcome s b S) [
     | refusal n z q ↦ subst (λ (a : Answer). T (sound (a .sheet))) (sym q) S
+    | renews t e q ↦ subst (λ (a : Answer). T (sound (a .sheet))) (sym q) (parts-sound (renumbered s) (renumber-sound s (sound-parts s S)))
     | obeyed c t e p q ↦ subst (λ (a : Answer). T (sound (a .sheet))) (sym q) (parts-sound (result s c) (keeps c s (sound-parts s S) p))
   ]
 
   pub command-euler : (s : Sheet) (b : List ℕ) → T (sound s)
       → euler (command s b .sheet .cells) ≡ euler (s .cells) +ℤ cond (accepted s b) (shareRead s (decode b)) (pos 0)
+  unfolding renewed
   command-euler s b S = elim (outcome s b S) [
     | refusal n z q ↦ rw q (sym (unmoved n z))
+    | renews t e q ↦ rw (q, e) (renumber-euler s ∙ sym (+ℤ-idr (euler (s .cells))))
     | obeyed c t e p q ↦ rw (q, e) (balanced-euler s c (balances c s (sound-parts s S) p))
   ]
     where
@@ -93,8 +101,16 @@ module _ (keeps : (c : Command) → KeepsSound c) (balances : (c : Command) (s :
   command-delete s b S i t d a = elim (outcome s b S) [
     | refusal n z q ↦ absurd (z (eqb-true n 0 (ap (λ (x : Answer). eqb (x .number) 0) (sym q) ∙ true-of (accepted s b) a)))
     | obeyed c u e p q ↦ subst (λ (x : Answer). Took s (x .sheet) i) (sym q) (took c p (let z : c ≡ delete i = cc in z))
+    | renews u e q ↦ absurd (let z : _≡_ {A = Order} renumber (edit (delete i)) = cc in none z)
   ]
     where
+      other : Order → Type 0
+      other (edit c) = ⊥
+      other renumber = Unit {0}
+
+      none : _≡_ {A = Order} renumber (edit (delete i)) → ⊥
+      none z = subst other z tt
+
       took : (c : Command) → Passes s c → c ≡ delete i → Took s (result s c) i
       took c p z = rw z (deleted-took s (sound-parts s S) i (subst (λ (x : Command). T (question4 s x)) z (p .four)))
 

@@ -19,7 +19,7 @@ use Rattle.complex.specs.Cells.{Figure, vertex, openEdge, closedEdge, fa
 use Rattle.complex.specs.Sound.{double, figureDouble, doubles}
 use Rattle.complex.specs.Decode.{Command, create, move, delete, glueVertices, glueEdges, unglue, cutEdge, cutFaceVertex, cutFaceOpen, cutFaceClosed}
 use Rattle.complex.specs.Decode.{uncut, readCycle, readVertex, readOpenEdge, readClosedEdge, readFace, readCreate, readCellOnly, readTwo, readPlace}
-use Rattle.complex.specs.Decode.{readGlueEdges, readCutFaceOpen, readCutFaceClosed, unreadable, kinds, decode}
+use Rattle.complex.specs.Decode.{readGlueEdges, readCutFaceOpen, readCutFaceClosed, Order, edit, renumber, unreadable, edits, readRenumber, kinds, decode}
 use Rattle.complex.specs.Commands.{positions}
 use Rattle.complex.specs.File.{figureReaders, noFigure, readCell, readSheet}
 use Rattle.complex.proofs.Bools.{both, pair}
@@ -159,29 +159,41 @@ closed-placed s t c e =
     then-from (readBends u) _ c t e0 λ bs v r e1.
     then-from (counted readNumber v) _ c t e1 λ ms w q0 l. gives-last Placed {x = cutFaceClosed f bs ms} l (bends-double u v bs r)
 
-none-placed : Gives Placed unreadable
-none-placed s t c e = absurd (not-bad c t e)
+-- ---- orders
+abbrev pub OrderPlaced : Order → Type 0
+OrderPlaced (edit c) = Placed c
+OrderPlaced renumber = Unit {0}
 
-kinds-placed : Each (Gives Placed) kinds
+none-placed : Gives OrderPlaced unreadable
+none-placed s t o e = absurd (not-bad o t e)
+
+edits-placed : {r : List ℕ → Read Command} → Gives Placed r → Gives OrderPlaced (edits r)
+edits-placed {r} g s t o e = then-from (r s) _ o t e λ c u q l. gives-last OrderPlaced {x = edit c} l (g s u c q)
+
+renumber-placed : Gives OrderPlaced readRenumber
+renumber-placed s t o e = gives-last OrderPlaced {x = renumber} e tt
+
+kinds-placed : Each (Gives OrderPlaced) kinds
 kinds-placed =
     none-placed
-    & create-placed readVertex vertices-double
-    & create-placed readOpenEdge opens-double
-    & create-placed readClosedEdge closeds-double
-    & create-placed readFace faces-double
-    & place-placed move (λ i. one-double)
-    & cell-placed delete (λ i. tt)
-    & two-placed glueVertices (λ a b. tt)
-    & glue-placed
-    & cell-placed unglue (λ i. tt)
-    & two-placed cutEdge (λ a b. tt)
-    & place-placed cutFaceVertex (λ i. one-double)
-    & open-placed
-    & closed-placed
-    & cell-placed uncut (λ i. tt)
+    & edits-placed (create-placed readVertex vertices-double)
+    & edits-placed (create-placed readOpenEdge opens-double)
+    & edits-placed (create-placed readClosedEdge closeds-double)
+    & edits-placed (create-placed readFace faces-double)
+    & edits-placed (place-placed move (λ i. one-double))
+    & edits-placed (cell-placed delete (λ i. tt))
+    & edits-placed (two-placed glueVertices (λ a b. tt))
+    & edits-placed glue-placed
+    & edits-placed (cell-placed unglue (λ i. tt))
+    & edits-placed (two-placed cutEdge (λ a b. tt))
+    & edits-placed (place-placed cutFaceVertex (λ i. one-double))
+    & edits-placed open-placed
+    & edits-placed closed-placed
+    & edits-placed (cell-placed uncut (λ i. tt))
+    & renumber-placed
     & tt
 
-pub decode-doubles : (b t : List ℕ) (c : Command) → decode b ≡ got c t → T (all double (positions c))
+pub decode-doubles : (b t : List ℕ) (c : Command) → decode b ≡ got (edit c) t → T (all double (positions c))
 unfolding decode
-decode-doubles [] t c e = absurd (not-bad c t e)
-decode-doubles (k ∷ s) t c e = getD-gives Placed kinds unreadable kinds-placed none-placed k s t c e
+decode-doubles [] t c e = absurd (not-bad (edit c) t e)
+decode-doubles (k ∷ s) t c e = getD-gives OrderPlaced kinds unreadable kinds-placed none-placed k s t (edit c) e

@@ -8,8 +8,9 @@ use Rattle.number.specs.Readers.{Read, got, bad}
 use Rattle.complex.specs.Lists.{filter}
 use Rattle.complex.specs.Cells.{LiveCell, Sheet, cellAt, isLive}
 use Rattle.complex.specs.Sound.{idsEnd, ceilings, sound}
-use Rattle.complex.specs.Decode.{Command, decode}
+use Rattle.complex.specs.Decode.{Command, Order, edit, renumber, decode}
 use Rattle.complex.specs.Commands.{question3, question4, question5, question6, result}
+use Rattle.complex.specs.Renumber.{renumbered}
 
 pub record Answer : Type 0 where
   pub number : ℕ
@@ -69,19 +70,29 @@ unfoldable pub asked3 : Sheet → Command → Answer
 unfolding question3 question4 question5 question6 result
 asked3 s c = answered s (result s c) (firstNo (questions s c))
 
+-- ---- 0F has no field, names no cell and asks nothing more; ids go and come, and it answers three zero counts
+unfoldable pub renewed : Sheet → Answer
+unfolding renumbered
+renewed s = record { number = 0; first = 0; new = 0; removed = 0; sheet = renumbered s }
+
+-- ---- an order of either sort
+abbrev pub ordered : Sheet → Order → Answer
+ordered s (edit c) = asked3 s c
+ordered s renumber = renewed s
+
 -- 2: do the bytes begin with a whole command, kind and every number well spelled?
-abbrev pub asked2 : Sheet → Read Command → Answer
-asked2 s (got c t) = asked3 s c
+abbrev pub asked2 : Sheet → Read Order → Answer
+asked2 s (got o t) = ordered s o
 asked2 s bad = no 2 s
 
 -- 1: is the drawing sound?
 unfoldable pub command : Sheet → List ℕ → Answer
-unfolding sound decode asked3
+unfolding sound decode asked3 renewed
 command s bytes = cond (sound s) (asked2 s (decode bytes)) (no 1 s)
 
 -- ---- the rest of the bytes: after the command, or all of them at 1 and 2
-abbrev pub restRead : List ℕ → Read Command → List ℕ
-restRead bytes (got c t) = t
+abbrev pub restRead : List ℕ → Read Order → List ℕ
+restRead bytes (got o t) = t
 restRead bytes bad = bytes
 
 unfoldable pub rest : Sheet → List ℕ → List ℕ

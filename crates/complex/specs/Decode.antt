@@ -25,6 +25,11 @@ pub data Command : Type 0 where
   cutFaceClosed : ℕ → List Position → List ℕ → Command  -- 0D
   uncut : ℕ → Command  -- 0E
 
+-- what bytes order: an edit, which is a command of those kinds, or 0F, which gives the cells other ids
+pub data Order : Type 0 where
+  edit : Command → Order
+  renumber : Order  -- 0F
+
 -- ---- steps and cycles
 -- 2 × id, plus 1 if backward
 abbrev pub stepOf : ℕ → Halfedge
@@ -101,30 +106,39 @@ readCutFaceClosed s =
     andThen (readNumber s) λ f t. andThen (readBends t) λ bs u. andThen (counted readNumber u) λ ms v. got (cutFaceClosed f bs ms) v
 
 -- ---- a kind byte, then its fields
-abbrev pub unreadable : List ℕ → Read Command
+abbrev pub unreadable : List ℕ → Read Order
 unreadable s = bad
 
+-- 01 to 0E
+abbrev pub edits : (List ℕ → Read Command) → List ℕ → Read Order
+edits r s = andThen (r s) λ c t. got (edit c) t
+
+-- 0F: no fields
+abbrev pub readRenumber : List ℕ → Read Order
+readRenumber s = got renumber s
+
 -- the reader of each kind byte, from 00 on
-abbrev pub kinds : List (List ℕ → Read Command)
+abbrev pub kinds : List (List ℕ → Read Order)
 kinds =
     unreadable  -- 00
-    ∷ readCreate readVertex  -- 01
-    ∷ readCreate readOpenEdge  -- 02
-    ∷ readCreate readClosedEdge  -- 03
-    ∷ readCreate readFace  -- 04
-    ∷ readPlace move  -- 05
-    ∷ readCellOnly delete  -- 06
-    ∷ readTwo glueVertices  -- 07
-    ∷ readGlueEdges  -- 08
-    ∷ readCellOnly unglue  -- 09
-    ∷ readTwo cutEdge  -- 0A
-    ∷ readPlace cutFaceVertex  -- 0B
-    ∷ readCutFaceOpen  -- 0C
-    ∷ readCutFaceClosed  -- 0D
-    ∷ readCellOnly uncut  -- 0E
+    ∷ edits (readCreate readVertex)  -- 01
+    ∷ edits (readCreate readOpenEdge)  -- 02
+    ∷ edits (readCreate readClosedEdge)  -- 03
+    ∷ edits (readCreate readFace)  -- 04
+    ∷ edits (readPlace move)  -- 05
+    ∷ edits (readCellOnly delete)  -- 06
+    ∷ edits (readTwo glueVertices)  -- 07
+    ∷ edits readGlueEdges  -- 08
+    ∷ edits (readCellOnly unglue)  -- 09
+    ∷ edits (readTwo cutEdge)  -- 0A
+    ∷ edits (readPlace cutFaceVertex)  -- 0B
+    ∷ edits readCutFaceOpen  -- 0C
+    ∷ edits readCutFaceClosed  -- 0D
+    ∷ edits (readCellOnly uncut)  -- 0E
+    ∷ readRenumber  -- 0F
     ∷ []
 
-unfoldable pub decode : List ℕ → Read Command
+unfoldable pub decode : List ℕ → Read Order
 unfolding coordinateIn
 decode [] = bad
 decode (k ∷ s) = getD kinds k unreadable s

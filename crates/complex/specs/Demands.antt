@@ -2,20 +2,23 @@
 use Prim.Native.Nat.{ℕ, zero, suc, _+_, _≤_, _<_}
 use mathlib.Core.Path.{_≡_}
 use mathlib.Core.Logic.{_⊎_, _↔_}
-use mathlib.Core.Bool.{Bool, cond}
-use mathlib.Core.List.{List, [], _∷_, _++_}
+use mathlib.Core.Bool.{Bool, true, false, _&&_, cond}
+use mathlib.Core.List.{List, [], _∷_, _++_, map}
+use mathlib.Core.Option.{some}
 use lib.ListN.{length, drop}
 use lib.IntN.{ℤ, pos, _+ℤ_}
 use lib.Dec.{T, eqb, ltb}
 use Rattle.number.specs.Readers.{Read, got, bad}
 use Rattle.complex.specs.Lists.{all, holds, rising}
-use Rattle.complex.specs.Cells.{Sheet, empty, cellAt, isLive}
+use Rattle.complex.specs.Cells.{Figure, Sheet, empty, cellAt, ids, isLive}
 use Rattle.complex.specs.Sound.{sound, doubles}
 use Rattle.complex.specs.Boundary.{RestsOn, boundsAt, star}
 use Rattle.complex.specs.Euler.{euler}
-use Rattle.complex.specs.Decode.{Command, delete, decode}
+use Rattle.complex.specs.Edits.{rewired}
+use Rattle.complex.specs.Decode.{delete, Order, edit, renumber, decode}
 use Rattle.complex.specs.Commands.{share}
-use Rattle.complex.specs.Answer.{Answer, command}
+use Rattle.complex.specs.Renumber.{rank, renamedStep, renumbered}
+use Rattle.complex.specs.Answer.{Answer, firstNo, ofResult, command}
 use Rattle.complex.specs.File.{fileOf, readFile}
 use Rattle.complex.specs.Calls.{starCall, eulerCall}
 
@@ -56,8 +59,13 @@ after = afterItems commandStep
 abbrev pub accepted : Sheet → List ℕ → Bool
 accepted = acceptedItem commandStep
 
-abbrev pub shareRead : Sheet → Read Command → ℤ
-shareRead s (got c t) = share s c
+-- an order's share; 0F has 0
+abbrev pub shareOrdered : Sheet → Order → ℤ
+shareOrdered s (edit c) = share s c
+shareOrdered s renumber = pos 0
+
+abbrev pub shareRead : Sheet → Read Order → ℤ
+shareRead s (got o t) = shareOrdered s o
 shareRead s bad = pos 0
 
 abbrev pub shareOf : Sheet → List ℕ → ℤ
@@ -78,7 +86,7 @@ abbrev pub Took : Sheet → Sheet → ℕ → Type 0
 Took s t i = (j : ℕ) → (live s j × (live t j → ⊥)) ↔ TakenWith s i j
 
 abbrev pub DeleteExact : Sheet → List ℕ → Type 0
-DeleteExact s b = (i : ℕ) (t : List ℕ) → decode b ≡ got (delete i) t → T (accepted s b) → Took s (command s b .sheet) i
+DeleteExact s b = (i : ℕ) (t : List ℕ) → decode b ≡ got (edit (delete i)) t → T (accepted s b) → Took s (command s b .sheet) i
 
 -- each accepted delete took exactly its target and the cells that rested on it
 abbrev pub Deletes : Sheet → List (List ℕ) → Type 0
@@ -111,7 +119,17 @@ abbrev pub Refusals : Type 0
 Refusals = (s : Sheet) (b : List ℕ) → (command s b .number ≡ 0 → ⊥)
     → command s b ≡ record { number = command s b .number; first = 0; new = 0; removed = 0; sheet = s }
 
--- ---- a command issues the ids from the next id on, as many as it says; they are live, and no other id becomes live
+-- ---- ids
+abbrev pub renumbers : Read Order → Bool
+renumbers (got (edit c) t) = false
+renumbers (got renumber t) = true
+renumbers bad = false
+
+-- whether the bytes are a renumbering that is accepted
+abbrev pub renumbering : Sheet → List ℕ → Bool
+renumbering s b = accepted s b && renumbers (decode b)
+
+-- any other command issues the ids from the next id on, as many as it says; they are live, and no other id becomes live
 pub record Issues (s : Sheet) (b : List ℕ) : Type 0 where
   pub next-id : command s b .sheet .next ≡ s .next + command s b .new
   pub first-id : 0 < command s b .new → command s b .first ≡ s .next
@@ -119,13 +137,47 @@ pub record Issues (s : Sheet) (b : List ℕ) : Type 0 where
   pub live-before : (i : ℕ) → i < s .next → live (command s b .sheet) i → live s i
 
 abbrev pub IdsIssued : Type 0
-IdsIssued = (s : Sheet) (b : List ℕ) → Issues s b
+IdsIssued = (s : Sheet) (b : List ℕ) → renumbering s b ≡ false → Issues s b
 
--- no id is issued twice: an id that was issued and is dead stays dead
+-- no renumbering is accepted in the list
+abbrev pub NoRenumbering : Sheet → List (List ℕ) → Type 0
+NoRenumbering = Each commandStep (λ (s : Sheet) (b : List ℕ). renumbering s b ≡ false)
+
+-- an id is issued again only after a renumbering: while none is accepted, an id that was issued and is dead stays dead
 abbrev pub NeverAgain : Type 0
 NeverAgain =
-    (bs cs : List (List ℕ)) (i : ℕ) → i < after empty bs .next → (live (after empty bs) i → ⊥)
+    (bs cs : List (List ℕ)) (i : ℕ) → NoRenumbering (after empty bs) cs → i < after empty bs .next → (live (after empty bs) i → ⊥)
     → live (after (after empty bs) cs) i → ⊥
+
+-- and after one it may be: an id that was issued and was dead, and is issued again
+pub record Again : Type 0 where
+  pub before : List (List ℕ)
+  pub later : List (List ℕ)
+  pub id : ℕ
+  pub was-issued : id < after empty before .next
+  pub was-dead : live (after empty before) id → ⊥
+  pub is-live : live (after (after empty before) later) id
+
+-- ---- 0F, on a sound drawing
+pub record Renumbering (s : Sheet) : Type 0 where
+  -- it is done, with three zero counts: no question after 2 gets a no, 7 and 8 of the result neither
+  pub answers : (b t : List ℕ) → decode b ≡ got renumber t
+      → command s b ≡ record { number = 0; first = 0; new = 0; removed = 0; sheet = renumbered s }
+  pub late-yes : firstNo (ofResult (renumbered s)) ≡ 0
+  pub stays-sound : T (sound (renumbered s))
+  pub next-id : renumbered s .next ≡ suc (length (s .cells))
+  pub same-euler : euler (renumbered s .cells) ≡ euler (s .cells)
+  -- the live ids, in the order they have, become 1 to n
+  pub in-order : map (rank (s .cells)) (ids (s .cells)) ≡ ids (renumbered s .cells)
+  -- a live cell keeps all but the names of what bounds it, and its star is renamed
+  pub same-cells : (i : ℕ) (x : Figure) → cellAt s i ≡ some x
+      → cellAt (renumbered s) (rank (s .cells) i) ≡ some (rewired (rank (s .cells)) (renamedStep (rank (s .cells))) i x)
+  pub same-stars : (i : ℕ) → live s i → star (renumbered s .cells) (rank (s .cells) i) ≡ map (rank (s .cells)) (star (s .cells) i)
+  -- done twice it changes nothing the second time
+  pub twice : renumbered (renumbered s) ≡ renumbered s
+
+abbrev pub Renumberings : Type 0
+Renumberings = (s : Sheet) → T (sound s) → Renumbering s
 
 -- ---- files: bytes are below 256
 abbrev pub areBytes : List ℕ → Bool

@@ -13,6 +13,7 @@ pub mod Unglue
 pub mod Cut
 pub mod Uncut
 pub mod Commands
+pub mod Renumber
 pub mod Answer
 pub mod File
 pub mod Calls

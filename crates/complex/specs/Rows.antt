@@ -26,6 +26,8 @@ pub data Given : Type 0 where
   -- the four numbers of a command's answer, after others or on a drawing
   answering : List (List ℕ) → List ℕ → Given
   asking : Sheet → List ℕ → Given
+  -- the file of what a command leaves of a drawing
+  leaving : Sheet → List ℕ → Given
   -- star's number, count and buffer, for an id and a buffer
   starring : List (List ℕ) → ℕ → List ℕ → Given
   -- read's number and the file of what it gives
@@ -67,6 +69,7 @@ found (editing bs) = outputNumbers (editOutput (joinedBytes bs))
 found (filing bs) = fileOf (after empty bs)
 found (answering bs b) = answerNumbers (command (after empty bs) b)
 found (asking s b) = answerNumbers (command s b)
+found (leaving s b) = fileOf (command s b .sheet)
 found (starring bs i buffer) = filledNumbers (starCall (after empty bs) i buffer)
 found (opening bytes) = readFile bytes .number ∷ fileOf (readFile bytes .sheet)
 
@@ -142,6 +145,18 @@ crowd n next = record { next = next; cells = numbered 1 (replicate n (vertex ori
 -- 253 vertices and edge 254 from 1 to 2
 abbrev pub crowdAndEdge : Sheet
 crowdAndEdge = record { next = 255; cells = numbered 1 (replicate 253 (vertex origin) ++ openEdge 1 2 [] ∷ []) }
+
+-- vertices 2 and 3, edge 4 from 2 to 3, face 5 along the edge and back and twice with vertex 3 alone; vertex 1 was deleted
+abbrev pub gapped : List (List ℕ)
+gapped = dot ∷ dot ∷ dot ∷ (0x02 ∷ 2 ∷ 3 ∷ 0 ∷ []) ∷ (0x04 ∷ 3 ∷ 2 ∷ 8 ∷ 9 ∷ 0 ∷ 3 ∷ 0 ∷ 3 ∷ []) ∷ (0x06 ∷ 1 ∷ []) ∷ []
+
+-- vertex 65534 and edge 65535 from it to itself, and no id left
+abbrev pub spent : Sheet
+spent = record { next = 65536; cells = numbered 65534 (vertex origin ∷ openEdge 65534 65534 [] ∷ []) }
+
+-- 0F
+abbrev pub renewal : List ℕ
+renewal = 0x0F ∷ []
 
 -- ---- the rows marked P, and the worked example
 abbrev pub marked : List Row
@@ -242,6 +257,37 @@ further =
     ∷ row (asking (crowd 256 65535) dot) (8 ∷ 0 ∷ 0 ∷ 0 ∷ [])
     -- the ceilings are asked of the result: 254 cells, and the cut edge goes as three come
     ∷ row (asking crowdAndEdge (0x0A ∷ 0xFE ∷ 0x01 ∷ 0 ∷ [])) (0 ∷ 255 ∷ 3 ∷ 1 ∷ [])
+    -- 0F: ids in the order they have, every end, step and lone vertex, the next id; the directions of steps stay
+    ∷ row (answering gapped renewal) (0 ∷ 0 ∷ 0 ∷ 0 ∷ [])
+    ∷ row (filing (gapped ++ renewal ∷ []))
+    (joinedBytes
+    ((5 ∷ 4 ∷ []) ∷ (1 ∷ 0 ∷ nought) ∷ (2 ∷ 0 ∷ nought) ∷ (3 ∷ 1 ∷ 1 ∷ 2 ∷ 0 ∷ []) ∷ (4 ∷ 3 ∷ 3 ∷ 2 ∷ 6 ∷ 7 ∷ 0 ∷ 2 ∷ 0 ∷ 2 ∷ []) ∷ []))
+    -- a second one changes nothing, the next cell gets id n + 1, a delete means the id in force, and the Euler number stays
+    ∷ row (filing (gapped ++ renewal ∷ renewal ∷ (0x06 ∷ 3 ∷ []) ∷ [])) (joinedBytes ((5 ∷ 2 ∷ []) ∷ (1 ∷ 0 ∷ nought) ∷ (2 ∷ 0 ∷ nought) ∷ []))
+    ∷ row (answering (gapped ++ renewal ∷ []) dot) (0 ∷ 5 ∷ 1 ∷ 0 ∷ [])
+    ∷ row (answering (gapped ++ renewal ∷ []) (0x06 ∷ 5 ∷ [])) (4 ∷ 0 ∷ 0 ∷ 0 ∷ [])
+    ∷ row (editing (ringed ++ (0x06 ∷ 3 ∷ []) ∷ renewal ∷ dot ∷ []))
+    (0 ∷ 1 ∷ 1 ∷ 0
+    ∷ 0 ∷ 2 ∷ 1 ∷ 0
+    ∷ 0 ∷ 3 ∷ 1 ∷ 0
+    ∷ 0 ∷ 0 ∷ 0 ∷ 1
+    ∷ 0 ∷ 0 ∷ 0 ∷ 0
+    ∷ 0 ∷ 3 ∷ 1 ∷ 0
+    ∷ 0 ∷ 1 ∷ 3 ∷ [])
+    -- an edge that ends at a vertex with a higher id; a closed edge twice round, backward
+    ∷ row (filing (dot ∷ dot ∷ (0x02 ∷ 2 ∷ 2 ∷ 0 ∷ []) ∷ (0x09 ∷ 2 ∷ []) ∷ (0x06 ∷ 1 ∷ []) ∷ renewal ∷ []))
+    (joinedBytes ((4 ∷ 3 ∷ []) ∷ (1 ∷ 0 ∷ nought) ∷ (2 ∷ 1 ∷ 1 ∷ 3 ∷ 0 ∷ []) ∷ (3 ∷ 0 ∷ nought) ∷ []))
+    ∷ row (filing (dot ∷ (0x03 ∷ 1 ∷ nought) ∷ (0x04 ∷ 1 ∷ 2 ∷ 5 ∷ 5 ∷ []) ∷ (0x06 ∷ 1 ∷ []) ∷ renewal ∷ []))
+    (joinedBytes ((3 ∷ 2 ∷ []) ∷ (1 ∷ 2 ∷ 1 ∷ nought) ∷ (2 ∷ 3 ∷ 1 ∷ 2 ∷ 3 ∷ 3 ∷ []) ∷ []))
+    -- no cell: the next id is 1, and the id of a cell that went is issued again; at the end of the ids there are ids again
+    ∷ row (filing (dot ∷ (0x06 ∷ 1 ∷ []) ∷ renewal ∷ [])) (0x01 ∷ 0x00 ∷ [])
+    ∷ row (answering (dot ∷ (0x06 ∷ 1 ∷ []) ∷ renewal ∷ []) dot) (0 ∷ 1 ∷ 1 ∷ 0 ∷ [])
+    ∷ row (asking spent dot) (7 ∷ 0 ∷ 0 ∷ 0 ∷ [])
+    ∷ row (leaving spent renewal) (joinedBytes ((3 ∷ 2 ∷ []) ∷ (1 ∷ 0 ∷ nought) ∷ (2 ∷ 1 ∷ 1 ∷ 1 ∷ 0 ∷ []) ∷ []))
+    ∷ row (asking (crowd 256 65536) renewal) (0 ∷ 0 ∷ 0 ∷ 0 ∷ [])
+    -- a drawing that is not sound gets 1; 10 is no kind
+    ∷ row (asking (crowd 1 1) renewal) (1 ∷ 0 ∷ 0 ∷ 0 ∷ [])
+    ∷ row (answering [] (0x10 ∷ [])) (2 ∷ 0 ∷ 0 ∷ 0 ∷ [])
     -- bytes after a file are no part of it
     ∷ row (opening (0x01 ∷ 0x00 ∷ [])) (0 ∷ 0x01 ∷ 0x00 ∷ [])
     ∷ row (opening (0x01 ∷ 0x00 ∷ 0x00 ∷ [])) (10 ∷ 0x01 ∷ 0x00 ∷ [])

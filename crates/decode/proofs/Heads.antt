@@ -18,7 +18,7 @@ use Rattle.decode_parts.proofs.Fields.{heard}
 use Rattle.decode_fields.proofs.Pairs.{pair-half, pair-both, pair-then}
 use Rattle.decode_command.specs.declared.Decoded.{Decoded}
 use Rattle.decode_command.specs.View.{Decodes}
-use Rattle.decode_command.proofs.Decides.{read-as, of-create}
+use Rattle.decode_command.proofs.Decides.{edited, read-as, of-create}
 
 -- the lists of a cut, after its face and its corners
 abbrev cutAt : ℕ → ℕ → ℕ → ℕ → ℕ → List ℕ → Read bytes.Command
@@ -36,8 +36,9 @@ module _ {A : Type 0} {r : List ℕ → Read A} {s : List ℕ} {at mid : ℕ} {x
 
 -- ---- the definition of each kind
 module _ {s : List ℕ} {at : ℕ} {d : Decoded} where
-  pub of-open : Decodes s at (andThen (readPair readTwoNumbers readBends (drop at s)) λ p u. got (bytes.create (openEdge (p .0 .0) (p .0 .1) (p .1))) u) d
-      → Decodes s at (readCreate readOpenEdge (drop at s)) d
+  pub of-open : Decodes s at (edited (andThen (readPair readTwoNumbers readBends (drop at s)) λ p u.
+      got (bytes.create (openEdge (p .0 .0) (p .0 .1) (p .1))) u)) d
+      → Decodes s at (edited (readCreate readOpenEdge (drop at s))) d
   of-open h =
       read-as
       (ap (λ (q : Read Figure). andThen q λ x t. got (bytes.create x) t)
@@ -45,16 +46,17 @@ module _ {s : List ℕ} {at : ℕ} {d : Decoded} where
       ∙ pair-then readNumber readNumber (λ a b u. andThen (readBends u) λ bs v. got (openEdge a b bs) v) (drop at s)))
       (of-create (readPair readTwoNumbers readBends) (λ p. openEdge (p .0 .0) (p .0 .1) (p .1)) h)
 
-  pub of-cut-closed : Decodes s at (andThen (readPair readNumber readCutLists (drop at s)) λ p u. got (bytes.cutFaceClosed (p .0) (p .1 .0) (p .1 .1)) u) d
-      → Decodes s at (readCutFaceClosed (drop at s)) d
+  pub of-cut-closed : Decodes s at (edited (andThen (readPair readNumber readCutLists (drop at s)) λ p u.
+      got (bytes.cutFaceClosed (p .0) (p .1 .0) (p .1 .1)) u)) d
+      → Decodes s at (edited (readCutFaceClosed (drop at s))) d
   of-cut-closed h =
       read-as
       (pair-then readNumber readCutLists (λ f l u. got (bytes.cutFaceClosed f (l .0) (l .1)) u) (drop at s)
       ∙ (λ i. andThen (readNumber (drop at s)) λ f t. pair-then readBends (counted readNumber) (λ bs ms v. got (bytes.cutFaceClosed f bs ms) v) t i)) h
 
-  pub of-cut-open : Decodes s at (andThen (readPair (readPair readThreeNumbers readTwoNumbers) readCutLists (drop at s)) λ p u.
-      got (bytes.cutFaceOpen (p .0 .0 .0 .0) (p .0 .0 .0 .1) (p .0 .0 .1) (p .0 .1 .0) (p .0 .1 .1) (p .1 .0) (p .1 .1)) u) d
-      → Decodes s at (readCutFaceOpen (drop at s)) d
+  pub of-cut-open : Decodes s at (edited (andThen (readPair (readPair readThreeNumbers readTwoNumbers) readCutLists (drop at s)) λ p u.
+      got (bytes.cutFaceOpen (p .0 .0 .0 .0) (p .0 .0 .0 .1) (p .0 .0 .1) (p .0 .1 .0) (p .0 .1 .1) (p .1 .0) (p .1 .1)) u)) d
+      → Decodes s at (edited (readCutFaceOpen (drop at s))) d
   of-cut-open h =
       let t = drop at s in
       read-as

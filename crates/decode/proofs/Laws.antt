@@ -11,11 +11,11 @@ use Rattle.complex.specs.Decode.{decode}
 use Rattle.decode_command.specs.declared.Command.{Command}
 use Rattle.decode_command.specs.declared.Decoded.{Decoded}
 use Rattle.decode_command.specs.declared.Decoded.the-variants.{Whole, Malformed}
-use Rattle.decode_command.specs.View.{commandOf, decodedSays, ListsLie, Ended, DecodedEnd}
+use Rattle.decode_command.specs.View.{orderOf, decodedSays, ListsLie, Ended, DecodedEnd}
 
 -- a script begins with the command c, which ends at `next`
 pub record Begins (s : List ℕ) (c : Command) (next : ℕ) : Type 0 where
-  pub read : decode s ≡ got (commandOf s c) (drop next s)
+  pub read : decode s ≡ got (orderOf s c) (drop next s)
   pub some : 0 < next
   pub fits : next ≤ length s
   pub lists : ListsLie s c
@@ -25,7 +25,7 @@ pub begins : {s : List ℕ} {r : Decoded} {c : Command} {next : ℕ} → decoded
 begins {s} {c = c} {next = next} d e f =
     let h : Ended s 1 c next = subst (DecodedEnd s 1) f e in
     let a = h .after in
-    record { read = found-got 2 (decode s) (commandOf s c) (drop next s) (sym d ∙ ap (decodedSays s) f); some = omega arith; fits = h .fits; lists = h .lists }
+    record { read = found-got 2 (decode s) (orderOf s c) (drop next s) (sym d ∙ ap (decodedSays s) f); some = omega arith; fits = h .fits; lists = h .lists }
 
 pub unread : (s : List ℕ) {r : Decoded} → decodedSays s r ≡ foundOr 2 (decode s) → r ≡ Malformed → decode s ≡ bad
 unread s d f = found-bad 2 (decode s) (sym d ∙ ap (decodedSays s) f)

@@ -3,7 +3,7 @@ ghost use mathlib.Core.Path.{_≡_};
 ghost use Prim.Native.Nat.{_≤_};
 ghost use lib.ListN.{length, drop};
 ghost use Rattle.number.specs.Said.{foundOr};
-ghost use Rattle.complex.specs.Decode.{readOpenEdge, readClosedEdge, readFace, readCreate, readCutFaceOpen, readCutFaceClosed};
+ghost use Rattle.complex.specs.Decode.{readOpenEdge, readClosedEdge, readFace, readCreate, readCutFaceOpen, readCutFaceClosed, edits};
 ghost use Rattle.complex.specs.Decode as bytes;
 ghost use Rattle.decode_command.specs.View.{decodedSays, Decodes, DecodedEnd};
 use bends::BendList;
@@ -17,7 +17,7 @@ use number::Number;
 
 // 02: start, end, bend list
 fn decode_open(script: &[u8], at: usize) -> Decoded
-    ensures { λ r. ⌜ Decodes (now (script .entry)) at (readCreate readOpenEdge (drop at (now (script .entry)))) r ⌝ }
+    ensures { λ r. ⌜ Decodes (now (script .entry)) at (edits (readCreate readOpenEdge) (drop at (now (script .entry)))) r ⌝ }
 {
     let Two::Numbers(start, end, list) = decode_fields::two_numbers(script, at) else {
         return Decoded::Malformed;
@@ -39,7 +39,7 @@ fn decode_open(script: &[u8], at: usize) -> Decoded
 // 03: bend list
 fn decode_closed(script: &[u8], at: usize) -> Decoded
     requires { ⌜ at ≤ length (now script) ⌝ }
-    ensures { λ r. ⌜ Decodes (now (script .entry)) at (readCreate readClosedEdge (drop at (now (script .entry)))) r ⌝ }
+    ensures { λ r. ⌜ Decodes (now (script .entry)) at (edits (readCreate readClosedEdge) (drop at (now (script .entry)))) r ⌝ }
 {
     let BendList::Listed(bends, first, next) = decode_parts::bends_at(script, at) else {
         return Decoded::Malformed;
@@ -49,7 +49,7 @@ fn decode_closed(script: &[u8], at: usize) -> Decoded
 
 // 04: k, then the cycles
 fn decode_face(script: &[u8], at: usize) -> Decoded
-    ensures { λ r. ⌜ Decodes (now (script .entry)) at (readCreate readFace (drop at (now (script .entry)))) r ⌝ }
+    ensures { λ r. ⌜ Decodes (now (script .entry)) at (edits (readCreate readFace) (drop at (now (script .entry)))) r ⌝ }
 {
     let Number::Value(cycles, first) = number::read_number(script, at) else {
         return Decoded::Malformed;
@@ -62,7 +62,7 @@ fn decode_face(script: &[u8], at: usize) -> Decoded
 
 // 0C: face, cycle c1, step s1, c2, s2, and the lists
 fn decode_cut_face_open(script: &[u8], at: usize) -> Decoded
-    ensures { λ r. ⌜ Decodes (now (script .entry)) at (readCutFaceOpen (drop at (now (script .entry)))) r ⌝ }
+    ensures { λ r. ⌜ Decodes (now (script .entry)) at (edits readCutFaceOpen (drop at (now (script .entry)))) r ⌝ }
 {
     let Three::Numbers(face, c1, s1, second) = decode_fields::three_numbers(script, at) else {
         return Decoded::Malformed;
@@ -92,7 +92,7 @@ fn decode_cut_face_open(script: &[u8], at: usize) -> Decoded
 
 // 0D: face, and the lists
 fn decode_cut_face_closed(script: &[u8], at: usize) -> Decoded
-    ensures { λ r. ⌜ Decodes (now (script .entry)) at (readCutFaceClosed (drop at (now (script .entry)))) r ⌝ }
+    ensures { λ r. ⌜ Decodes (now (script .entry)) at (edits readCutFaceClosed (drop at (now (script .entry)))) r ⌝ }
 {
     let Number::Value(face, list) = number::read_number(script, at) else {
         return Decoded::Malformed;
@@ -136,6 +136,7 @@ pub fn decode(script: &[u8]) -> Decoded
         12 => decode_cut_face_open(script, 1),
         13 => decode_cut_face_closed(script, 1),
         14 => decode_command::decode_uncut(script, 1),
+        15 => Decoded::Whole(Command::Renumber, 1),
         _ => Decoded::Malformed,
     }
 }

@@ -14,29 +14,30 @@ use Rattle.complex.specs.Decode as bytes
 use Rattle.decode_parts.specs.Lists.{Stand, numbersRead, cyclesRead}
 use Rattle.decode_command.specs.declared.Command.{Command}
 use Rattle.decode_command.specs.declared.Command.the-variants.{Vertex, Open, Closed, Face, Move, Delete, GlueVertices, GlueEdges, Unglue}
-use Rattle.decode_command.specs.declared.Command.the-variants.{CutEdge, CutFaceVertex, CutFaceOpen, CutFaceClosed, Uncut}
+use Rattle.decode_command.specs.declared.Command.the-variants.{CutEdge, CutFaceVertex, CutFaceOpen, CutFaceClosed, Uncut, Renumber}
 use Rattle.decode_command.specs.declared.Decoded.{Decoded}
 use Rattle.decode_command.specs.declared.Decoded.the-variants.{Whole, Malformed}
 
-abbrev pub commandOf : List ℕ → Command → bytes.Command
-commandOf s (Vertex x y) = bytes.create (vertex (record { x = x; y = y }))
-commandOf s (Open a b n first) = bytes.create (openEdge a b (positionsAt s first n))
-commandOf s (Closed n first) = bytes.create (closedEdge (positionsAt s first n))
-commandOf s (Face k first) = bytes.create (face (cyclesRead s first k))
-commandOf s (Move v x y) = bytes.move v (record { x = x; y = y })
-commandOf s (Delete i) = bytes.delete i
-commandOf s (GlueVertices a b) = bytes.glueVertices a b
-commandOf s (GlueEdges a b f) = bytes.glueEdges a b f
-commandOf s (Unglue i) = bytes.unglue i
-commandOf s (CutEdge e q) = bytes.cutEdge e q
-commandOf s (CutFaceVertex f x y) = bytes.cutFaceVertex f (record { x = x; y = y })
-commandOf s (CutFaceOpen f c1 s1 c2 s2 n first m place) = bytes.cutFaceOpen f c1 s1 c2 s2 (positionsAt s first n) (numbersRead s place m)
-commandOf s (CutFaceClosed f n first m place) = bytes.cutFaceClosed f (positionsAt s first n) (numbersRead s place m)
-commandOf s (Uncut i) = bytes.uncut i
+abbrev pub orderOf : List ℕ → Command → bytes.Order
+orderOf s (Vertex x y) = bytes.edit (bytes.create (vertex (record { x = x; y = y })))
+orderOf s (Open a b n first) = bytes.edit (bytes.create (openEdge a b (positionsAt s first n)))
+orderOf s (Closed n first) = bytes.edit (bytes.create (closedEdge (positionsAt s first n)))
+orderOf s (Face k first) = bytes.edit (bytes.create (face (cyclesRead s first k)))
+orderOf s (Move v x y) = bytes.edit (bytes.move v (record { x = x; y = y }))
+orderOf s (Delete i) = bytes.edit (bytes.delete i)
+orderOf s (GlueVertices a b) = bytes.edit (bytes.glueVertices a b)
+orderOf s (GlueEdges a b f) = bytes.edit (bytes.glueEdges a b f)
+orderOf s (Unglue i) = bytes.edit (bytes.unglue i)
+orderOf s (CutEdge e q) = bytes.edit (bytes.cutEdge e q)
+orderOf s (CutFaceVertex f x y) = bytes.edit (bytes.cutFaceVertex f (record { x = x; y = y }))
+orderOf s (CutFaceOpen f c1 s1 c2 s2 n first m place) = bytes.edit (bytes.cutFaceOpen f c1 s1 c2 s2 (positionsAt s first n) (numbersRead s place m))
+orderOf s (CutFaceClosed f n first m place) = bytes.edit (bytes.cutFaceClosed f (positionsAt s first n) (numbersRead s place m))
+orderOf s (Uncut i) = bytes.edit (bytes.uncut i)
+orderOf s Renumber = bytes.renumber
 
 -- the cases of `Decoded`: 0 with a command and the bytes after it, or 2
-abbrev pub decodedSays : List ℕ → Decoded → Said (bytes.Command × List ℕ)
-decodedSays s (Whole c next) = done (commandOf s c, drop next s)
+abbrev pub decodedSays : List ℕ → Decoded → Said (bytes.Order × List ℕ)
+decodedSays s (Whole c next) = done (orderOf s c, drop next s)
 decodedSays s Malformed = no 2
 
 -- the lists of a command lie in the script
@@ -55,6 +56,7 @@ ListsLie s (CutFaceVertex f x y) = Unit {0}
 ListsLie s (CutFaceOpen f c1 s1 c2 s2 n first m place) = (first + 16 * n ≤ length s) × Stand readNumber s place m
 ListsLie s (CutFaceClosed f n first m place) = (first + 16 * n ≤ length s) × Stand readNumber s place m
 ListsLie s (Uncut i) = Unit {0}
+ListsLie s Renumber = Unit {0}
 
 -- a command whose fields begin at `at` ends at `next`
 pub record Ended (s : List ℕ) (at : ℕ) (c : Command) (next : ℕ) : Type 0 where
@@ -67,7 +69,7 @@ DecodedEnd s at (Whole c next) = Ended s at c next
 DecodedEnd s at Malformed = Unit {0}
 
 -- r says what is read from `at` on, or 2
-pub record Decodes (s : List ℕ) (at : ℕ) (read : Read bytes.Command) (r : Decoded) : Type 0 where
+pub record Decodes (s : List ℕ) (at : ℕ) (read : Read bytes.Order) (r : Decoded) : Type 0 where
   pub answer : decodedSays s r ≡ foundOr 2 read
   pub ends : DecodedEnd s at r
 

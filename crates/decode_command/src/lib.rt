@@ -1,6 +1,6 @@
 // What a command is, and the kinds whose fields are numbers and positions.
 ghost use lib.ListN.{drop};
-ghost use Rattle.complex.specs.Decode.{readVertex, readCreate, readCellOnly, readTwo, readPlace, readGlueEdges};
+ghost use Rattle.complex.specs.Decode.{readVertex, readCreate, readCellOnly, readTwo, readPlace, readGlueEdges, edits};
 ghost use Rattle.complex.specs.Decode as bytes;
 ghost use Rattle.decode_command.specs.View.{Decodes, placeKind};
 use coordinate::Located;
@@ -50,6 +50,7 @@ pub enum Command {
         place: usize,
     },
     Uncut(u32),
+    Renumber,
 }
 
 // What a script begins with: a whole command and the place after it, or none.
@@ -60,7 +61,7 @@ pub enum Decoded {
 
 // 01: position
 pub fn decode_vertex(script: &[u8], at: usize) -> Decoded
-    ensures { λ r. ⌜ Decodes (now (script .entry)) at (readCreate readVertex (drop at (now (script .entry)))) r ⌝ }
+    ensures { λ r. ⌜ Decodes (now (script .entry)) at (edits (readCreate readVertex) (drop at (now (script .entry)))) r ⌝ }
 {
     let Located::At(p, next) = coordinate::read_position(script, at) else {
         return Decoded::Malformed;
@@ -70,7 +71,7 @@ pub fn decode_vertex(script: &[u8], at: usize) -> Decoded
 
 // 06: any cell
 pub fn decode_delete(script: &[u8], at: usize) -> Decoded
-    ensures { λ r. ⌜ Decodes (now (script .entry)) at (readCellOnly bytes.delete (drop at (now (script .entry)))) r ⌝ }
+    ensures { λ r. ⌜ Decodes (now (script .entry)) at (edits (readCellOnly bytes.delete) (drop at (now (script .entry)))) r ⌝ }
 {
     let Number::Value(cell, next) = number::read_number(script, at) else {
         return Decoded::Malformed;
@@ -80,7 +81,7 @@ pub fn decode_delete(script: &[u8], at: usize) -> Decoded
 
 // 09: vertex or edge
 pub fn decode_unglue(script: &[u8], at: usize) -> Decoded
-    ensures { λ r. ⌜ Decodes (now (script .entry)) at (readCellOnly bytes.unglue (drop at (now (script .entry)))) r ⌝ }
+    ensures { λ r. ⌜ Decodes (now (script .entry)) at (edits (readCellOnly bytes.unglue) (drop at (now (script .entry)))) r ⌝ }
 {
     let Number::Value(cell, next) = number::read_number(script, at) else {
         return Decoded::Malformed;
@@ -90,7 +91,7 @@ pub fn decode_unglue(script: &[u8], at: usize) -> Decoded
 
 // 0E: vertex or edge
 pub fn decode_uncut(script: &[u8], at: usize) -> Decoded
-    ensures { λ r. ⌜ Decodes (now (script .entry)) at (readCellOnly bytes.uncut (drop at (now (script .entry)))) r ⌝ }
+    ensures { λ r. ⌜ Decodes (now (script .entry)) at (edits (readCellOnly bytes.uncut) (drop at (now (script .entry)))) r ⌝ }
 {
     let Number::Value(cell, next) = number::read_number(script, at) else {
         return Decoded::Malformed;
@@ -100,7 +101,7 @@ pub fn decode_uncut(script: &[u8], at: usize) -> Decoded
 
 // 07: a, b
 pub fn decode_glue_vertices(script: &[u8], at: usize) -> Decoded
-    ensures { λ r. ⌜ Decodes (now (script .entry)) at (readTwo bytes.glueVertices (drop at (now (script .entry)))) r ⌝ }
+    ensures { λ r. ⌜ Decodes (now (script .entry)) at (edits (readTwo bytes.glueVertices) (drop at (now (script .entry)))) r ⌝ }
 {
     let Two::Numbers(a, b, next) = decode_fields::two_numbers(script, at) else {
         return Decoded::Malformed;
@@ -110,7 +111,7 @@ pub fn decode_glue_vertices(script: &[u8], at: usize) -> Decoded
 
 // 0A: edge, place
 pub fn decode_cut_edge(script: &[u8], at: usize) -> Decoded
-    ensures { λ r. ⌜ Decodes (now (script .entry)) at (readTwo bytes.cutEdge (drop at (now (script .entry)))) r ⌝ }
+    ensures { λ r. ⌜ Decodes (now (script .entry)) at (edits (readTwo bytes.cutEdge) (drop at (now (script .entry)))) r ⌝ }
 {
     let Two::Numbers(edge, q, next) = decode_fields::two_numbers(script, at) else {
         return Decoded::Malformed;
@@ -120,7 +121,7 @@ pub fn decode_cut_edge(script: &[u8], at: usize) -> Decoded
 
 // 08: a, b, flag
 pub fn decode_glue_edges(script: &[u8], at: usize) -> Decoded
-    ensures { λ r. ⌜ Decodes (now (script .entry)) at (readGlueEdges (drop at (now (script .entry)))) r ⌝ }
+    ensures { λ r. ⌜ Decodes (now (script .entry)) at (edits readGlueEdges (drop at (now (script .entry)))) r ⌝ }
 {
     let Three::Numbers(a, b, flag, next) = decode_fields::three_numbers(script, at) else {
         return Decoded::Malformed;
@@ -130,7 +131,7 @@ pub fn decode_glue_edges(script: &[u8], at: usize) -> Decoded
 
 // 05: vertex, position; 0B: face, position
 pub fn decode_place(script: &[u8], at: usize, face: bool) -> Decoded
-    ensures { λ r. ⌜ Decodes (now (script .entry)) at (readPlace (placeKind face) (drop at (now (script .entry)))) r ⌝ }
+    ensures { λ r. ⌜ Decodes (now (script .entry)) at (edits (readPlace (placeKind face)) (drop at (now (script .entry)))) r ⌝ }
 {
     let Number::Value(cell, place) = number::read_number(script, at) else {
         return Decoded::Malformed;

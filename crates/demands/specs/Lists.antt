@@ -11,7 +11,7 @@ use Rattle.complex.specs.Cells.{Sheet, empty}
 use Rattle.complex.specs.Sound.{doubles}
 use Rattle.complex.specs.Boundary.{star}
 use Rattle.complex.specs.Euler.{euler}
-use Rattle.complex.specs.Decode.{delete, decode}
+use Rattle.complex.specs.Decode.{delete, edit, decode}
 use Rattle.complex.specs.Calls.{Filled, EulerAnswer}
 use Rattle.complex.specs.Demands.{Step, afterItems, sharesOfItems, Each, after, shareOf, live, Took, StarRight}
 use Rattle.rows_star.specs.declared.Counted.{Counted}
@@ -48,7 +48,7 @@ module _ {State Item : Type 0} (k : Calls State Item) where
   -- each delete answered with 0 took exactly its target and the cells that rested on it
   abbrev pub DeleteTook : State → Item → Type 0
   DeleteTook s i =
-      (j : ℕ) (t : List ℕ) → decode (k .bytes i) ≡ got (delete j) t → k .step s i .number ≡ 0
+      (j : ℕ) (t : List ℕ) → decode (k .bytes i) ≡ got (edit (delete j)) t → k .step s i .number ≡ 0
       → Took (k .sheet s) (k .sheet (k .step s i .state)) j
 
   abbrev pub DeletesOf : State → List Item → Type 0

@@ -6,7 +6,7 @@ use mathlib.Core.List.{List}
 use lib.Dec.{T}
 use Rattle.number.specs.Readers.{got, bad}
 use Rattle.complex.specs.Sound.{sound}
-use Rattle.complex.specs.Decode.{Command, decode}
+use Rattle.complex.specs.Decode.{Order, decode}
 use Rattle.complex.specs.Answer.{no, asked2, command}
 use Rattle.complex.proofs.Bools.{true-of, false-not}
 use Rattle.store.specs.View.{sheetOf}
@@ -14,8 +14,8 @@ use Rattle.sound.proofs.Meaning.{sound-sheet}
 use Rattle.answer.specs.Answers.{saidBy}
 use Rattle.lent.specs.Arrays.{Arrays, heldBy, soundArrays}
 use Rattle.lent.specs.declared.Line.{Line}
-use Rattle.lent.specs.Replies.{lineOf, answerBy, Obeyed, Replied}
-use Rattle.lent.proofs.Replies.{drawing-of, replied-obeyed}
+use Rattle.lent.specs.Replies.{lineOf, answerBy, Carried, Replied}
+use Rattle.lent.proofs.Replies.{drawing-of, carried-says, replied-carried}
 use Rattle.call_asked.proofs.Questions.{of-unsound}
 use Rattle.entry_command.specs.Commands.{commandIn, CommandedIn}
 
@@ -44,7 +44,7 @@ module _ (a : Arrays) (bytes : List ℕ) (l : Line) where
         }
 
     -- 3 to 8, and the rules
-    pub commanded-obeyed : (c : Command) (t : List ℕ) (b : Arrays) → decode bytes ≡ got c t → Obeyed a c b l → CommandedIn a bytes b l
-    commanded-obeyed c t b q o =
-        let r : Replied a c b l = replied-obeyed a (true-of (soundArrays a) w) c b l o in
-        record { said = o .answers .said ∙ sym (command-is ∙ ap (asked2 (sheetOf (heldBy a))) q); back = r .back; sound = r .sound }
+    pub commanded-carried : (o : Order) (t : List ℕ) (b : Arrays) → decode bytes ≡ got o t → Carried a o b l → CommandedIn a bytes b l
+    commanded-carried o t b q h =
+        let r : Replied a o b l = replied-carried a (true-of (soundArrays a) w) o b l h in
+        record { said = carried-says a o b l h ∙ sym (command-is ∙ ap (asked2 (sheetOf (heldBy a))) q); back = r .back; sound = r .sound }

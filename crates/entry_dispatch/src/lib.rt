@@ -1,13 +1,13 @@
 // A decoded command, handed to its kind.
-ghost use Rattle.decode_command.specs.View.{commandOf, ListsLie};
+ghost use Rattle.decode_command.specs.View.{orderOf, ListsLie};
 ghost use Rattle.lent.specs.Arrays.{lent, entry, exit};
-ghost use Rattle.lent.specs.Replies.{Ready, Obeyed};
+ghost use Rattle.lent.specs.Replies.{Ready, Carried};
 use answer::Totals;
 use coordinate::Position;
 use decode_command::Command;
 use lent::Line;
 
-// Questions 3 to 8 and the rules of the command's kind, on sound arrays; its lists lie in the script.
+// Questions 3 to 8 and the rules of the command's kind, on sound arrays; its lists lie in the script. 0F asks none of them.
 pub fn obey(
     next: &mut u32,
     count: &mut usize,
@@ -29,7 +29,7 @@ pub fn obey(
 ) -> Line
     requires { ⌜ Ready (lent (now next) (now count) ids kinds starts ends bends counts px py cycles steps bx by) t ⌝ }
     requires { ⌜ ListsLie (now script) c ⌝ }
-    ensures { λ r. ⌜ Obeyed (entry (now (next .entry)) (now (count .entry)) ids kinds starts ends bends counts px py cycles steps bx by) (commandOf (now (script .entry)) c) (exit (now (next .exit)) (now (count .exit)) ids kinds starts ends bends counts px py cycles steps bx by) r ⌝ }
+    ensures { λ r. ⌜ Carried (entry (now (next .entry)) (now (count .entry)) ids kinds starts ends bends counts px py cycles steps bx by) (orderOf (now (script .entry)) c) (exit (now (next .exit)) (now (count .exit)) ids kinds starts ends bends counts px py cycles steps bx by) r ⌝ }
 {
     match c {
         Command::Vertex(x, y) => {
@@ -359,6 +359,25 @@ pub fn obey(
                 by,
                 t,
                 cell,
+            )
+        }
+        Command::Renumber => {
+            kind_renumber::renumber(
+                next,
+                *count,
+                ids,
+                kinds,
+                starts,
+                ends,
+                bends,
+                counts,
+                px,
+                py,
+                cycles,
+                steps,
+                bx,
+                by,
+                t,
             )
         }
     }

@@ -13,13 +13,13 @@ use Rattle.complex.proofs.Bools.{true-of}
 use Rattle.store.specs.View.{sheetOf}
 use Rattle.sound.proofs.Meaning.{sound-sheet}
 use Rattle.decode_command.specs.declared.Command.{Command}
-use Rattle.decode_command.specs.View.{commandOf}
+use Rattle.decode_command.specs.View.{orderOf}
 use Rattle.decode.proofs.Laws.{Begins}
 use Rattle.answer.specs.Answers.{saidBy}
 use Rattle.lent.specs.Arrays.{Arrays, heldBy, soundArrays}
 use Rattle.lent.specs.declared.Line.{Line}
-use Rattle.lent.specs.Replies.{answerBy, lineOf, Obeyed}
-use Rattle.lent.proofs.Replies.{drawing-of, replied-obeyed}
+use Rattle.lent.specs.Replies.{answerBy, lineOf, Carried}
+use Rattle.lent.proofs.Replies.{drawing-of, carried-says, replied-carried}
 use Rattle.entry_told.proofs.Going.{turned-read, turned-unread, left-fits}
 use Rattle.entry_run.specs.Turns.{SteppedIn}
 
@@ -54,11 +54,12 @@ module _ (script : List ℕ) (at : ℕ) (h : at < length script) {left : List �
       record { turned = turned-unread script at h e (sheetOf (heldBy a)) (sheet-sound a w) d; sound = w; fits = left-fits script at h e }
 
   -- it is read, and the arrays b are left
-  pub read-in : {c : Command} {taken : ℕ} → Begins left c taken → (b : Arrays) (l : Line) → Obeyed a (commandOf left c) b l
+  pub read-in : {c : Command} {taken : ℕ} → Begins left c taken → (b : Arrays) (l : Line) → Carried a (orderOf left c) b l
       → SteppedIn a script at b (record { line = l; left = length script - (at + taken); end = at + taken })
   read-in {c} t b l o =
       record {
-        turned = turned-read script at h e (sheetOf (heldBy a)) (sheet-sound a w) t (saidBy (answerBy l (heldBy b))) (o .answers .said);
-        sound = replied-obeyed a (true-of (soundArrays a) w) (commandOf left c) b l o .sound w;
+        turned = turned-read script at h e (sheetOf (heldBy a)) (sheet-sound a w) t (saidBy (answerBy l (heldBy b)))
+            (carried-says a (orderOf left c) b l o);
+        sound = replied-carried a (true-of (soundArrays a) w) (orderOf left c) b l o .sound w;
         fits = omega arith;
       }

@@ -12,13 +12,13 @@ use Rattle.number.specs.Readers.{Read, bad}
 use Rattle.complex.specs.Lists.{isEmpty}
 use Rattle.complex.specs.Cells.{Sheet}
 use Rattle.complex.specs.Sound.{sound}
-use Rattle.complex.specs.Decode.{Command as Order, decode}
-use Rattle.complex.specs.Answer.{Answer as Said, no, asked2, asked3, command, restRead, rest}
+use Rattle.complex.specs.Decode.{Order, decode}
+use Rattle.complex.specs.Answer.{Answer as Said, no, ordered, asked2, command, restRead, rest}
 use Rattle.complex.proofs.Bools.{true-of}
-use Rattle.complex.proofs.Asked.{not-two}
+use Rattle.complex.proofs.Asked.{order-not-two}
 use Rattle.store.proofs.Lists.{drop-over, not-empty}
 use Rattle.decode_command.specs.declared.Command.{Command}
-use Rattle.decode_command.specs.View.{commandOf}
+use Rattle.decode_command.specs.View.{orderOf}
 use Rattle.decode.proofs.Laws.{Begins}
 use Rattle.entry_told.specs.Told.{Told, lineWidth, lineNumbers, tell, toldNone, told, toldOf, front, onward, Turned}
 
@@ -137,7 +137,7 @@ module _ (bytes : List ℕ) (at : ℕ) (l : at < length bytes) {b : List ℕ} (l
         }
 
     -- one that is read
-    pub turned-read : {c : Command} {next : ℕ} → Begins b c next → (a : Said) → a ≡ asked3 s (commandOf b c)
+    pub turned-read : {c : Command} {next : ℕ} → Begins b c next → (a : Said) → a ≡ ordered s (orderOf b c)
         → Turned s bytes at (lineNumbers a (length bytes - (at + next))) (a .sheet) (at + next)
     turned-read {c} {next} t a q =
         let k : command s (drop at bytes) ≡ a = command-of _ (t .read) ∙ sym q in
@@ -147,7 +147,7 @@ module _ (bytes : List ℕ) (at : ℕ) (l : at < length bytes) {b : List ℕ} (l
         record {
           numbers = λ i. lineNumbers (sym k i) (m i);
           sheet = sym (ap (λ (x : Said). x .sheet) k);
-          goes = sym r ∙ onward-of false (ne-eqb _ 2 (λ e. not-two s (commandOf b c) (ap (λ (x : Said). x .number) (sym (command-of _ (t .read))) ∙ e)));
+          goes = sym r ∙ onward-of false (ne-eqb _ 2 (λ e. order-not-two s (orderOf b c) (ap (λ (x : Said). x .number) (sym (command-of _ (t .read))) ∙ e)));
           ahead = omega arith;
           within = ahead-fits t;
         }

@@ -1,4 +1,4 @@
--- Arrays whose ends and lone vertices are renamed hold the drawing with them renamed. Assumes nothing.
+-- Arrays whose ends and places are rewritten hold the drawing with them rewired. Assumes nothing.
 use Prim.Native.Nat.{ℕ, zero, suc, _+_, _<_, _≤_}
 use native.Mathlib.Omega.{arith}
 use mathlib.Core.Path.{_≡_, refl, sym, ap, ap₂, _∙_}
@@ -7,7 +7,8 @@ use mathlib.Core.List.{List, [], _∷_, map}
 use borrow.Author.Tests.{ne-eqb}
 use lib.ListN.{length, getD, take}
 use Rattle.coordinate.specs.declared.Position.{Position}
-use Rattle.complex.specs.Lists.{total, one}
+use Rattle.complex.specs.Lists.{total}
+use Rattle.complex.specs.Cells.{Halfedge}
 use Rattle.complex.specs.Edits.{reshape, rewired}
 use Rattle.number.specs.Readers.{spread}
 use Rattle.store.specs.declared.Shape.{Shape}
@@ -18,12 +19,12 @@ use Rattle.store.specs.Places.{entryCycles}
 use Rattle.store.proofs.Lists.{width-places}
 use Rattle.store.proofs.Stands.{stands}
 use Rattle.store.proofs.Pools.{drawing-held}
-use Rattle.rows_steps.specs.Renaming.{renameShape, renameCell, LoneRenamed}
+use Rattle.rows_steps.specs.Renaming.{renameShape, renameCell, PlacesRewritten}
 use Rattle.rows_steps.proofs.Rewired.{rewired-heads, rewired-cycles, rewired-bends, changed-is}
-use Rattle.rows_steps.proofs.Renamed.{held-renamed}
+use Rattle.rows_steps.proofs.Renamed.{Rewrites, held-rewritten}
 use Rattle.lent.specs.Arrays.{Arrays, shapeBy, shapeAt, positionIn, cellsBy, heldBy, rowNormal, normalAt, normal, Lengths}
 use Rattle.lent.proofs.Held.{held-sizes, all-at, all-intro}
-use Rattle.kernel_rename.specs.Renames.{renameEnd, EndsRenamed, RenamedIn}
+use Rattle.kernel_rename.specs.Renames.{renameEnd, EndsRenamed, RewiredIn}
 
 -- the arrays with other starts, ends and steps
 abbrev pub withEnds : Arrays → List ℕ → List ℕ → List ℕ → Arrays
@@ -79,9 +80,10 @@ module _ (a : Arrays) (l : Lengths a) (f : Fits (heldBy a)) (k : ℕ) (e : k ≡
   lone-steps = let w = ap (λ (m : ℕ). total (placesOf 1) (take m (a .cycles))) e ∙ width-places (take (cycleTotal (heldBy a)) (a .cycles)) in
       omega (arith, w, f .steps)
 
-module _ (r : ℕ → ℕ) (a : Arrays) (l : Lengths a) (f : Fits (heldBy a)) (n : normal a ≡ true) (ss es st : List ℕ)
+module _ (r : ℕ → ℕ) (σ : Halfedge → List Halfedge) (g : Bool → ℕ → ℕ) (w : Rewrites g r σ)
+    (a : Arrays) (l : Lengths a) (f : Fits (heldBy a)) (n : normal a ≡ true) (ss es st : List ℕ)
     (rs : EndsRenamed r (a .kinds) (a .count) (a .starts) ss) (re : EndsRenamed r (a .kinds) (a .count) (a .ends) es)
-    (lt : length st ≡ 2048) (rl : LoneRenamed r (take (cycleTotal (heldBy a)) (a .cycles)) (a .steps) st) where
+    (lt : length st ≡ 2048) (rl : PlacesRewritten g (take (cycleTotal (heldBy a)) (a .cycles)) (a .steps) st) where
   abbrev b : Arrays
   b = withEnds a ss es st
 
@@ -115,18 +117,19 @@ module _ (r : ℕ → ℕ) (a : Arrays) (l : Lengths a) (f : Fits (heldBy a)) (n
       ∙ normal-renamed r (getD (a .kinds) j 0) (getD (a .starts) j 0) (getD (a .ends) j 0) (getD (a .bends) j 0) (getD (a .counts) j 0)
       ∙ all-at (normalAt (a .kinds) (a .starts) (a .ends) (a .bends) (a .counts)) (a .count) j h n
 
-  both : (sheetOf (heldBy b) ≡ withEntries (sheetOf (heldBy a)) (reshape (rewired r one) (sheetOf (heldBy a) .cells))) × Fits (heldBy b)
+  both : (sheetOf (heldBy b) ≡ withEntries (sheetOf (heldBy a)) (reshape (rewired r σ) (sheetOf (heldBy a) .cells))) × Fits (heldBy b)
   both =
       let d = heldBy a in
       let z = held-sizes a l in
       let xs = sheetOf d .cells in
-      let held = held-renamed r (spread entryCycles xs) (a .cycles) (cycleTotal d) (a .steps) (stepTotal d) st (drawing-held d z f) (lt ∙ sym (l .steps)) rl in
-      changed-is d (heldBy b) z f (held-sizes b long) refl refl refl (reshape (rewired r one) xs)
-      (cells-renamed r (shapeAt a) (shapeAt b) (a .count) (a .ids) shape-at ∙ ap (map (renameCell r)) (stands d z f .cells) ∙ rewired-heads r one xs)
-      (rewired-bends r one xs) (cycleTotal d) (stepTotal d) (rw (rewired-cycles r one xs) held)
+      let held = held-rewritten g r σ w (spread entryCycles xs) (a .cycles) (cycleTotal d) (a .steps) (stepTotal d) st (drawing-held d z f)
+      (lt ∙ sym (l .steps)) rl in
+      changed-is d (heldBy b) z f (held-sizes b long) refl refl refl (reshape (rewired r σ) xs)
+      (cells-renamed r (shapeAt a) (shapeAt b) (a .count) (a .ids) shape-at ∙ ap (map (renameCell r)) (stands d z f .cells) ∙ rewired-heads r σ xs)
+      (rewired-bends r σ xs) (cycleTotal d) (stepTotal d) (rw (rewired-cycles r σ xs) held)
 
-  pub renamed-in : RenamedIn r a b
-  renamed-in =
+  pub rewired-in : RewiredIn r σ a b
+  rewired-in =
       record {
         sheet = both .0;
         fits = both .1;

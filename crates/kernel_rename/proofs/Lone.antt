@@ -1,4 +1,4 @@
--- The cycles are walked, and the places of lone vertices are renamed. Assumes nothing.
+-- The cycles are walked, and their places are rewritten. Assumes nothing.
 use Prim.Native.Nat.{ℕ, zero, suc, _+_, _<_, _≤_}
 use native.Mathlib.Omega.{arith}
 use native.Mathlib.Numerals.{add-one}
@@ -12,7 +12,7 @@ use lib.Seq.{length-take-le, take-suc, take-add, drop-cons, drop-drop, drop-set-
 use Rattle.complex.specs.Lists.{total}
 use Rattle.store.specs.Edits.{placesOf, spreadFlags, zipped, lonePlaces}
 use Rattle.store.proofs.Lists.{sum-more, sum-le, map-more, spread-append, zipped-append}
-use Rattle.rows_steps.specs.Renaming.{renamePlace, LoneRenamed}
+use Rattle.rows_steps.specs.Renaming.{PlacesRewritten}
 
 lone-length : (ns : List ℕ) → length (lonePlaces ns) ≡ total (placesOf 1) ns
 lone-length [] = refl
@@ -28,24 +28,24 @@ lone-more ns i h =
     ∙ spread-append 1 (map isLone (take i ns)) (isLone (getD ns i 0) ∷ []) (take i ns) (getD ns i 0 ∷ []) (length-map (take i ns) isLone)
     ∙ ap (λ (l : List Bool). lonePlaces (take i ns) ++ l) (append-nil _)
 
--- the lone places of the first i cycles, which end before at, are renamed, and the others are as they were
-pub record Walking (r : ℕ → ℕ) (ns st₀ : List ℕ) (i at : ℕ) (st : List ℕ) : Type 0 where
+-- the places of the first i cycles, which end before at, are rewritten by f, and the others are as they were
+pub record Walking (f : Bool → ℕ → ℕ) (ns st₀ : List ℕ) (i at : ℕ) (st : List ℕ) : Type 0 where
   pub at-is : at ≡ total (placesOf 1) (take i ns)
   pub size : length st ≡ length st₀
   pub rest : drop at st ≡ drop at st₀
-  pub front : take at st ≡ zipped (renamePlace r) (lonePlaces (take i ns)) (take at st₀)
+  pub front : take at st ≡ zipped f (lonePlaces (take i ns)) (take at st₀)
 
-pub walking-start : (r : ℕ → ℕ) (ns st : List ℕ) → Walking r ns st 0 0 st
-walking-start r ns st = record { at-is = refl; size = refl; rest = refl; front = refl }
+pub walking-start : (f : Bool → ℕ → ℕ) (ns st : List ℕ) → Walking f ns st 0 0 st
+walking-start f ns st = record { at-is = refl; size = refl; rest = refl; front = refl }
 
--- no step is renamed
-zip-steps : (r : ℕ → ℕ) (k : ℕ) (y : List ℕ) → length y ≡ k → zipped (renamePlace r) (replicate k false) y ≡ y
-zip-steps r zero [] e = refl
-zip-steps r zero (n ∷ y) e = absurd (omega arith)
-zip-steps r (suc k) [] e = absurd (omega arith)
-zip-steps r (suc k) (n ∷ y) e = ap (λ (l : List ℕ). n ∷ l) (zip-steps r k y (omega arith))
+-- where f keeps a step, the places of steps stay
+zip-steps : (f : Bool → ℕ → ℕ) → ((s : ℕ) → f false s ≡ s) → (k : ℕ) (y : List ℕ) → length y ≡ k → zipped f (replicate k false) y ≡ y
+zip-steps f u zero [] e = refl
+zip-steps f u zero (n ∷ y) e = absurd (omega arith)
+zip-steps f u (suc k) [] e = absurd (omega arith)
+zip-steps f u (suc k) (n ∷ y) e = ap₂ (λ (x : ℕ) (l : List ℕ). x ∷ l) (u n) (zip-steps f u k y (omega arith))
 
-module _ {r : ℕ → ℕ} {ns st₀ : List ℕ} {i at : ℕ} {st : List ℕ} (w : Walking r ns st₀ i at st) where
+module _ {f : Bool → ℕ → ℕ} {ns st₀ : List ℕ} {i at : ℕ} {st : List ℕ} (w : Walking f ns st₀ i at st) where
   abbrev k : ℕ
   k = placesOf 1 (getD ns i 0)
 
@@ -64,8 +64,8 @@ module _ {r : ℕ → ℕ} {ns st₀ : List ℕ} {i at : ℕ} {st : List ℕ} (w
     past = sym (drop-drop k at st) ∙ ap (drop k) (w .rest) ∙ drop-drop k at st₀
 
     -- the places of one cycle
-    walk : (st′ : List ℕ) → length st′ ≡ length st → drop (at + k) st′ ≡ drop (at + k) st → take at st′ ≡ take at st
-        → take k (drop at st′) ≡ zipped (renamePlace r) (replicate k (eqb (getD ns i 0) 0)) (take k (drop at st₀)) → Walking r ns st₀ (i + 1) (at + k) st′
+    pub walk : (st′ : List ℕ) → length st′ ≡ length st → drop (at + k) st′ ≡ drop (at + k) st → take at st′ ≡ take at st
+        → take k (drop at st′) ≡ zipped f (replicate k (eqb (getD ns i 0) 0)) (take k (drop at st₀)) → Walking f ns st₀ (i + 1) (at + k) st′
     walk st′ e d t c =
         let ll : length (lonePlaces (take i ns)) ≡ length (take at st₀) = lone-length (take i ns) ∙ sym (w .at-is)
         ∙ sym (length-take-le at st₀ (omega arith)) in
@@ -75,32 +75,32 @@ module _ {r : ℕ → ℕ} {ns st₀ : List ℕ} {i at : ℕ} {st : List ℕ} (w
           rest = d ∙ past;
           front =
               take-add at k st′ ∙ ap₂ (λ (x y : List ℕ). x ++ y) (t ∙ w .front) c
-              ∙ sym (zipped-append (renamePlace r) (lonePlaces (take i ns)) (replicate k (eqb (getD ns i 0) 0)) (take at st₀) (take k (drop at st₀)) ll)
-              ∙ sym (ap₂ (λ (x : List Bool) (y : List ℕ). zipped (renamePlace r) x y) (lone-more ns i h) (take-add at k st₀));
+              ∙ sym (zipped-append f (lonePlaces (take i ns)) (replicate k (eqb (getD ns i 0) 0)) (take at st₀) (take k (drop at st₀)) ll)
+              ∙ sym (ap₂ (λ (x : List Bool) (y : List ℕ). zipped f x y) (lone-more ns i h) (take-add at k st₀));
         }
 
-    pub walk-steps : (getD ns i 0 ≡ 0 → ⊥) → Walking r ns st₀ (i + 1) (at + k) st
-    walk-steps z =
+    pub walk-steps : ((s : ℕ) → f false s ≡ s) → (getD ns i 0 ≡ 0 → ⊥) → Walking f ns st₀ (i + 1) (at + k) st
+    walk-steps u z =
         let len : length (take k (drop at st₀)) ≡ k = length-take-le k (drop at st₀) (let q = length-drop at st₀ in omega arith) in
         walk st refl refl refl
-        (ap (take k) (w .rest) ∙ sym (zip-steps r k (take k (drop at st₀)) len)
-        ∙ ap (λ (b : Bool). zipped (renamePlace r) (replicate k b) (take k (drop at st₀))) (sym (ne-eqb (getD ns i 0) 0 z)))
+        (ap (take k) (w .rest) ∙ sym (zip-steps f u k (take k (drop at st₀)) len)
+        ∙ ap (λ (b : Bool). zipped f (replicate k b) (take k (drop at st₀))) (sym (ne-eqb (getD ns i 0) 0 z)))
 
     here : getD st at 0 ≡ getD st₀ at 0
     here = ap (λ (n : ℕ). getD st n 0) (omega arith) ∙ sym (getD-drop at st 0 0) ∙ ap (λ (q : List ℕ). getD q 0 0) (w .rest) ∙ getD-drop at st₀ 0 0
         ∙ ap (λ (n : ℕ). getD st₀ n 0) (omega arith)
 
-    pub walk-lone : getD ns i 0 ≡ 0 → (v : ℕ) → v ≡ r (getD st at 0) → Walking r ns st₀ (i + 1) (at + k) (set st at v)
+    pub walk-lone : getD ns i 0 ≡ 0 → (v : ℕ) → v ≡ f true (getD st at 0) → Walking f ns st₀ (i + 1) (at + k) (set st at v)
     walk-lone z v e =
         let k1 : k ≡ 1 = ap (placesOf 1) z in
         let s = w .size in
         walk (set st at v) (length-set st at v) (drop-set-lt (at + k) st at v (omega arith)) (take-set-le at st at v (omega arith))
         (ap (λ (n : ℕ). take n (drop at (set st at v))) k1
         ∙ ap (take 1) (drop-cons (set st at v) at 0 (let q = length-set st at v in omega arith))
-        ∙ ap (λ (x : ℕ). x ∷ []) (getD-set-same st at v 0 (omega arith) ∙ e ∙ ap r here)
-        ∙ sym (ap (λ (n : ℕ). zipped (renamePlace r) (replicate (placesOf 1 n) (eqb n 0)) (take (placesOf 1 n) (drop at st₀))) z
-        ∙ ap (λ (q : List ℕ). zipped (renamePlace r) (true ∷ []) (take 1 q)) (drop-cons st₀ at 0 (omega arith))))
+        ∙ ap (λ (x : ℕ). x ∷ []) (getD-set-same st at v 0 (omega arith) ∙ e ∙ ap (f true) here)
+        ∙ sym (ap (λ (n : ℕ). zipped f (replicate (placesOf 1 n) (eqb n 0)) (take (placesOf 1 n) (drop at st₀))) z
+        ∙ ap (λ (q : List ℕ). zipped f (true ∷ []) (take 1 q)) (drop-cons st₀ at 0 (omega arith))))
 
-  pub walked : LoneRenamed r (take i ns) st₀ st
+  pub walked : PlacesRewritten f (take i ns) st₀ st
   walked =
-      record { front = subst (λ (m : ℕ). take m st ≡ zipped (renamePlace r) (lonePlaces (take i ns)) (take m st₀)) (w .at-is) (w .front) }
+      record { front = subst (λ (m : ℕ). take m st ≡ zipped f (lonePlaces (take i ns)) (take m st₀)) (w .at-is) (w .front) }

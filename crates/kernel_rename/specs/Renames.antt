@@ -6,6 +6,7 @@ use mathlib.Core.List.{List}
 use lib.Dec.{eqb}
 use lib.ListN.{length, getD}
 use Rattle.complex.specs.Lists.{one}
+use Rattle.complex.specs.Cells.{Halfedge}
 use Rattle.complex.specs.Edits.{reshape, rewired}
 use Rattle.store.specs.View.{sheetOf, Fits}
 use Rattle.store.specs.Edits.{withEntries}
@@ -20,9 +21,13 @@ pub record EndsRenamed (r : ℕ → ℕ) (ks : List ℕ) (n : ℕ) (l₀ l : Lis
   pub size : length l ≡ length l₀
   pub rows : (j : ℕ) → j < n → getD l j 0 ≡ renameEnd r (getD ks j 0) (getD l₀ j 0)
 
--- the arrays b hold what a hold with every end of an open edge and every lone vertex renamed
-pub record RenamedIn (r : ℕ → ℕ) (a b : Arrays) : Type 0 where
-  pub sheet : sheetOf (heldBy b) ≡ withEntries (sheetOf (heldBy a)) (reshape (rewired r one) (sheetOf (heldBy a) .cells))
+-- the arrays b hold what a hold with every use of a vertex by r and every step by σ
+pub record RewiredIn (r : ℕ → ℕ) (σ : Halfedge → List Halfedge) (a b : Arrays) : Type 0 where
+  pub sheet : sheetOf (heldBy b) ≡ withEntries (sheetOf (heldBy a)) (reshape (rewired r σ) (sheetOf (heldBy a) .cells))
   pub fits : Fits (heldBy b)
   pub long : Lengths b
   pub rows : normal b ≡ true
+
+-- the arrays b hold what a hold with every end of an open edge and every lone vertex renamed
+abbrev pub RenamedIn : (ℕ → ℕ) → Arrays → Arrays → Type 0
+RenamedIn r = RewiredIn r one

@@ -14,7 +14,7 @@ use Rattle.complex.specs.Cells.{Halfedge, Cycle, lone, path, Figure, vertex, op
 use Rattle.complex.specs.Edits.{reshape, rewired, rewiredCycle, sameVertex, inPlaceOf}
 use Rattle.complex.specs.Uncut.{inOne}
 use Rattle.complex.specs.Sound.{over, stepsIn as stepsHeld}
-use Rattle.complex.proofs.Keep.{spread-one}
+use Rattle.complex.proofs.Keep.{spread-one, length-each}
 use Rattle.store.specs.Sheet.{allReal}
 use Rattle.store.specs.Places.{entryCycles, cycleWords, word}
 use Rattle.store.specs.View.{sheetOf, Fits, cycleTotal, stepTotal}
@@ -77,13 +77,9 @@ module _ (σ τ ρ : Halfedge → List Halfedge) (e : (h : Halfedge) → spread 
 
 -- each step becomes one: there are as many
 module _ (r : ℕ → ℕ) (σ : Halfedge → List Halfedge) (each : (h : Halfedge) → length (σ h) ≡ 1) where
-  path-same : (hs : List Halfedge) → length (spread σ hs) ≡ length hs
-  path-same [] = refl
-  path-same (x ∷ hs) = let g = each x in let e = path-same hs in omega (arith, length-append (σ x) (spread σ hs), g, e)
-
   cycle-same : (k : Cycle) → length (cycleWords (rewiredCycle r σ k)) ≡ length (cycleWords k)
   cycle-same (lone v) = refl
-  cycle-same (path hs) = length-map (spread σ hs) word ∙ path-same hs ∙ sym (length-map hs word)
+  cycle-same (path hs) = length-map (spread σ hs) word ∙ length-each σ each hs ∙ sym (length-map hs word)
 
   steps-same : (ks : List Cycle) → length (spread cycleWords (map (rewiredCycle r σ) ks)) ≡ length (spread cycleWords ks)
   steps-same [] = refl

@@ -4,8 +4,9 @@ use mathlib.Core.Path.{_≡_}
 use mathlib.Core.Bool.{true, cond}
 use lib.Dec.{T}
 use Rattle.complex.specs.Cells.{Sheet}
-use Rattle.complex.specs.Decode.{Command}
-use Rattle.complex.specs.Answer.{Answer as Said, no, asked3}
+use Rattle.complex.specs.Decode.{Command, Order, edit, renumber}
+use Rattle.complex.specs.Renumber.{renumbered}
+use Rattle.complex.specs.Answer.{Answer as Said, no, ordered}
 use Rattle.store.specs.View.{sheetOf, Fits}
 use Rattle.store.specs.declared.Drawing.{Drawing}
 use Rattle.answer.specs.declared.Answer.{Answer}
@@ -22,14 +23,14 @@ lineOf n = record { number = n; first = 0; new = 0; removed = 0 }
 abbrev pub answerBy : Line → Drawing → Answer
 answerBy l d = record { number = l .number; first = l .first; new = l .new; removed = l .removed; drawing = d }
 
--- what a command answers on arrays; 1 where they are not sound
-abbrev pub replyOn : Arrays → Command → Said
-replyOn a c = cond (soundArrays a) (asked3 (sheetOf (heldBy a)) c) (no 1 (sheetOf (heldBy a)))
+-- what an order answers on arrays; 1 where they are not sound
+abbrev pub replyOn : Arrays → Order → Said
+replyOn a o = cond (soundArrays a) (ordered (sheetOf (heldBy a)) o) (no 1 (sheetOf (heldBy a)))
 
--- the line l and the arrays b answer the command c on the arrays a: what the definitions give; on a no nothing is changed;
+-- the line l and the arrays b answer the order o on the arrays a: what the definitions give; on a no nothing is changed;
 -- of sound arrays sound ones
-pub record Replied (a : Arrays) (c : Command) (b : Arrays) (l : Line) : Type 0 where
-  pub said : saidBy (answerBy l (heldBy b)) ≡ replyOn a c
+pub record Replied (a : Arrays) (o : Order) (b : Arrays) (l : Line) : Type 0 where
+  pub said : saidBy (answerBy l (heldBy b)) ≡ replyOn a o
   pub back : (l .number ≡ 0 → ⊥) → b ≡ a
   pub sound : T (soundArrays a) → T (soundArrays b)
 
@@ -44,6 +45,18 @@ pub record Obeyed (a : Arrays) (c : Command) (b : Arrays) (l : Line) : Type 0 wh
   pub answers : Answers (heldBy a) c (answerBy l (heldBy b))
   pub back : (l .number ≡ 0 → ⊥) → b ≡ a
   pub rows : normal b ≡ true
+
+-- the answer of a renumbering, on sound arrays
+pub record Renewed (a b : Arrays) (l : Line) : Type 0 where
+  pub line : l ≡ lineOf 0
+  pub sheet : sheetOf (heldBy b) ≡ renumbered (sheetOf (heldBy a))
+  pub fits : Fits (heldBy b)
+  pub rows : normal b ≡ true
+
+-- the answer of either sort of order, on sound arrays
+abbrev pub Carried : Arrays → Order → Arrays → Line → Type 0
+Carried a (edit c) b l = Obeyed a c b l
+Carried a renumber b l = Renewed a b l
 
 -- the arrays hold the sheet s
 pub record Holds (s : Sheet) (b : Arrays) : Type 0 where

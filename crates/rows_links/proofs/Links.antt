@@ -37,14 +37,6 @@ pub pair-as : (b c : Bool) → b ≡ c → (x y used : ℕ) (xs ys : List ℕ) (
 pair-as b c e x y used xs ys r xs′ ys′ p = subst (λ (k : Bool). Paired k x y used xs ys r xs′ ys′) (sym e) p
 
 -- ---- places
-pub row-le : (i : ℕ) (is : List ℕ) → rowOf i is ≤ length is
-row-le i [] = omega arith
-row-le i (j ∷ is) = go (eqb j i) (row-le i is)
-  where
-    go : (b : Bool) → rowOf i is ≤ length is → cond b 0 (suc (rowOf i is)) ≤ suc (length is)
-    go true h = omega arith
-    go false h = omega arith
-
 pub side-is : (s : ℕ) → s % 2 ≡ cond (eqb (s % 2) 1) 1 0
 side-is s = go (eqb (s % 2) 1) refl
   where

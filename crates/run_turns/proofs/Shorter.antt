@@ -16,7 +16,7 @@ use Rattle.complex.specs.Lists.{isEmpty}
 use Rattle.complex.specs.Cells.{Sheet, Figure, Cycle, lone, path}
 use Rattle.complex.specs.Sound.{sound}
 use Rattle.complex.specs.Decode as reads
-use Rattle.complex.specs.Decode.{Command, decode, unreadable}
+use Rattle.complex.specs.Decode.{Command, Order, decode, unreadable}
 use Rattle.complex.specs.Answer.{Answer, asked2, command, restRead, rest}
 use Rattle.complex.specs.Program.{Run, line, putLine, ended, ran}
 use Rattle.complex.proofs.Bools.{truth, true-of, false-not}
@@ -137,8 +137,8 @@ round-takes n s h =
     andthen _ n (readNumber s) (number-takes n s h) (λ f t l. andthen _ n (readBends t) (bends-takes n t l)
     (λ bs u k. andthen _ n (counted readNumber u) (moved-takes n u k) (λ ms v j. j)))
 
-abbrev Unread : Read Command → Type 0
-Unread (got c t) = ⊥
+abbrev Unread : Read Order → Type 0
+Unread (got o t) = ⊥
 Unread bad = Unit {0}
 
 pub ran-none : (n : ℕ) (s : Sheet) → ran n s [] ≡ ended s
@@ -146,11 +146,14 @@ ran-none zero s = refl
 ran-none (suc n) s = refl
 
 -- ---- a command
-abbrev AllTake : List (List ℕ → Read Command) → Type 0
+edits-take : (r : List ℕ → Read Command) → Takes r → Takes (reads.edits r)
+edits-take r f n s h = andthen _ n (r s) (f n s h) (λ c t l. l)
+
+abbrev AllTake : List (List ℕ → Read Order) → Type 0
 AllTake [] = Unit {0}
 AllTake (r ∷ rs) = (Takes r) × (AllTake rs)
 
-one-takes : (rs : List (List ℕ → Read Command)) → AllTake rs → (k : ℕ) → Takes (getD rs k unreadable)
+one-takes : (rs : List (List ℕ → Read Order)) → AllTake rs → (k : ℕ) → Takes (getD rs k unreadable)
 one-takes [] f k n s h = tt
 one-takes (r ∷ rs) f zero n s h = f .0 n s h
 one-takes (r ∷ rs) f (suc k) n s h = one-takes rs (f .1) k n s h
@@ -159,34 +162,37 @@ kinds-take : AllTake reads.kinds
 kinds-take = (
   λ n s h. tt,
   (
-    create-takes reads.readVertex vertex-takes,
+    edits-take (reads.readCreate reads.readVertex) (create-takes reads.readVertex vertex-takes),
     (
-      create-takes reads.readOpenEdge open-takes,
+      edits-take (reads.readCreate reads.readOpenEdge) (create-takes reads.readOpenEdge open-takes),
       (
-        create-takes reads.readClosedEdge closed-takes,
+        edits-take (reads.readCreate reads.readClosedEdge) (create-takes reads.readClosedEdge closed-takes),
         (
-          create-takes reads.readFace face-takes,
+          edits-take (reads.readCreate reads.readFace) (create-takes reads.readFace face-takes),
           (
-            place-takes reads.move,
+            edits-take (reads.readPlace reads.move) (place-takes reads.move),
             (
-              cell-takes reads.delete,
+              edits-take (reads.readCellOnly reads.delete) (cell-takes reads.delete),
               (
-                two-takes reads.glueVertices,
+                edits-take (reads.readTwo reads.glueVertices) (two-takes reads.glueVertices),
                 (
-                  edges-takes,
+                  edits-take reads.readGlueEdges edges-takes,
                   (
-                    cell-takes reads.unglue,
+                    edits-take (reads.readCellOnly reads.unglue) (cell-takes reads.unglue),
                     (
-                      two-takes reads.cutEdge,
+                      edits-take (reads.readTwo reads.cutEdge) (two-takes reads.cutEdge),
                       (
-                        place-takes reads.cutFaceVertex,
+                        edits-take (reads.readPlace reads.cutFaceVertex) (place-takes reads.cutFaceVertex),
                         (
-                          chord-takes,
+                          edits-take reads.readCutFaceOpen chord-takes,
                           (
-                            round-takes,
+                            edits-take reads.readCutFaceClosed round-takes,
                             (
-                              cell-takes reads.uncut,
-                              tt,
+                              edits-take (reads.readCellOnly reads.uncut) (cell-takes reads.uncut),
+                              (
+                                λ n s h. h,
+                                tt,
+                              ),
                             ),
                           ),
                         ),
@@ -204,10 +210,10 @@ kinds-take = (
 )
 
 -- a command that is read takes a byte at least
-decode-shorter : (b : List ℕ) (c : Command) (t : List ℕ) → decode b ≡ got c t → length t < length b
+decode-shorter : (b : List ℕ) (o : Order) (t : List ℕ) → decode b ≡ got o t → length t < length b
 unfolding decode
-decode-shorter [] c t e = absurd (subst (λ (r : Read Command). Unread r) e tt)
-decode-shorter (k ∷ s) c t e = let h : length t ≤ length s = subst (Within (length s)) e (one-takes reads.kinds kinds-take k (length s) s (omega arith)) in
+decode-shorter [] o t e = absurd (subst (λ (r : Read Order). Unread r) e tt)
+decode-shorter (k ∷ s) o t e = let h : length t ≤ length s = subst (Within (length s)) e (one-takes reads.kinds kinds-take k (length s) s (omega arith)) in
     omega arith
 
 -- ---- a run
@@ -215,9 +221,9 @@ rest-shorter : (s : Sheet) (b : List ℕ) → T (sound s) → eqb (command s b .
 unfolding command rest
 rest-shorter s b w f = go (decode b) refl
   where
-    go : (q : Read Command) → decode b ≡ q → length (rest s b) < length b
+    go : (q : Read Order) → decode b ≡ q → length (rest s b) < length b
     go bad e = let z : eqb (command s b .number) 2 ≡ true = rw (true-of (sound s) w, e) in absurd (false-not f (truth z))
-    go (got c t) e = rw (true-of (sound s) w, e) (decode-shorter b c t e)
+    go (got o t) e = rw (true-of (sound s) w, e) (decode-shorter b o t e)
 
 ran-empty : (n : ℕ) (s : Sheet) (b : List ℕ) → length b ≤ 0 → ran n s b ≡ ended s
 ran-empty n s [] h = ran-none n s

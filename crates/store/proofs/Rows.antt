@@ -25,6 +25,14 @@ row-none x [] f = refl
 row-none x (y ∷ l) f =
     ap₂ (λ (b : Bool) (r : ℕ). cond b 0 (suc r)) (ne-eqb y x (f 0 (omega arith))) (row-none x l (λ k u. f (suc k) (omega arith)))
 
+pub row-le : (i : ℕ) (is : List ℕ) → rowOf i is ≤ length is
+row-le i [] = omega arith
+row-le i (j ∷ is) = go (eqb j i) (row-le i is)
+  where
+    go : (b : Bool) → rowOf i is ≤ length is → cond b 0 (suc (rowOf i is)) ≤ suc (length is)
+    go true h = omega arith
+    go false h = omega arith
+
 pub rising-le : (l : List ℕ) → Rising l → (i j : ℕ) → i ≤ j → j < length l → getD l i 0 ≤ getD l j 0
 rising-le l r i j h k = go (decLt i j)
   where

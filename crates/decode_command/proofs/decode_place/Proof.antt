@@ -5,6 +5,7 @@ use borrow.Author.Needs.{needs}
 use Rattle.number.specs.Said.{done}
 use Rattle.number.specs.Numbers.{readNumber}
 use Rattle.coordinate.specs.Positions.{readPosition}
+use Rattle.complex.specs.Decode as bytes
 use Rattle.decode_parts.specs.Lists.{Found}
 use Rattle.decode_fields.specs.Fields.{readPair}
 use Rattle.decode_parts.proofs.Fields.{number-heard, position-heard}
@@ -34,8 +35,9 @@ returns-2 c =
 
 -- the command of a kind that is known
 known : (c : tie.After-known-told2) {a b : Bool} → a ≡ b
-    → let n = c .before .before .before .before .before .cell .given .0 .0 in let p = c .before .p .given .0 .0 in placeKind b n p ≡ placeKind a n p
-known c e = ap (λ (k : Bool). placeKind k (c .before .before .before .before .before .cell .given .0 .0) (c .before .p .given .0 .0)) (sym e)
+    → let n = c .before .before .before .before .before .cell .given .0 .0 in let p = c .before .p .given .0 .0 in
+    bytes.edit (placeKind b n p) ≡ bytes.edit (placeKind a n p)
+known c e = ap (λ (k : Bool). bytes.edit (placeKind k (c .before .before .before .before .before .cell .given .0 .0) (c .before .p .given .0 .0))) (sym e)
 
 returns-3 : tie.Need-returns-3
 returns-3 c = of-place _ (whole _ (both (c .before)) _ (known (c .before) (c .if1 .taken)) tt)

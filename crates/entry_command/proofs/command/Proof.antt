@@ -4,7 +4,7 @@ use lib.Dec.{T}
 use Rattle.decode.proofs.Laws.{begins, unread}
 use Rattle.lent.specs.Arrays.{Arrays, soundArrays, lent}
 use Rattle.call_asked.proofs.Questions.{asked-sums, asked-no}
-use Rattle.entry_command.proofs.Commanding.{commanded-unsound, commanded-unread, commanded-obeyed}
+use Rattle.entry_command.proofs.Commanding.{commanded-unsound, commanded-unread, commanded-carried}
 use Rattle.entry_command.proofs.command.Statement.{statement}
 use Rattle.entry_command.proofs.command.Tie as tie
 
@@ -79,7 +79,7 @@ returns-3 c =
     let s = start (t .before .before) in
     let bytes = s .args .script .now in
     let b = begins (d .decode .ensures .0) (d .decode .ensures .1) (k .c .given .1) in
-    commanded-obeyed (arrays s) bytes (c .obey .result) (sound-at t) _ _ _ (b .read) (c .obey .ensures)
+    commanded-carried (arrays s) bytes (c .obey .result) (sound-at t) _ _ _ (b .read) (c .obey .ensures)
 
 pub command-spec : {M : Type 1} → statement M
 command-spec =

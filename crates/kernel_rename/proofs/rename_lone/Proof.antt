@@ -2,17 +2,18 @@
 use borrow.Author.Needs.{needs}
 use Prim.Native.Nat.{_+_, _-_, _<_, _≤_}
 use native.Mathlib.Omega.{arith}
-use mathlib.Core.Path.{_≡_, ap, _∙_}
+use mathlib.Core.Path.{_≡_, refl, ap, _∙_}
 use mathlib.Core.Logic.{⊎-elim}
 use lib.ListN.{length, getD}
 use Rattle.complex.specs.Glue.{renamed}
 use Rattle.store.specs.Edits.{placesOf}
+use Rattle.rows_steps.specs.Renaming.{renamePlace}
 use Rattle.kernel_rename.proofs.Lone.{Walking, walking-start, walk-room, walk-steps, walk-lone, walked}
 use Rattle.kernel_rename.proofs.rename_lone.Statement.{statement}
 use Rattle.kernel_rename.proofs.rename_lone.Tie as tie
 
 abbrev Inv-loop : tie.InvT-loop
-Inv-loop cycles n steps₀ a b at₀ i₀ steps at i = (i ≤ n) × Walking (renamed a b) cycles steps₀ i at steps
+Inv-loop cycles n steps₀ a b at₀ i₀ steps at i = (i ≤ n) × Walking (renamePlace (renamed a b)) cycles steps₀ i at steps
 
 abbrev μ-loop : tie.MeasureT-loop
 μ-loop cycles n steps₀ a b at₀ i₀ steps at i = n - i
@@ -28,7 +29,7 @@ lone : (t : tie.In-loop Inv-loop μ-loop) → getD (t .before .before .args .cyc
 lone t z = let e = ap (placesOf 1) z in omega (arith, room t)
 
 loop-holds : tie.Need-loop-holds Inv-loop μ-loop
-loop-holds c = let a = c .args in (omega arith, walking-start (renamed (a .a) (a .b)) (a .cycles .now) (a .steps .now))
+loop-holds c = let a = c .args in (omega arith, walking-start (renamePlace (renamed (a .a) (a .b))) (a .cycles .now) (a .steps .now))
 
 mul-rename : tie.Need-mul-rename Inv-loop μ-loop
 mul-rename c = omega (arith, lone (c .before .before) (c .if1 .taken))
@@ -55,7 +56,8 @@ loop-again c =
     omega (arith, room t, s .pre .1 .1 .1) in (
       omega arith,
       rw (c .places .ensures)
-          (⊎-elim (λ x. rw (x .3) (walk-lone w h g (x .0 .taken) _ (x .2 .ensures))) (λ x. rw (x .1) (walk-steps w h g (x .0 .left))) (c .before .if1 .came)),
+          (⊎-elim (λ x. rw (x .3) (walk-lone w h g (x .0 .taken) _ (x .2 .ensures)))
+          (λ x. rw (x .1) (walk-steps w h g (λ v. refl) (x .0 .left))) (c .before .if1 .came)),
     )
 
 returns : tie.Need-returns Inv-loop μ-loop

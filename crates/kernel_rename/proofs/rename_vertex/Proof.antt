@@ -1,7 +1,10 @@
 -- `rename_vertex` meets its contract. Assumes nothing.
 use borrow.Author.Needs.{needs}
+use Rattle.complex.specs.Lists.{one}
 use Rattle.complex.specs.Glue.{renamed}
-use Rattle.kernel_rename.proofs.Lent.{lone-cycles, lone-steps, renamed-in}
+use Rattle.rows_steps.specs.Renaming.{renamePlace}
+use Rattle.rows_steps.proofs.Renamed.{lone-rewrites}
+use Rattle.kernel_rename.proofs.Lent.{lone-cycles, lone-steps, rewired-in}
 use Rattle.kernel_rename.proofs.rename_vertex.Statement.{statement}
 use Rattle.kernel_rename.proofs.rename_vertex.Tie as tie
 
@@ -19,7 +22,9 @@ returns c =
     let s = c .before .before .before .before .before in
     let r = c .before .before .rename-ends .ensures in
     let w = c .rename-lone .ensures in
-    renamed-in (renamed (s .args .a) (s .args .b)) _ (s .pre .1 .0) (s .pre .0) (s .pre .1 .1 .0) _ _ _ (r .0) (r .1) (w .1) (rw (s .pre .1 .1 .1) at (w .0))
+    let ρ = renamed (s .args .a) (s .args .b) in
+    rewired-in ρ one (renamePlace ρ) (lone-rewrites ρ) _ (s .pre .1 .0) (s .pre .0) (s .pre .1 .1 .0) _ _ _ (r .0) (r .1) (w .1)
+    (rw (s .pre .1 .1 .1) at (w .0))
 
 pub rename-vertex-spec : {M : Type 1} → statement M
 rename-vertex-spec = tie.close (tie.spec rename-ends-requires rename-lone-requires returns)

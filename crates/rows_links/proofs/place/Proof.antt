@@ -4,7 +4,7 @@ use Prim.Native.Nat.{_≤_}
 use native.Mathlib.Omega.{arith}
 use lib.ListN.{take}
 use lib.Seq.{length-take-le}
-use Rattle.rows_links.proofs.Links.{row-le}
+use Rattle.store.proofs.Rows.{row-le}
 use Rattle.rows_links.proofs.place.Statement.{statement}
 use Rattle.rows_links.proofs.place.Tie as tie
 
