@@ -226,6 +226,7 @@ static void put_command(script *c, const dz_sheet *s)
 {
     uint32_t kind = s->count > 220 && below(3) == 0 ? 6 : 1 + below(14);
     if (kind == 6 && s->count < 100 && below(4) != 0) kind = 1;
+    if (below(40) == 0) kind = 15;
     put_byte(c, below(100) == 0 ? below(256) : kind);
     switch (kind) {
     case 1: put_position(c); break;
@@ -246,7 +247,8 @@ static void put_command(script *c, const dz_sheet *s)
         put_number(c, 0);
         break;
     case 13: put_number(c, some(s, 3)); put_bends(c); put_number(c, 0); break;
-    default: put_number(c, some(s, below(3)));
+    case 14: put_number(c, some(s, below(3))); break;
+    default: break;
     }
 }
 

@@ -111,7 +111,8 @@ static inline uint32_t dz_sheet_open(dz_sheet *sheet, const uint8_t *file, size_
 }
 
 /* Runs the command that the script begins with: the first new id (0 if there is none), the count of new ids, the count of
-   removed ids. Asks 1 to 8. */
+   removed ids. Asks 1 to 8. A renumbering (0F) asks 1 and 2 and gives three times 0; after it the cells have the ids 1 to
+   count, and ids from before mean nothing. */
 static inline uint32_t dz_sheet_command(dz_sheet *sheet, const uint8_t *script, size_t script_length,
                                         uint32_t *first, uint32_t *fresh, uint32_t *removed)
 {

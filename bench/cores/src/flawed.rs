@@ -1,6 +1,9 @@
-//! Cores with the flaws that document 01 hands in to try a check ("How the archive will try it").
+//! Cores with the flaws that document 01 hands in to try a check ("How the archive will try it"), and with flaws of a
+//! renumbering.
 
 use std::time::Duration;
+
+use plain::{Cycle, Drawing};
 
 use crate::{Call, Core, Line, Ordinary};
 
@@ -20,9 +23,23 @@ pub enum Flaw {
     InventedRemoved,
     /// Ceiling reached with places free.
     FullTooEarly,
+    /// A renumbering leaves the next id as it was.
+    OldNextId,
+    /// A renumbering gives the ids from 0 on.
+    IdsFromNought,
+    /// A renumbering leaves lone vertices as they were.
+    OldLoneVertices,
+    /// A renumbering turns every step forward.
+    LostDirections,
+    /// A renumbering counts the ids that it changed as removed.
+    RenamedIsRemoved,
+    /// A renumbering takes a byte more than its own.
+    TakesAField,
+    /// A renumbering changes nothing.
+    NothingRenumbered,
 }
 
-pub const FLAWS: [Flaw; 7] = [
+pub const FLAWS: [Flaw; 14] = [
     Flaw::AlwaysSix,
     Flaw::KeepsAndSaysDone,
     Flaw::OnlyTheFirst,
@@ -30,6 +47,13 @@ pub const FLAWS: [Flaw; 7] = [
     Flaw::InventedNew,
     Flaw::InventedRemoved,
     Flaw::FullTooEarly,
+    Flaw::OldNextId,
+    Flaw::IdsFromNought,
+    Flaw::OldLoneVertices,
+    Flaw::LostDirections,
+    Flaw::RenamedIsRemoved,
+    Flaw::TakesAField,
+    Flaw::NothingRenumbered,
 ];
 
 pub struct Flawed {
@@ -43,7 +67,7 @@ impl Flawed {
         Flawed { core: Ordinary::new(), flaw, runs: 0 }
     }
 
-    fn falsified(&mut self, right: Line, before: plain::Drawing) -> Line {
+    fn falsified(&mut self, right: Line, before: Drawing) -> Line {
         let cells = before.cells.len();
         let mut line = right;
         match self.flaw {
@@ -70,6 +94,39 @@ impl Flawed {
         self.runs += 1;
         line
     }
+
+    /// The same of a renumbering that is done.
+    fn renumbered(&mut self, right: Line, before: Drawing) -> Line {
+        let mut line = right;
+        let drawing = &mut self.core.drawing;
+        match self.flaw {
+            Flaw::OldNextId => drawing.next = before.next,
+            Flaw::IdsFromNought => {
+                drawing.rename(|id| id - 1);
+                drawing.next -= 1;
+            }
+            Flaw::OldLoneVertices => {
+                for cycle in drawing.cycles_mut() {
+                    let Cycle::Lone(vertex) = cycle else { continue };
+                    *vertex = before.cells[*vertex as usize - 1].id;
+                }
+            }
+            Flaw::LostDirections => {
+                for cycle in drawing.cycles_mut() {
+                    let Cycle::Path(path) = cycle else { continue };
+                    path.iter_mut().for_each(|step| step.backward = false);
+                }
+            }
+            Flaw::RenamedIsRemoved => {
+                let pairs = before.cells.iter().zip(&drawing.cells);
+                line.removed = pairs.filter(|(old, new)| old.id != new.id).count() as u32;
+            }
+            Flaw::TakesAField => line.rest = right.rest.saturating_sub(1),
+            Flaw::NothingRenumbered => *drawing = before,
+            _ => return self.falsified(right, before),
+        }
+        line
+    }
 }
 
 impl Core for Flawed {
@@ -86,9 +143,10 @@ impl Core for Flawed {
         while !left.is_empty() {
             let before = self.core.drawing.clone();
             let right = self.core.step(left);
-            let line = self.falsified(right, before);
+            let renumbers = right.number == 0 && left[0] == 0x0F;
+            let line = if renumbers { self.renumbered(right, before) } else { self.falsified(right, before) };
             lines.push(line);
-            if line.number == 2 {
+            if line.number == 1 || line.number == 2 {
                 break;
             }
             left = &left[left.len() - line.rest..];

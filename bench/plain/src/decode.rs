@@ -4,7 +4,7 @@ use crate::bytes::Cursor;
 use crate::drawing::{Cycle, Position};
 use crate::sound::{all_in_bounds, in_bounds};
 
-/// The fourteen kinds of command with their fields.
+/// The fifteen kinds of command with their fields.
 #[derive(Clone, PartialEq, Debug)]
 pub enum Command {
     Vertex { at: Position },
@@ -21,6 +21,7 @@ pub enum Command {
     CutFaceAlongOpen { face: u32, from: Corner, to: Corner, bends: Vec<Position>, moved: Vec<u32> },
     CutFaceAlongClosed { face: u32, bends: Vec<Position>, moved: Vec<u32> },
     Uncut { cell: u32 },
+    Renumber,
 }
 
 /// Where a step begins: cycle and step, counted from 0.
@@ -60,6 +61,7 @@ fn fields(kind: u8, c: &mut Cursor) -> Option<Command> {
         },
         0x0D => Command::CutFaceAlongClosed { face: c.number()?, bends: c.bends()?, moved: c.numbers()? },
         0x0E => Command::Uncut { cell: c.number()? },
+        0x0F => Command::Renumber,
         _ => return None,
     })
 }

@@ -71,6 +71,14 @@ impl Cycle {
             Cycle::Path(path) => path,
         }
     }
+
+    /// Names the cells by other ids.
+    fn rename(&mut self, new: impl Fn(u32) -> u32) {
+        match self {
+            Cycle::Lone(vertex) => *vertex = new(*vertex),
+            Cycle::Path(path) => path.iter_mut().for_each(|step| step.edge = new(step.edge)),
+        }
+    }
 }
 
 /// What a cell is.
@@ -124,6 +132,18 @@ impl Drawing {
             Some(&Shape::Open { start, end, .. }) if step.backward => Some((end, start)),
             Some(&Shape::Open { start, end, .. }) => Some((start, end)),
             _ => None,
+        }
+    }
+
+    /// Gives every cell another id, here and wherever it is named. The next id stays.
+    pub fn rename(&mut self, new: impl Fn(u32) -> u32) {
+        for cell in &mut self.cells {
+            cell.id = new(cell.id);
+            match &mut cell.shape {
+                Shape::Vertex(_) | Shape::Closed { .. } => {}
+                Shape::Open { start, end, .. } => (*start, *end) = (new(*start), new(*end)),
+                Shape::Face { cycles } => cycles.iter_mut().for_each(|cycle| cycle.rename(&new)),
+            }
         }
     }
 

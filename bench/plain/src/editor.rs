@@ -45,6 +45,7 @@ impl<'a> Editor<'a> {
             }
             Command::CutFaceAlongClosed { face, bends, moved } => self.cut_face_along_closed(face, bends, &moved),
             Command::Uncut { cell } => self.uncut(cell),
+            Command::Renumber => self.renumber(),
         }
     }
 

@@ -1,4 +1,4 @@
-//! The boundary complex of document 01 in ordinary Rust.
+//! The boundary complex of document 01, with note 1 of document 02, in ordinary Rust.
 //!
 //! A drawing is a sorted vector of cells. [`edit`] runs one command in place, [`command`] on a copy; both ask
 //! questions 1 to 8 in their order, and a refused command leaves the drawing as it was. [`star`], [`euler`],
@@ -15,6 +15,7 @@ mod file;
 mod glue;
 mod query;
 mod remove;
+mod renumber;
 mod sound;
 mod uncut;
 mod unglue;

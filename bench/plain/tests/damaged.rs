@@ -23,10 +23,12 @@ fn with_face(cycles: Vec<Cycle>) -> Drawing {
 fn refused(drawing: Drawing) {
     let before = format!("{drawing:?}");
     assert_eq!(sound(&drawing), None, "{before}");
-    let answer = command(&drawing, &[6, 1, 6, 1]);
-    assert_eq!((answer.number, answer.first, answer.new, answer.removed), (1, 0, 0, 0));
-    assert_eq!(answer.drawing, drawing);
-    assert_eq!(rest(&drawing, &[6, 1, 6, 1]), [6, 1, 6, 1]);
+    for bytes in [&[6, 1, 6, 1][..], &[0x0F]] {
+        let answer = command(&drawing, bytes);
+        assert_eq!((answer.number, answer.first, answer.new, answer.removed), (1, 0, 0, 0));
+        assert_eq!(answer.drawing, drawing);
+        assert_eq!(rest(&drawing, bytes), bytes);
+    }
     assert_eq!(star(&drawing, 1, &mut [0; 4]), (1, 0));
     assert_eq!(euler(&drawing), (1, 0));
     assert_eq!(write(&drawing, &mut [0; 4]), (1, 0));

@@ -1,4 +1,4 @@
-//! The sheets of document 01, and rules that are easily read wrong.
+//! The sheets of document 01, renumbering, and rules that are easily read wrong.
 
 use plain::*;
 
@@ -40,7 +40,7 @@ fn numbers_are_spelled_shortest() {
     assert_eq!(spelled(127), [0x7F]);
     assert_eq!(spelled(128), [0x80, 0x01]);
     assert_eq!(spelled(2_097_151), [0xFF, 0xFF, 0x7F]);
-    for bad in [&[0x06, 0x80, 0x00][..], &[0x06, 0xFF, 0xFF, 0xFF, 0x01], &[0x06, 0x80], &[0x06], &[0x0F], &[]] {
+    for bad in [&[0x06, 0x80, 0x00][..], &[0x06, 0xFF, 0xFF, 0xFF, 0x01], &[0x06, 0x80], &[0x06], &[0x10], &[]] {
         assert_eq!(command(&Drawing::empty(), bad).number, 2);
         assert_eq!(rest(&Drawing::empty(), bad), bad);
     }
@@ -143,4 +143,66 @@ fn lists_above_the_ceilings_get_eight() {
     let face = [&[4, 0x81, 0x04][..], &[0, 1].repeat(513)].concat();
     assert_eq!(command(&drawing, &face).number, 8);
     assert_eq!(rest(&drawing, &face), []);
+}
+
+/// The first new id of a command that is done.
+fn first(drawing: &Drawing, bytes: &[u8]) -> u32 {
+    let answer = command(drawing, bytes);
+    assert_eq!(answer.number, 0);
+    answer.first
+}
+
+#[test]
+fn renumbering_renames_ends_steps_and_lone_vertices() {
+    // Vertices 1, 2, 4 (3 is deleted), edges 5 from 4 to 2 and 6, a loop at 4, closed 7, and face 9 (8 is deleted): lone vertex 4
+    // twice, 5 there and back, the loop backward, 7 twice round.
+    let vertices: Vec<u8> = (0..4).flat_map(|_| vertex()).collect();
+    let edges = script(&[&[6, 3], &[2, 4, 2, 0], &[2, 4, 4, 0], &[3, 1], &ORIGIN, &[4, 0], &[6, 8]]);
+    let face = [4, 5, 0, 4, 0, 4, 2, 10, 11, 1, 13, 2, 14, 14];
+    let (before, numbers) = after(&[&vertices, &edges, &face]);
+    assert!(numbers.iter().all(|&number| number == 0));
+    assert_eq!((before.next, before.cells.len()), (10, 7));
+    let answer = command(&before, &[0x0F, 0x0F]);
+    assert_eq!((answer.number, answer.first, answer.new, answer.removed), (0, 0, 0, 0));
+    assert_eq!(rest(&before, &[0x0F, 0x0F]), [0x0F]);
+    let drawing = answer.drawing;
+    let ids: Vec<u32> = drawing.cells.iter().map(|cell| cell.id).collect();
+    assert_eq!((drawing.next, ids), (8, (1..=7).collect()));
+    assert_eq!(drawing.shape(4), Some(&Shape::Open { start: 3, end: 2, bends: vec![] }));
+    assert_eq!(drawing.shape(5), Some(&Shape::Open { start: 3, end: 3, bends: vec![] }));
+    let there = path(&[(4, false), (4, true)]);
+    let ring = path(&[(6, false), (6, false)]);
+    assert_eq!(cycles(&drawing, 7), [Cycle::Lone(3), Cycle::Lone(3), there, path(&[(5, true)]), ring]);
+    assert_eq!(euler(&drawing), euler(&before));
+    let mut buffer = [0; 4];
+    assert_eq!((star(&drawing, 3, &mut buffer), buffer), ((0, 3), [4, 5, 7, 0]));
+    // The second time nothing changes; the next new id is 8.
+    assert_eq!(command(&drawing, &[0x0F]).drawing, drawing);
+    assert_eq!(first(&drawing, &vertex()), 8);
+}
+
+#[test]
+fn renumbering_an_empty_drawing() {
+    for next in [1, 500, END_OF_IDS] {
+        let answer = command(&Drawing { next, cells: vec![] }, &[0x0F]);
+        assert_eq!((answer.number, answer.first, answer.new, answer.removed), (0, 0, 0, 0));
+        assert_eq!(answer.drawing, Drawing::empty());
+    }
+}
+
+#[test]
+fn renumbering_gives_ids_again() {
+    let cells = (65_280..65_536).map(|id| Cell { id, shape: Shape::Vertex(Position { x: 0.0, y: 0.0 }) }).collect();
+    let mut drawing = Drawing { next: END_OF_IDS, cells };
+    assert_eq!(command(&drawing, &vertex()).number, 7);
+    assert_eq!(edit(&mut drawing, &[0x0F]).number, 0);
+    assert_eq!((drawing.next, drawing.cells[0].id, drawing.cells[255].id), (257, 1, 256));
+    assert_eq!(command(&drawing, &vertex()).number, 8);
+    // Old ids mean nothing now; 7 is another cell.
+    assert_eq!(command(&drawing, &[6, 0xFF, 0xFF, 0x03]).number, 4);
+    assert_eq!(edit(&mut drawing, &[6, 7]).removed, 1);
+    assert_eq!(first(&drawing, &vertex()), 257);
+    // The next id falls even where the ids are 1 to n.
+    let (drawing, _) = after(&[&vertex(), &vertex(), &[6, 2], &[0x0F]]);
+    assert_eq!((drawing.next, drawing.cells.len()), (2, 1));
 }

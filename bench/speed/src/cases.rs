@@ -53,13 +53,14 @@ pub enum Row {
     CutFaceAlongClosed,
     UncutVertex,
     UncutEdge,
+    Renumber,
     Star,
     Euler,
     Write,
     Read,
 }
 
-pub const ROWS: [(Row, &str); 20] = [
+pub const ROWS: [(Row, &str); 21] = [
     (Row::Vertex, "01 vertex"),
     (Row::OpenEdge, "02 open edge"),
     (Row::ClosedEdge, "03 closed edge"),
@@ -76,6 +77,7 @@ pub const ROWS: [(Row, &str); 20] = [
     (Row::CutFaceAlongClosed, "0D cut face, closed edge"),
     (Row::UncutVertex, "0E uncut a vertex"),
     (Row::UncutEdge, "0E uncut an edge"),
+    (Row::Renumber, "0F renumber"),
     (Row::Star, "star"),
     (Row::Euler, "Euler"),
     (Row::Write, "write"),
@@ -158,6 +160,10 @@ fn command(row: Row, sheet: &mut Sheet) -> Vec<u8> {
             prepare(sheet, &cut_across(sheet));
             bytes(0x0E, &[edge])
         }
+        Row::Renumber => {
+            raise(&mut sheet.drawing);
+            bytes(0x0F, &[])
+        }
         _ => cut_across(sheet),
     }
 }
@@ -165,6 +171,13 @@ fn command(row: Row, sheet: &mut Sheet) -> Vec<u8> {
 fn prepare(sheet: &mut Sheet, bytes: &[u8]) {
     let number = plain::edit(&mut sheet.drawing, bytes).number;
     assert_eq!(number, 0, "the preparation was refused");
+}
+
+/// Ids near the end with gaps between them.
+fn raise(drawing: &mut Drawing) {
+    let raised = |id| 60_000 + 20 * id;
+    drawing.rename(raised);
+    drawing.next = raised(drawing.next);
 }
 
 /// The face is taken out, and the command makes it again.

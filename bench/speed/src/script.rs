@@ -54,7 +54,7 @@ impl Writer {
         self.add(out)
     }
 
-    /// A square with a face, edited by every kind, and deletes where it gets crowded.
+    /// A square with a face, edited by every kind, deletes where it gets crowded, and a renumbering.
     fn round(&mut self) {
         let v: Vec<u32> = (0..4).map(|i| self.placed(0x01, &[], f64::from(i), 0.5)).collect();
         let e: Vec<u32> = (0..4).map(|i| self.bent(0x02, &[v[i], v[(i + 1) % 4]], &[])).collect();
@@ -78,6 +78,7 @@ impl Writer {
             let oldest = self.drawing.cells[0].id;
             self.numbers(0x06, &[oldest]);
         }
+        self.numbers(0x0F, &[]);
     }
 
     /// A loop that two faces share comes apart.

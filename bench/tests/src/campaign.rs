@@ -5,7 +5,7 @@ use cores::{Core, Line, Ordinary, LONGEST_FILE};
 use plain::file_of;
 
 use crate::files;
-use crate::generator::{Generator, THEMES};
+use crate::generator::{Generator, RENEWALS, THEMES};
 use crate::histogram::Histogram;
 use crate::laws;
 use crate::random::Random;
@@ -44,14 +44,16 @@ impl<'a> Campaign<'a> {
         let mut episode = 0;
         while self.histogram.total() < commands && self.failures.len() < ENOUGH {
             let scripts = self.random.between(10, 120);
-            self.episode(Generator::new(THEMES[episode % THEMES.len()]), scripts, commands);
+            let renewal = RENEWALS[self.random.below(RENEWALS.len())];
+            self.episode(Generator::new(THEMES[episode % THEMES.len()], renewal), scripts, commands);
             episode += 1;
         }
     }
 
-    /// Starts empty, grows, and ends with few ids left.
+    /// Starts without cells, mostly at next id 1, grows, and ends with few ids left.
     fn episode(&mut self, mut generator: Generator, scripts: usize, commands: u64) {
-        self.open(&[0x01, 0x00]);
+        let start = if self.random.one_in(6) { files::bare(&mut self.random) } else { vec![0x01, 0x00] };
+        self.open(&start);
         for script in 0..scripts + 4 {
             if script == scripts {
                 let file = files::near_the_end(&mut self.random, &self.model.drawing);

@@ -1,14 +1,37 @@
 //! Files of sound drawings with other next ids, and damaged ones.
 
+use std::collections::BTreeSet;
+
 use plain::{file_of, put_number, Cycle, Drawing, Halfedge, Position, Shape, BOUND, END_OF_IDS};
 
 use crate::random::Random;
 
-/// The file with its next id so near the end that the ids soon run out.
+/// The file with its next id so near the end that the ids soon run out; in half of the cases ids of cells are high too.
 pub fn near_the_end(random: &mut Random, drawing: &Drawing) -> Vec<u8> {
     let far = [0, 1, 2, 5, 20, 60][random.below(6)] as u32;
+    let drawing = if random.chance(50) { spread(random, drawing) } else { drawing.clone() };
     let next = (END_OF_IDS - far).max(drawing.next);
-    file_of(&Drawing { next, ..drawing.clone() })
+    file_of(&Drawing { next, ..drawing })
+}
+
+/// The drawing with other ids, rising with gaps: from 1 or from near the end on.
+fn spread(random: &mut Random, drawing: &Drawing) -> Drawing {
+    let least = [1, 65_000][random.below(2)];
+    let mut ids = BTreeSet::new();
+    while ids.len() < drawing.cells.len() {
+        ids.insert(random.between(least, END_OF_IDS as usize - 1) as u32);
+    }
+    let ids: Vec<u32> = ids.into_iter().collect();
+    let mut other = drawing.clone();
+    other.rename(|id| drawing.row(id).map_or(0, |row| ids[row]));
+    other.next = ids.last().map_or(1, |last| last + 1);
+    other
+}
+
+/// The file of a drawing without cells whose next id is not 1.
+pub fn bare(random: &mut Random) -> Vec<u8> {
+    let next = [2, 127, 128, 500, END_OF_IDS - 1, END_OF_IDS][random.below(6)];
+    file_of(&Drawing { next, cells: vec![] })
 }
 
 /// A file that is most often no sound drawing's.

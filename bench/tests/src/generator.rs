@@ -1,4 +1,4 @@
-//! Chooses the next command for a drawing: its kind by theme and phase, its faults by chance.
+//! Chooses the next command for a drawing: its kind by theme and phase, its faults by chance. Renumberings come in between.
 
 use plain::{Drawing, Sizes, CEILINGS};
 
@@ -19,7 +19,13 @@ pub enum Theme {
 
 pub const THEMES: [Theme; 5] = [Theme::Mixed, Theme::Cells, Theme::Cycles, Theme::Steps, Theme::Bends];
 
-/// Weights of the kinds 01 to 0E.
+/// One command of so many is a renumbering: in some episodes ids stay low, in others they rise.
+pub const RENEWALS: [usize; 3] = [15, 60, 600];
+
+/// So many commands after a renumbering some are still written for the drawing before it.
+const MEMORY: usize = 6;
+
+/// Weights of the kinds 01 to 0E; 0F has a chance of its own.
 type Weights = [usize; 14];
 
 /// Creation and cuts prevail.
@@ -43,11 +49,18 @@ pub struct Generator {
     left: usize,
     /// How full the drawing is to become before growth ends, in a hundred.
     goal: i64,
+    /// One of so many commands is a renumbering.
+    renewal: usize,
+    /// The drawing before the last renumbering.
+    before: Drawing,
+    /// How many commands were written since it.
+    since: usize,
 }
 
 impl Generator {
-    pub fn new(theme: Theme) -> Generator {
-        Generator { theme, phase: Phase::Growing, left: 0, goal: 40 }
+    pub fn new(theme: Theme, renewal: usize) -> Generator {
+        let before = Drawing::empty();
+        Generator { theme, phase: Phase::Growing, left: 0, goal: 40, renewal, before, since: MEMORY }
     }
 
     /// The bytes of the next command.
@@ -55,6 +68,26 @@ impl Generator {
         let sizes = plain::sound(drawing).unwrap_or_default();
         self.turn(random, sizes);
         let faults = Faults::draw(random, 78);
+        if self.renews(random, drawing) {
+            (self.before, self.since) = (drawing.clone(), 0);
+            let mut pen = Pen::new(random, faults, drawing);
+            pen.kind(0x0F);
+            return pen.finish();
+        }
+        let style = self.style(random, sizes);
+        self.since += 1;
+        let old = self.since <= MEMORY && random.one_in(3);
+        self.other(random, faults, style, if old { &self.before } else { drawing })
+    }
+
+    /// Whether a renumbering is next: now and then, often where one was just now or where there is no cell.
+    fn renews(&self, random: &mut Random, drawing: &Drawing) -> bool {
+        let often = self.since == 0 || drawing.cells.is_empty();
+        random.one_in(if often { 4 } else { self.renewal })
+    }
+
+    /// A command of the kinds 01 to 0E for the cells of a drawing.
+    fn other(&self, random: &mut Random, faults: Faults, style: Style, drawing: &Drawing) -> Vec<u8> {
         if random.one_in(400) {
             let mut pen = Pen::new(random, faults, drawing);
             if kinds::giant(&mut pen, drawing).is_some() {
@@ -62,7 +95,6 @@ impl Generator {
             }
         }
         let weights = self.weights();
-        let style = self.style(random, sizes);
         for _ in 0..6 {
             let kind = 1 + random.weighted(&weights) as u8;
             let mut pen = Pen::new(random, faults, drawing);

@@ -97,7 +97,16 @@ fn label(before: &Drawing, bytes: &[u8], line: Line) -> &'static str {
             (0, 1) => of(cell, "0E uncut, lone vertex", "0E uncut, open, one cycle", "0E ?", "0E ?"),
             _ => "0E ?",
         },
+        Command::Renumber if before.cells.is_empty() => "0F renumber, no cell",
+        Command::Renumber if numbered(before) => "0F renumber, again",
+        Command::Renumber => "0F renumber",
     }
+}
+
+/// Whether a renumbering has nothing to change.
+fn numbered(drawing: &Drawing) -> bool {
+    let ids = drawing.cells.iter().map(|cell| cell.id);
+    ids.eq(1..drawing.next)
 }
 
 impl fmt::Display for Histogram {

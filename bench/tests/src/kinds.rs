@@ -44,7 +44,8 @@ pub fn write(kind: u8, pen: &mut Pen, drawing: &Drawing, style: Style) -> Option
             pen.position();
         }
         0x0C => cut_along_open(pen, drawing, style)?,
-        _ => cut_along_closed(pen, drawing, style)?,
+        0x0D => cut_along_closed(pen, drawing, style)?,
+        _ => {}
     }
     Some(())
 }

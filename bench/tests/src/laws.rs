@@ -1,10 +1,11 @@
-//! What document 01 says of every answer, asked by definitions of its own: refusals change nothing, ids are issued in
-//! turn, Euler numbers follow the shares, deletes take what rests on their target, stars are exact.
+//! What documents 01 and 02 say of every answer, asked by definitions of its own: refusals change nothing, ids are issued in
+//! turn and again only after a renumbering, which renames and changes nothing else; Euler numbers follow the shares, deletes
+//! take what rests on their target, stars are exact.
 
-use std::collections::BTreeSet;
+use std::collections::{BTreeMap, BTreeSet};
 
 use cores::Line;
-use plain::{decode, Command, Cycle, Drawing, Shape};
+use plain::{decode, Command, Cycle, Drawing, Halfedge, Shape};
 
 type Law = Result<(), String>;
 
@@ -24,7 +25,10 @@ pub fn command(before: &Drawing, bytes: &[u8], line: Line, after: &Drawing) -> L
     }
     let (command, rest) = decode(bytes).ok_or("done without a command")?;
     hold(rest.len() == line.rest, "the rest is wrong")?;
-    ids(before, line, after)?;
+    match command {
+        Command::Renumber => renumbered(before, line, after)?,
+        _ => ids(before, line, after)?,
+    }
     hold(euler(after) - euler(before) == share(before, &command, line, after), "the share is wrong")?;
     if let Command::Delete { cell } = command {
         hold(gone(before, after) == resting_on(before, cell), "a delete took other cells")?;
@@ -40,6 +44,47 @@ fn ids(before: &Drawing, line: Line, after: &Drawing) -> Law {
     let expected = kept.into_iter().chain(before.next..after.next).collect::<BTreeSet<u32>>();
     hold(live(after) == expected, "live ids are neither kept nor new")?;
     hold(gone(before, after).len() == line.removed as usize, "the count of removed ids is wrong")
+}
+
+/// The cells have the ids 1 to n in their order, each is named by its new id wherever the old one stood, and nothing else
+/// changed; the counts are 0, and the second time nothing changes.
+fn renumbered(before: &Drawing, line: Line, after: &Drawing) -> Law {
+    hold((line.first, line.new, line.removed) == (0, 0, 0), "a renumbering has counts")?;
+    let count = before.cells.len() as u32;
+    let new: BTreeMap<u32, u32> = before.cells.iter().map(|cell| cell.id).zip(1..=count).collect();
+    hold(after.next == count + 1, "the next id is not n + 1")?;
+    hold(after.cells.iter().map(|cell| cell.id).eq(1..=count), "the ids are not 1 to n")?;
+    for (old, cell) in before.cells.iter().zip(&after.cells) {
+        hold(renamed(&new, &old.shape) == Some(cell.shape.clone()), "a cell is more than renamed")?;
+    }
+    if let Some(cell) = before.cells.get(before.cells.len() / 2) {
+        let renamed_star: Vec<u32> = star(before, cell.id).iter().map(|id| new[id]).collect();
+        hold(star(after, new[&cell.id]) == renamed_star, "a star is more than renamed")?;
+    }
+    hold(plain::command(after, &[0x0F]).drawing == *after, "the second renumbering changes something")
+}
+
+/// The shape with every end, step and lone vertex under its new name.
+fn renamed(new: &BTreeMap<u32, u32>, shape: &Shape) -> Option<Shape> {
+    Some(match shape {
+        Shape::Vertex(_) | Shape::Closed { .. } => shape.clone(),
+        Shape::Open { start, end, bends } => {
+            Shape::Open { start: *new.get(start)?, end: *new.get(end)?, bends: bends.clone() }
+        }
+        Shape::Face { cycles } => {
+            Shape::Face { cycles: cycles.iter().map(|cycle| renamed_cycle(new, cycle)).collect::<Option<_>>()? }
+        }
+    })
+}
+
+fn renamed_cycle(new: &BTreeMap<u32, u32>, cycle: &Cycle) -> Option<Cycle> {
+    Some(match cycle {
+        Cycle::Lone(vertex) => Cycle::Lone(*new.get(vertex)?),
+        Cycle::Path(path) => {
+            let step = |step: &Halfedge| Some(Halfedge { edge: *new.get(&step.edge)?, backward: step.backward });
+            Cycle::Path(path.iter().map(step).collect::<Option<_>>()?)
+        }
+    })
 }
 
 fn live(drawing: &Drawing) -> BTreeSet<u32> {
@@ -63,7 +108,7 @@ fn cell_share(shape: &Shape) -> i64 {
     }
 }
 
-/// A command's share, as document 01 lists it.
+/// A command's share, as document 01 lists it; a renumbering has 0.
 fn share(before: &Drawing, command: &Command, line: Line, after: &Drawing) -> i64 {
     let new = i64::from(line.new);
     match command {

@@ -1,5 +1,5 @@
-//! `differ COMMANDS SEED VECTORS PROGRAMS`: the stored vectors, then random scripts of so many commands. VECTORS is the
-//! folder of the vectors, PROGRAMS the one of `plain-edit` and `plain-save`. Ends with `N passed, M failed`.
+//! `differ COMMANDS SEED PROGRAMS VECTORS...`: the stored vectors, then random scripts of so many commands. PROGRAMS is the
+//! folder of `plain-edit` and `plain-save`, VECTORS are those of the vectors. Ends with `N passed, M failed`.
 
 use std::io;
 use std::path::Path;
@@ -30,12 +30,15 @@ impl Tally {
 
 fn main() -> io::Result<ExitCode> {
     let arguments: Vec<String> = std::env::args().collect();
-    let [_, commands, seed, folder, programs] = &arguments[..] else {
-        eprintln!("usage: differ COMMANDS SEED VECTORS PROGRAMS");
+    let [_, commands, seed, programs, folders @ ..] = &arguments[..] else {
+        eprintln!("usage: differ COMMANDS SEED PROGRAMS VECTORS...");
         return Ok(ExitCode::from(2));
     };
     let (commands, seed) = (whole(commands)?, whole(seed)?);
-    let mut tally = try_vectors(Path::new(folder), Path::new(programs))?;
+    let mut tally = Tally::default();
+    for folder in folders {
+        try_vectors(Path::new(folder), Path::new(programs), &mut tally)?;
+    }
     println!("vectors: {} passed, {} failed", tally.passed, tally.failed);
     let mut others = cores::others();
     for other in &mut others {
@@ -52,8 +55,7 @@ fn whole(text: &str) -> io::Result<u64> {
     text.parse().map_err(|_| io::Error::new(io::ErrorKind::InvalidInput, format!("{text} is no number")))
 }
 
-fn try_vectors(folder: &Path, programs: &Path) -> io::Result<Tally> {
-    let mut tally = Tally::default();
+fn try_vectors(folder: &Path, programs: &Path, tally: &mut Tally) -> io::Result<()> {
     for name in vectors::names(folder)? {
         tally.count("plain-edit", &name, vectors::try_program(&programs.join("plain-edit"), &name, "expected")?);
         tally.count("plain-save", &name, vectors::try_program(&programs.join("plain-save"), &name, "file")?);
@@ -62,7 +64,7 @@ fn try_vectors(folder: &Path, programs: &Path) -> io::Result<Tally> {
             tally.count(other.name(), &name, vectors::try_core(other.as_mut(), &name)?);
         }
     }
-    Ok(tally)
+    Ok(())
 }
 
 fn try_scripts(commands: u64, seed: u64, other: Option<&mut dyn Core>, tally: &mut Tally) {

@@ -19,7 +19,7 @@ impl<'a> Pen<'a> {
 
     pub fn kind(&mut self, kind: u8) {
         if self.random.chance(self.faults.spelling) {
-            let unknown = [0x00, 0x0F, 0x10, 0x7F, 0x80 | kind, 0xFF];
+            let unknown = [0x00, 0x10, 0x11, 0x7F, 0x80 | kind, 0xFF];
             self.out.push(unknown[self.random.below(unknown.len())]);
         } else {
             self.out.push(kind);

@@ -1,7 +1,7 @@
 //! A sheet of the boundary register, edited by the proved core.
 //!
-//! The core is proved to do what document 01 says, whatever the bytes. This crate lends it a block of memory for each drawing
-//! and slices, and turns its numbers into Rust's types; it has no dependencies.
+//! The core is proved to do what document 01 and note 1 of document 02 say, whatever the bytes. This crate lends it a block of
+//! memory for each drawing and slices, and turns its numbers into Rust's types; it has no dependencies.
 //!
 //! ```
 //! use dazolbei::{Done, Question, Sheet};
@@ -24,13 +24,18 @@
 //! move_vertex.extend([1.0f64, 2.0].map(f64::to_le_bytes).concat());
 //! assert_eq!(sheet.command(&move_vertex), Ok(Done { first: 0, new: 0, removed: 0 }));
 //!
-//! // Cut edge 2 halfway, uncut vertex 4; there is no cell 9 to delete, and 0F is no kind.
-//! let lines = sheet.run(&[0x0A, 0x02, 0x00, 0x0E, 0x04, 0x06, 0x09, 0x0F])?;
+//! // Cut edge 2 halfway, uncut vertex 4; there is no cell 9 to delete, and 10 is no kind.
+//! let lines = sheet.run(&[0x0A, 0x02, 0x00, 0x0E, 0x04, 0x06, 0x09, 0x10])?;
 //! assert_eq!(lines[0].answer, Ok(Done { first: 4, new: 3, removed: 1 }));
 //! assert_eq!(lines[1].answer, Ok(Done { first: 7, new: 1, removed: 3 }));
 //! assert_eq!(lines[2].answer, Err(Question::Live));
 //! assert_eq!(lines[3].answer, Err(Question::Whole));
 //! assert_eq!(lines[3].rest, 1);
+//!
+//! // Renumber: vertex 1, face 3 and edge 7 become 1, 2 and 3. Ids from before mean nothing now.
+//! assert_eq!(sheet.star(1)?, [3, 7]);
+//! assert_eq!(sheet.command(&[0x0F]), Ok(Done { first: 0, new: 0, removed: 0 }));
+//! assert_eq!(sheet.star(1)?, [2, 3]);
 //!
 //! // A drawing has one file.
 //! let again = Sheet::open(&sheet.save())?;
@@ -171,7 +176,7 @@ pub struct Done {
     pub first: u32,
     /// How many ids are new.
     pub new: u32,
-    /// How many ids are gone.
+    /// How many ids are gone; 0 for a renumbering, at which no cell goes.
     pub removed: u32,
 }
 

@@ -129,9 +129,11 @@ fn commands_on_blocks() {
     assert_eq!(parts(&edited), before);
     let mut bad = damaged();
     let before = parts(&bad);
-    assert_eq!(raw::block_command(&mut bad, &[0x06, 0x01]), told(1, 0, 0, 0));
-    assert_eq!(raw::block_rest(&bad, &[0x06, 0x01]), 2);
-    assert_eq!(parts(&bad), before);
+    for script in [&[0x06, 0x01][..], &[0x0F]] {
+        assert_eq!(raw::block_command(&mut bad, script), told(1, 0, 0, 0));
+        assert_eq!(raw::block_rest(&bad, script), script.len());
+        assert_eq!(parts(&bad), before);
+    }
 }
 
 #[test]

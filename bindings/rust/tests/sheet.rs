@@ -1,4 +1,4 @@
-//! The wrapper on document 01's sheets.
+//! The wrapper on document 01's sheets, and on renumberings.
 
 use std::collections::hash_map::DefaultHasher;
 use std::hash::{Hash, Hasher};
@@ -143,4 +143,35 @@ fn numbers() {
     }
     assert_eq!(Question::Ids.to_string(), "7 (the ids do not suffice)");
     assert_eq!(Question::Unknown(255).to_string(), "255 (no question that is known here)");
+}
+
+#[test]
+fn renumberings() {
+    // Vertices 2 and 3 (1 is deleted), edge 4 from 3 to 2, closed edge 5, and face 7 (6 is deleted): lone vertex 3 twice, 4 there
+    // and back, 5 twice round backward.
+    let mut script = vertex(1.0, 2.0).repeat(3);
+    script.extend([0x06, 0x01, 0x02, 0x03, 0x02, 0x00, 0x03, 0x01]);
+    script.extend([0; 16]);
+    script.extend([0x04, 0x00, 0x06, 0x06, 0x04, 0x04, 0x00, 0x03, 0x00, 0x03, 0x02, 0x08, 0x09, 0x02, 0x0B, 0x0B]);
+    let mut sheet = Sheet::new();
+    assert!(sheet.run(&script).unwrap().iter().all(|line| line.answer.is_ok()));
+    let euler = sheet.euler();
+    assert_eq!((sheet.save()[..3].to_vec(), sheet.star(3)), (vec![8, 5, 2], Ok(vec![4, 7])));
+    assert_eq!(sheet.rest(&[0x0F, 0x06]), [0x06]);
+    assert_eq!(sheet.command(&[0x0F, 0x06]), done(0, 0, 0));
+    let file = sheet.save();
+    assert_eq!(file[..3], [6, 5, 1]);
+    assert_eq!(file[file.len() - 13..], [5, 3, 4, 0, 2, 0, 2, 2, 6, 7, 2, 9, 9]);
+    assert_eq!((sheet.star(2), sheet.star(7), sheet.euler()), (Ok(vec![3, 5]), Err(Question::Live), euler));
+    // The second time nothing changes.
+    let lines = sheet.run(&[0x0F, 0x0F]).unwrap();
+    assert_eq!(lines, [1, 0].map(|rest| Line { answer: done(0, 0, 0), rest }));
+    assert_eq!(sheet.save(), file);
+    // An id of before may be issued again.
+    assert_eq!(sheet.command(&vertex(0.0, 0.0)), done(6, 1, 0));
+    // No id is left, until a renumbering of no cell gives all of them again.
+    let mut last = Sheet::open(&[0x80, 0x80, 0x04, 0x00]).unwrap();
+    let lines = last.run(&[vertex(0.0, 0.0), vec![0x0F], vertex(0.0, 0.0)].concat()).unwrap();
+    let answers: Vec<_> = lines.iter().map(|line| line.answer).collect();
+    assert_eq!(answers, [Err(Question::Ids), done(0, 0, 0), done(1, 1, 0)]);
 }

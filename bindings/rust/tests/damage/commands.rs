@@ -67,6 +67,7 @@ fn cycles(random: &mut Random, block: &Block, out: &mut Vec<u8>) {
 pub fn command(random: &mut Random, block: &Block, out: &mut Vec<u8>) {
     let kind = if block.count > 220 && random.one_in(3) { 6 } else { 1 + random.below(14) };
     let kind = if kind == 6 && block.count < 100 && !random.one_in(4) { 1 } else { kind };
+    let kind = if random.one_in(40) { 15 } else { kind };
     out.push(if random.one_in(100) { random.bits() as u8 } else { kind as u8 });
     // The kinds of the cells that are named first.
     let cells: Vec<usize> = match kind {
