@@ -40,3 +40,4 @@ pub mod Claims
 pub mod Asked
 pub mod EndGroups
 pub mod Runs
+pub mod Visits

@@ -17,6 +17,7 @@ pub mod Renumber
 pub mod Answer
 pub mod File
 pub mod Calls
+pub mod Visits
 pub mod Program
 pub mod Demands
 pub mod Rows

@@ -1,15 +1,18 @@
 -- Worked examples as a list of cases: what is given, and the numbers that it must give. Definitions only.
 use Prim.Native.Nat.{ℕ, zero, suc}
+use mathlib.Core.Bool.{cond}
 use mathlib.Core.List.{List, [], _∷_, _++_}
+use lib.Ieee.{binary64, ofBits}
 use lib.ListN.{length, replicate}
 use lib.IntN.{ℤ, pos, negsuc}
 use Rattle.number.specs.Readers.{Read, got, bad, spread}
 use Rattle.number.specs.Numbers.{readNumber, spell}
-use Rattle.complex.specs.Cells.{Figure, vertex, openEdge, LiveCell, Sheet, empty, origin}
+use Rattle.complex.specs.Cells.{lone, path, Figure, vertex, openEdge, closedEdge, face, LiveCell, Sheet, empty, origin, along}
 use Rattle.complex.specs.Edits.{numbered}
 use Rattle.complex.specs.Answer.{Answer, command}
 use Rattle.complex.specs.File.{fileOf, ReadAnswer, readFile}
 use Rattle.complex.specs.Calls.{Filled, starCall}
+use Rattle.complex.specs.Visits.{Verdict, checkCall, checkFile}
 use Rattle.complex.specs.Program.{Line, Output, tooLong, printed, editOutput}
 use Rattle.complex.specs.Demands.{after}
 
@@ -32,6 +35,10 @@ pub data Given : Type 0 where
   starring : List (List ℕ) → ℕ → List ℕ → Given
   -- read's number and the file of what it gives
   opening : List ℕ → Given
+  -- the soundness test: 1 for yes or 0 for no, and the count of cells visited
+  checking : Sheet → Given
+  -- the same of a file's bytes, after the call's number
+  checkingFile : List ℕ → Given
 
 pub record Row : Type 0 where
   pub given : Given
@@ -61,8 +68,11 @@ answerNumbers a = a .number ∷ a .first ∷ a .new ∷ a .removed ∷ []
 abbrev pub filledNumbers : Filled → List ℕ
 filledNumbers f = f .number ∷ f .count ∷ f .buffer
 
+abbrev pub verdictNumbers : Verdict → List ℕ
+verdictNumbers v = cond (v .sound) 1 0 ∷ v .visited ∷ []
+
 unfoldable pub found : Given → List ℕ
-unfolding editOutput command fileOf readFile starCall
+unfolding editOutput command fileOf readFile starCall checkCall checkFile
 found (spelling n) = spell n
 found (reading bytes) = numberRead (readNumber bytes)
 found (editing bs) = outputNumbers (editOutput (joinedBytes bs))
@@ -72,6 +82,8 @@ found (asking s b) = answerNumbers (command s b)
 found (leaving s b) = fileOf (command s b .sheet)
 found (starring bs i buffer) = filledNumbers (starCall (after empty bs) i buffer)
 found (opening bytes) = readFile bytes .number ∷ fileOf (readFile bytes .sheet)
+found (checking s) = verdictNumbers (checkCall s)
+found (checkingFile bytes) = checkFile bytes .number ∷ verdictNumbers (checkFile bytes .verdict)
 
 -- ---- positions
 abbrev pub nought : List ℕ
@@ -138,13 +150,16 @@ bowtie =
     ∷ (0x02 ∷ 1 ∷ 4 ∷ 0 ∷ []) ∷ (0x02 ∷ 4 ∷ 5 ∷ 0 ∷ []) ∷ (0x02 ∷ 5 ∷ 1 ∷ 0 ∷ [])
     ∷ (0x04 ∷ 1 ∷ 3 ∷ 12 ∷ 14 ∷ 16 ∷ []) ∷ (0x04 ∷ 1 ∷ 3 ∷ 18 ∷ 20 ∷ 22 ∷ []) ∷ []
 
+abbrev pub point : Figure
+point = vertex origin
+
 -- n vertices and a next id
 abbrev pub crowd : ℕ → ℕ → Sheet
-crowd n next = record { next = next; cells = numbered 1 (replicate n (vertex origin)) }
+crowd n next = record { next = next; cells = numbered 1 (replicate n point) }
 
 -- 253 vertices and edge 254 from 1 to 2
 abbrev pub crowdAndEdge : Sheet
-crowdAndEdge = record { next = 255; cells = numbered 1 (replicate 253 (vertex origin) ++ openEdge 1 2 [] ∷ []) }
+crowdAndEdge = record { next = 255; cells = numbered 1 (replicate 253 point ++ openEdge 1 2 [] ∷ []) }
 
 -- vertices 2 and 3, edge 4 from 2 to 3, face 5 along the edge and back and twice with vertex 3 alone; vertex 1 was deleted
 abbrev pub gapped : List (List ℕ)
@@ -152,7 +167,26 @@ gapped = dot ∷ dot ∷ dot ∷ (0x02 ∷ 2 ∷ 3 ∷ 0 ∷ []) ∷ (0x04 ∷ 3
 
 -- vertex 65534 and edge 65535 from it to itself, and no id left
 abbrev pub spent : Sheet
-spent = record { next = 65536; cells = numbered 65534 (vertex origin ∷ openEdge 65534 65534 [] ∷ []) }
+spent = record { next = 65536; cells = numbered 65534 (point ∷ openEdge 65534 65534 [] ∷ []) }
+
+-- cells as they stand, and a next id
+abbrev pub sheet : ℕ → List LiveCell → Sheet
+sheet next cs = record { next = next; cells = cs }
+
+abbrev pub cell : ℕ → Figure → LiveCell
+cell i x = record { id = i; figure = x }
+
+-- a vertex whose x is a NaN
+abbrev pub nowhere : Figure
+nowhere = vertex (record { x = ofBits binary64 0x7FF8000000000000; y = ofBits binary64 0 })
+
+-- a face whose one cycle is n times round edge 1
+abbrev pub rounds : ℕ → Figure
+rounds n = face (path (replicate n (along 1)) ∷ [])
+
+-- the bytes of a file with vertex 1 and a second cell
+abbrev pub besideDot : List ℕ → List ℕ
+besideDot bytes = 3 ∷ 2 ∷ 1 ∷ 0 ∷ nought ++ bytes
 
 -- 0F
 abbrev pub renewal : List ℕ
@@ -293,5 +327,41 @@ further =
     ∷ row (opening (0x01 ∷ 0x00 ∷ 0x00 ∷ [])) (10 ∷ 0x01 ∷ 0x00 ∷ [])
     ∷ []
 
+-- ---- the soundness test: its verdict, and the count of cells visited
+abbrev pub checks : List Row
+checks =
+    -- no cell
+    row (checking empty) (1 ∷ 0 ∷ [])
+    -- out of bounds: none is visited
+    ∷ row (checking (sheet 0 [])) (0 ∷ 0 ∷ [])
+    ∷ row (checking (crowd 1 65537)) (0 ∷ 0 ∷ [])
+    ∷ row (checking (crowd 257 258)) (0 ∷ 0 ∷ [])
+    -- a yes: all
+    ∷ row (checking (crowd 256 257)) (1 ∷ 256 ∷ [])
+    ∷ row (checking spent) (1 ∷ 2 ∷ [])
+    -- a no: up to and with the first fault, whatever is wrong after it
+    ∷ row (checking (sheet 4 (numbered 1 (nowhere ∷ openEdge 1 9 [] ∷ closedEdge [] ∷ [])))) (0 ∷ 1 ∷ [])
+    -- a cell that is looked up is taken as it stands
+    ∷ row (checking (sheet 4 (numbered 1 (point ∷ openEdge 1 3 [] ∷ nowhere ∷ [])))) (0 ∷ 3 ∷ [])
+    -- rising order is a rule about the later cell; an id that is not below the next id is that cell's fault
+    ∷ row (checking (sheet 9 (cell 0 point ∷ cell 1 point ∷ []))) (0 ∷ 1 ∷ [])
+    ∷ row (checking (sheet 9 (cell 1 point ∷ cell 1 point ∷ cell 2 point ∷ []))) (0 ∷ 2 ∷ [])
+    ∷ row (checking (sheet 9 (cell 2 point ∷ cell 3 point ∷ cell 1 nowhere ∷ []))) (0 ∷ 3 ∷ [])
+    ∷ row (checking (crowd 3 3)) (0 ∷ 3 ∷ [])
+    ∷ row (checking (crowd 3 2)) (0 ∷ 2 ∷ [])
+    -- a named id means the first cell that has it
+    ∷ row (checking (sheet 9 (cell 1 point ∷ cell 2 (openEdge 1 5 []) ∷ cell 5 point ∷ cell 5 (openEdge 1 1 []) ∷ []))) (0 ∷ 4 ∷ [])
+    ∷ row (checking (sheet 9 (cell 1 point ∷ cell 2 (openEdge 1 5 []) ∷ cell 5 (openEdge 1 1 []) ∷ cell 5 point ∷ []))) (0 ∷ 2 ∷ [])
+    -- a ceiling on the totals so far is reached by one cell and passed by the next: 512 cycles, 2,048 steps, 2,048 bends
+    ∷ row (checking (sheet 5 (numbered 1 (point ∷ face (replicate 512 (lone 1)) ∷ face (lone 1 ∷ []) ∷ nowhere ∷ [])))) (0 ∷ 3 ∷ [])
+    ∷ row (checking (sheet 5 (numbered 1 (closedEdge (origin ∷ []) ∷ rounds 2048 ∷ rounds 1 ∷ nowhere ∷ [])))) (0 ∷ 3 ∷ [])
+    ∷ row (checking (sheet 4 (numbered 1 (closedEdge (replicate 2048 origin) ∷ closedEdge (origin ∷ []) ∷ nowhere ∷ [])))) (0 ∷ 2 ∷ [])
+    -- files: sound, not sound, a byte less, a byte more
+    ∷ row (checkingFile (besideDot (2 ∷ 1 ∷ 1 ∷ 1 ∷ 0 ∷ []))) (0 ∷ 1 ∷ 2 ∷ [])
+    ∷ row (checkingFile (besideDot (2 ∷ 1 ∷ 1 ∷ 2 ∷ 0 ∷ []))) (0 ∷ 0 ∷ 2 ∷ [])
+    ∷ row (checkingFile (besideDot (2 ∷ 1 ∷ 1 ∷ 1 ∷ []))) (10 ∷ 0 ∷ 0 ∷ [])
+    ∷ row (checkingFile (besideDot (2 ∷ 1 ∷ 1 ∷ 1 ∷ 0 ∷ 0 ∷ []))) (10 ∷ 0 ∷ 0 ∷ [])
+    ∷ []
+
 abbrev pub rows : List Row
-rows = marked ++ further
+rows = marked ++ (further ++ checks)

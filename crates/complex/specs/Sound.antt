@@ -82,12 +82,12 @@ bendsIn (face ks) = 0
 abbrev pub over : (Figure → ℕ) → List LiveCell → ℕ
 over f cs = total (λ (c : LiveCell). f (c .figure)) cs
 
+-- the totals of the cells keep theirs
+abbrev pub totalsOk : List LiveCell → Bool
+totalsOk cs = leb (over cyclesIn cs) cyclesMost && (leb (over stepsIn cs) stepsMost && leb (over bendsIn cs) bendsMost)
+
 abbrev pub ceilings : List LiveCell → Bool
-ceilings cs =
-    leb (length cs) cellsMost
-    && (leb (over cyclesIn cs) cyclesMost
-    && (leb (over stepsIn cs) stepsMost
-    && leb (over bendsIn cs) bendsMost))
+ceilings cs = leb (length cs) cellsMost && totalsOk cs
 
 -- ---- all of it
 abbrev pub figuresOk : List LiveCell → Bool

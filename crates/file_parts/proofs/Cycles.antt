@@ -15,7 +15,7 @@ use Rattle.complex.specs.Decode.{stepBytes, cycleBytes}
 use Rattle.complex.proofs.FileReaders.{number-same}
 use Rattle.store.specs.View.{halfedgeOf, width, cycleOf, cyclesFrom, widthSum}
 use Rattle.file_parts.specs.Parts.{spells, stepSpells, cycleSpells, runOf, Rings}
-use Rattle.store.proofs.Encode.{length-cycles}
+use Rattle.store.proofs.Encode.{length-cycles, cycle-at}
 use Rattle.store.proofs.Lists.{sum-more, sum-le}
 use Rattle.file_parts.proofs.Laying.{run-length, run-get, all-get}
 
@@ -44,13 +44,6 @@ cycle-spells (suc n) st h t = step-spells (take (suc n) st) t
 pub width-le : (n : ℕ) → n ≤ width n
 width-le zero = omega arith
 width-le (suc n) = omega arith
-
--- the cycle at a place
-pub cycle-at : (ns st : List ℕ) (j : ℕ) (z : Cycle) → j < length ns → getD (cyclesFrom ns st) j z ≡ cycleOf (getD ns j 0) (drop (widthSum (take j ns)) st)
-cycle-at [] st j z h = absurd (omega arith)
-cycle-at (n ∷ ns) st zero z h = refl
-cycle-at (n ∷ ns) st (suc j) z h =
-    cycle-at ns (drop (width n) st) j z (omega arith) ∙ ap (cycleOf (getD ns j 0)) (drop-drop (widthSum (take j ns)) (width n) st)
 
 -- ---- a run of cycles, and the places of its first i
 module _ (ns : List ℕ) (from n i sum : ℕ) (r : from + n ≤ length ns) (h : i < n) (e : sum ≡ widthSum (take i (runOf from n ns))) where

@@ -19,7 +19,7 @@ use Rattle.store.specs.declared.Shape.{Shape}
 use Rattle.store.specs.declared.Shape.the-variants.{Vertex, Open, Closed, Face}
 use Rattle.store.specs.declared.Cell.{Cell}
 use Rattle.store.specs.View.{width, cyclesFrom, cellsOf, figureOf, cycleCount, bendCount, cycleSum, bendSum, widthSum}
-use Rattle.store.proofs.Encode.{take-cycles}
+use Rattle.store.proofs.Encode.{take-cycles, length-cells, cell-at}
 use Rattle.store.proofs.Lists.{sum-append, sum-more, sum-le}
 use Rattle.file_write.specs.declared.Place.{Place}
 use Rattle.file_parts.specs.Parts.{spells, positionsFrom, runOf, Bends, Rings}
@@ -112,23 +112,6 @@ drop-cycles : (m : ℕ) (ns st : List ℕ) → drop m (cyclesFrom ns st) ≡ cyc
 drop-cycles zero ns st = refl
 drop-cycles (suc m) [] st = refl
 drop-cycles (suc m) (n ∷ ns) st = drop-cycles m ns (drop (width n) st) ∙ ap (cyclesFrom (drop m ns)) (drop-drop (widthSum (take m ns)) (width n) st)
-
-pub length-cells : (cs : List Cell) (ks : List Cycle) (bs : List Position) → length (cellsOf cs ks bs) ≡ length cs
-length-cells [] ks bs = refl
-length-cells (c ∷ cs) ks bs = ap suc (length-cells cs (drop (cycleCount (c .shape)) ks) (drop (bendCount (c .shape)) bs))
-
-cell-at : (cs : List Cell) (ks : List Cycle) (bs : List Position) (i : ℕ) (z : LiveCell) (y : Cell) → i < length cs
-    → getD (cellsOf cs ks bs) i z ≡ record {
-      id =
-          getD cs i y .id;
-      figure = figureOf (getD cs i y .shape) (drop (cycleSum (take i cs)) ks) (drop (bendSum (take i cs)) bs);
-    }
-cell-at [] ks bs i z y h = absurd (omega arith)
-cell-at (c ∷ cs) ks bs zero z y h = refl
-cell-at (c ∷ cs) ks bs (suc i) z y h =
-    cell-at cs (drop (cycleCount (c .shape)) ks) (drop (bendCount (c .shape)) bs) i z y (omega arith)
-    ∙ ap₂ (λ (k : List Cycle) (b : List Position). record { id = getD cs i y .id; figure = figureOf (getD cs i y .shape) k b })
-    (drop-drop (cycleSum (take i cs)) (cycleCount (c .shape)) ks) (drop-drop (bendSum (take i cs)) (bendCount (c .shape)) bs)
 
 -- where the bends, cycles and steps of the i-th cell begin
 abbrev pub placeOf : List Cell → List ℕ → ℕ → Place

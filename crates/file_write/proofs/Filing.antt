@@ -35,7 +35,7 @@ use Rattle.file_write.specs.Writes.{filledWith, writeOf}
 use Rattle.file_parts.specs.Parts.{BytesPut, spells, cycleSpells, positionsFrom, Rings}
 use Rattle.file_write.specs.Places.{figureSpells, cellSpells, PointsOf, AllReady, Writable}
 use Rattle.file_length.specs.Widths.{Heads, spellWidth, shapeSpells, headSpells, headWidth}
-use Rattle.file_write.proofs.Cells.{length-cells}
+use Rattle.store.proofs.Encode.{length-cells}
 use Rattle.file_write.proofs.Spelling.{sound-spells}
 use Rattle.file_length.proofs.Lengths.{cells-bytes, rings-most, total-most, head-most, width-most}
 

@@ -17,7 +17,7 @@ use Rattle.store.proofs.Lists.{sum-le}
 use Rattle.sound.specs.Looks.{Looks}
 use Rattle.rows_spans.specs.declared.Used.{Used}
 use Rattle.rows_spans.specs.declared.Spans.{Spans}
-use Rattle.rows_spans.proofs.Building.{cycle-at}
+use Rattle.store.proofs.Encode.{cycle-at}
 use Rattle.rows_gone.proofs.Dropped.{live-below, row-among}
 use Rattle.rows_corners.specs.Faces.{Spanned}
 use Rattle.rows_corners.proofs.Lists.{at-length}

@@ -11,7 +11,7 @@ use Rattle.complex.specs.Cells.{Cycle, lone, path}
 use Rattle.store.specs.View.{halfedgeOf, width, cycleOf, cyclesFrom, widthSum}
 use Rattle.store.specs.Edits.{kept}
 use Rattle.store.specs.Pools.{Held}
-use Rattle.store.proofs.Encode.{numbers, places, cycles-real, take-cycles, length-cycles}
+use Rattle.store.proofs.Encode.{numbers, places, cycles-real, take-cycles, length-cycles, cycle-at}
 use Rattle.store.proofs.Lists.{sum-append, sum-more, sum-le, kept-append, kept-more}
 use Rattle.store.proofs.Pools.{held-cycles}
 use Rattle.rows_spans.specs.declared.Used.{Used}
@@ -24,12 +24,6 @@ cycles-append [] ms st = refl
 cycles-append (n ∷ ns) ms st =
     ap (λ (r : List Cycle). cycleOf n st ∷ r)
     (cycles-append ns ms (drop (width n) st) ∙ ap (λ (l : List ℕ). cyclesFrom ns (drop (width n) st) ++ cyclesFrom ms l) (drop-drop (widthSum ns) (width n) st))
-
-pub cycle-at : (ns st : List ℕ) (i : ℕ) (z : Cycle) → i < length ns → getD (cyclesFrom ns st) i z ≡ cycleOf (getD ns i 0) (drop (widthSum (take i ns)) st)
-cycle-at [] st i z h = absurd (omega arith)
-cycle-at (n ∷ ns) st zero z h = refl
-cycle-at (n ∷ ns) st (suc i) z h =
-    cycle-at ns (drop (width n) st) i z (omega arith) ∙ ap (cycleOf (getD ns i 0)) (drop-drop (widthSum (take i ns)) (width n) st)
 
 -- a cycle of one or more steps
 pub width-some : (m : ℕ) → 1 ≤ m → width m ≡ m

@@ -18,7 +18,8 @@ use Rattle.store.proofs.Encode.{length-cycles}
 use Rattle.rows_spans.specs.declared.Used.{Used}
 use Rattle.rows_spans.specs.declared.Spans.{Spans}
 use Rattle.rows_spans.specs.Building.{Built}
-use Rattle.rows_spans.proofs.Building.{cycle-at, built-none}
+use Rattle.store.proofs.Encode.{cycle-at}
+use Rattle.rows_spans.proofs.Building.{built-none}
 use Rattle.rows_corners.specs.Faces.{Within, cyclesAt}
 use Rattle.rows_corners.specs.Arcs.{arcOf, ArcRoom, CopyRoom}
 use Rattle.rows_corners.proofs.Lists.{built-as}

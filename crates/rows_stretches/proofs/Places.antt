@@ -9,7 +9,8 @@ use Rattle.complex.specs.Cells.{path}
 use Rattle.complex.specs.Cut.{noCycle}
 use Rattle.store.specs.View.{width, widthSum, cycleOf}
 use Rattle.store.proofs.Lists.{sum-more, sum-le}
-use Rattle.rows_spans.proofs.Building.{cycle-at, cycle-path, width-some}
+use Rattle.store.proofs.Encode.{cycle-at}
+use Rattle.rows_spans.proofs.Building.{cycle-path, width-some}
 use Rattle.rows_stretches.specs.declared.Place.{Place}
 use Rattle.rows_stretches.specs.Paths.{listAt, stepsAt, Lies}
 

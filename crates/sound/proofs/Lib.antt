@@ -3,5 +3,8 @@ pub mod Looking
 pub mod Walking
 pub mod Parts
 pub mod Rings
-pub mod Whole
+pub mod Alike
+pub mod Ceilings
 pub mod Meaning
+pub mod Cellwise
+pub mod Visits

@@ -29,7 +29,7 @@ module _ (is ks : List ℕ) (n r v : ℕ) (h : n ≤ length ks) (e : r ≡ rowOf
 
 -- ---- a row of an edge
 module _ (n : ℕ) (is ks ss es bs : List ℕ) (i : ℕ) (h : i < n) where
-  row-test : rowGood (rowsOf n is ks ss es) (take n bs) i ≡ edgeGood (take n is) (take n ks) (getD ks i 0) (getD ss i 0) (getD es i 0) (getD bs i 0)
+  pub row-test : rowGood (rowsOf n is ks ss es) (take n bs) i ≡ edgeGood (take n is) (take n ks) (getD ks i 0) (getD ss i 0) (getD es i 0) (getD bs i 0)
   row-test =
       ap₂ (λ (k a : ℕ). edgeGood (take n is) (take n ks) k a (getD (take n es) i 0) (getD (take n bs) i 0)) (getD-take n ks i 0 h) (getD-take n ss i 0 h)
       ∙ ap₂ (λ (b m : ℕ). edgeGood (take n is) (take n ks) (getD ks i 0) (getD ss i 0) b m) (getD-take n es i 0 h) (getD-take n bs i 0 h)

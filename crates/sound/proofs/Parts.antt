@@ -1,26 +1,25 @@
--- A sheet's soundness in parts: vertices, edges, bends, cycles; and lookups in the rows of its cells. Assumes nothing.
+-- What a figure shows, in parts: vertices, edges, bends, cycles; and lookups in the rows of cells. Assumes nothing.
 use Prim.Native.Nat.{ℕ, suc}
 use mathlib.Core.Path.{_≡_, refl, ap, ap₂, sym, _∙_}
-use mathlib.Core.List.{List, [], _∷_, _++_, map}
+use mathlib.Core.List.{List, [], _∷_, map}
 use mathlib.Core.Bool.{Bool, true, false, not, _&&_, cond}
 use mathlib.Core.Option.{Option, none, some}
 use native.Mathlib.Omega.{arith}
 use lib.Dec.{eqb}
 use lib.ListN.{length, getD}
 use borrow.Author.Tests.{ne-eqb}
-use Rattle.number.specs.Readers.{spread}
 use Rattle.coordinate.specs.declared.Position.{Position}
 use Rattle.coordinate.specs.Bounds.{within}
 use Rattle.complex.specs.Lists.{all, isEmpty}
 use Rattle.complex.specs.Cells.{Figure, vertex, openEdge, closedEdge, face, LiveCell, lookup, someIf, isVertex, isOpen, isClosed, isFace, startOf, endOf}
 use Rattle.complex.specs.Cells.{bendsOf, cyclesOf}
-use Rattle.complex.specs.Sound.{cycleOk, figureOk, figuresOk}
+use Rattle.complex.specs.Sound.{cycleOk, figureOk}
 use Rattle.store.specs.declared.Shape.{Shape}
 use Rattle.store.specs.declared.Cell.{Cell}
-use Rattle.store.specs.Places.{shapeOf, entryCell, figureCycles, figureBends, entryCycles, entryBends}
+use Rattle.store.specs.Places.{shapeOf, entryCell, figureCycles, figureBends}
 use Rattle.store.specs.View.{bendCount, cycleCount}
 use Rattle.store.specs.Index.{kindOf, shapeStart, shapeEnd, rowOf, valueAt}
-use Rattle.sound.specs.Soundness.{placed, cellPlaced}
+use Rattle.sound.specs.Soundness.{placed}
 use Rattle.sound.specs.Rows.{isVertexIn, edgeGood}
 use Rattle.sound.specs.Looks.{kindNumber}
 
@@ -32,30 +31,12 @@ pub and-assoc : (a b c : Bool) → a && (b && c) ≡ (a && b) && c
 and-assoc true b c = refl
 and-assoc false b c = refl
 
-and-swap : (a b c d : Bool) → (a && b) && (c && d) ≡ (a && c) && (b && d)
-and-swap true true c d = refl
-and-swap true false true d = refl
-and-swap true false false d = refl
-and-swap false b c d = refl
-
 module _ {A : Type 0} where
-  all-append : (p : A → Bool) (xs ys : List A) → all p (xs ++ ys) ≡ all p xs && all p ys
-  all-append p [] ys = refl
-  all-append p (x ∷ xs) ys = ap (λ (b : Bool). p x && b) (all-append p xs ys) ∙ and-assoc (p x) (all p xs) (all p ys)
-
-  all-and : (p q : A → Bool) (xs : List A) → all (λ (x : A). p x && q x) xs ≡ all p xs && all q xs
-  all-and p q [] = refl
-  all-and p q (x ∷ xs) = ap (λ (b : Bool). (p x && q x) && b) (all-and p q xs) ∙ and-swap (p x) (q x) (all p xs) (all q xs)
-
   pub all-same : (p q : A → Bool) → ((x : A) → p x ≡ q x) → (xs : List A) → all p xs ≡ all q xs
   all-same p q h [] = refl
   all-same p q h (x ∷ xs) = ap₂ _&&_ (h x) (all-same p q h xs)
 
 module _ {A B : Type 0} where
-  all-flat : (p : B → Bool) (f : A → List B) (xs : List A) → all (λ (x : A). all p (f x)) xs ≡ all p (spread f xs)
-  all-flat p f [] = refl
-  all-flat p f (x ∷ xs) = ap (λ (b : Bool). all p (f x) && b) (all-flat p f xs) ∙ sym (all-append p (f x) (spread f xs))
-
   pub all-map : (p : B → Bool) (f : A → B) (xs : List A) → all (λ (x : A). p (f x)) xs ≡ all p (map f xs)
   all-map p f [] = refl
   all-map p f (x ∷ xs) = ap (λ (b : Bool). p (f x) && b) (all-map p f xs)
@@ -146,11 +127,8 @@ some-bends [] = refl
 some-bends (b ∷ bs) = ap not (ne-eqb (suc (length bs)) 0 (λ e. omega arith))
 
 module _ (xs : List LiveCell) where
-  -- an edge's ends are vertices, a closed edge has a bend
-  abbrev pub cellEdge : Cell → Bool
-  cellEdge c = edgeGood (idRow xs) (kindRow xs) (kindOf (c .shape)) (shapeStart (c .shape)) (shapeEnd (c .shape)) (bendCount (c .shape))
-
-  figure-parts : (s : Figure) → figureOk (lookup xs) s
+  -- a vertex in bounds; an edge's ends that are vertices, a closed edge's bend; bends; cycles
+  pub figure-parts : (s : Figure) → figureOk (lookup xs) s
       ≡ (placed (shapeOf s) && edgeGood (idRow xs) (kindRow xs) (kindOf (shapeOf s)) (shapeStart (shapeOf s)) (shapeEnd (shapeOf s)) (bendCount (shapeOf s)))
       && (all within (figureBends s) && all (cycleOk (lookup xs)) (figureCycles s))
   figure-parts (vertex p) = sym (and-unit (within p && true) ∙ and-unit (within p))
@@ -159,20 +137,3 @@ module _ (xs : List LiveCell) where
       ∙ ap₂ _&&_ (sym (ap₂ _&&_ (vertex-row xs a) (vertex-row xs b))) (sym (and-unit (all within bs)))
   figure-parts (closedEdge bs) = ap₂ _&&_ (sym (some-bends bs)) (sym (and-unit (all within bs)))
   figure-parts (face ks) = refl
-
-  -- the parts of a sheet's soundness, as they are tested
-  pub figures-parts : figuresOk xs
-      ≡ (all cellPlaced (map entryCell xs) && all cellEdge (map entryCell xs))
-      && (all within (spread entryBends xs) && all (cycleOk (lookup xs)) (spread entryCycles xs))
-  figures-parts =
-      let look = lookup xs in
-      all-same (λ (x : LiveCell). figureOk look (x .figure))
-      (λ (x : LiveCell). (cellPlaced (entryCell x) && cellEdge (entryCell x)) && (all within (entryBends x) && all (cycleOk look) (entryCycles x)))
-      (λ x. figure-parts (x .figure)) xs
-      ∙ all-and (λ (x : LiveCell). cellPlaced (entryCell x) && cellEdge (entryCell x))
-      (λ (x : LiveCell). all within (entryBends x) && all (cycleOk look) (entryCycles x)) xs
-      ∙ ap₂ _&&_
-      (all-and (λ (x : LiveCell). cellPlaced (entryCell x)) (λ (x : LiveCell). cellEdge (entryCell x)) xs
-      ∙ ap₂ _&&_ (all-map cellPlaced entryCell xs) (all-map cellEdge entryCell xs))
-      (all-and (λ (x : LiveCell). all within (entryBends x)) (λ (x : LiveCell). all (cycleOk look) (entryCycles x)) xs
-      ∙ ap₂ _&&_ (all-flat within entryBends xs) (all-flat (cycleOk look) entryCycles xs))

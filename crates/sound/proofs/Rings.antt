@@ -55,7 +55,7 @@ module _ (xs : List LiveCell) where
       (λ t. same-step s t (eqb (s / 2) (t / 2)) (eqb (s % 2) 1) (eqb (t % 2) 1) refl refl refl) st
       ∙ all-map (same (halfedgeOf s)) halfedgeOf st))
 
-  cycle-right : (n : ℕ) (st : List ℕ) → cycleGood cellRows n st ≡ cycleOk (lookup xs) (cycleOf n st)
+  pub cycle-right : (n : ℕ) (st : List ℕ) → cycleGood cellRows n st ≡ cycleOk (lookup xs) (cycleOf n st)
   cycle-right zero st = vertex-row xs (getD st 0 0)
   cycle-right (suc n) st = joins-row (take (suc n) st)
 

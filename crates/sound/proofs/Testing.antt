@@ -70,6 +70,10 @@ module _ (p : ℕ → Bool) (n : ℕ) where
   pub counting-end : (i : ℕ) → i ≡ n → Counting i → true ≡ allFrom p 0 n
   counting-end i e t = let z : n - i ≡ 0 = omega arith in sym (t .rest ∙ ap (allFrom p i) z)
 
+pub range-same : (p q : ℕ → Bool) (k m : ℕ) → ((i : ℕ) → k ≤ i → i < k + m → p i ≡ q i) → allFrom p k m ≡ allFrom q k m
+range-same p q k zero h = refl
+range-same p q k (suc m) h = ap₂ _&&_ (h k (omega arith) (omega arith)) (range-same p q (suc k) m (λ i u v. h i (omega arith) (omega arith)))
+
 pub shifted : (p : ℕ → Bool) (i m : ℕ) → allFrom p (suc i) m ≡ allFrom (λ (j : ℕ). p (suc j)) i m
 shifted p i zero = refl
 shifted p i (suc m) = ap (λ (b : Bool). p (suc i) && b) (shifted p (suc i) m)

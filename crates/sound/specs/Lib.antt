@@ -1,3 +1,4 @@
 pub mod Soundness
+pub mod Visits
 pub mod Rows
 pub mod Looks

@@ -2,10 +2,9 @@
 use Prim.Native.Nat.{ℕ, zero, suc, _/_, _%_}
 use mathlib.Core.Bool.{Bool, true, false, not, _&&_, _||_, cond}
 use mathlib.Core.List.{List, [], _∷_}
-use lib.Dec.{eqb, leb}
+use lib.Dec.{eqb}
 use lib.ListN.{take, drop, getD}
-use Rattle.complex.specs.Lists.{all, rising}
-use Rattle.complex.specs.Sound.{idsEnd}
+use Rattle.complex.specs.Lists.{all}
 use Rattle.store.specs.Index.{rowOf, valueAt}
 use Rattle.store.specs.View.{width}
 
@@ -75,8 +74,3 @@ cycleGood t (suc n) st = joinsIn t (take (suc n) st)
 abbrev pub cyclesGood : Rows → List ℕ → List ℕ → Bool
 cyclesGood t [] st = true
 cyclesGood t (n ∷ ns) st = cycleGood t n st && cyclesGood t ns (drop (width n) st)
-
--- ---- all of it
--- the ids rise below the next id, and the rows and the cycles ns are right
-abbrev pub numbersGood : Rows → List ℕ → ℕ → ℕ → List ℕ → List ℕ → Bool
-numbersGood t bs n next ns st = leb next idsEnd && (rising 0 (t .ids) next && (allFrom (rowGood t bs) 0 n && cyclesGood t ns st))

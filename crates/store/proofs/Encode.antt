@@ -1,5 +1,5 @@
 -- What a sheet's cells look like in the arrays, and that the view undoes it, both ways. Assumes nothing.
-use Prim.Native.Nat.{ℕ, zero, suc, _+_, _*_, _/_, _%_, _≤_}
+use Prim.Native.Nat.{ℕ, zero, suc, _+_, _*_, _/_, _%_, _<_, _≤_}
 use mathlib.Core.Path.{_≡_, refl, ap, ap₂, sym, _∙_}
 use mathlib.Core.List.{List, [], _∷_, _++_, map, append-assoc}
 use mathlib.Core.Bool.{Bool, true, false, _&&_, false≢true}
@@ -7,7 +7,7 @@ use native.Mathlib.Omega.{arith}
 use lib.Dec.{eqb}
 use borrow.Author.Tests.{eqb-true, eqb-false, eq-eqb, ne-eqb}
 use lib.ListN.{length, take, drop, getD, length-map, length-drop, length-append}
-use lib.Seq.{take-add, take-at, drop-at, length-take-le}
+use lib.Seq.{take-add, take-at, drop-at, drop-drop, length-take-le}
 use Rattle.coordinate.specs.declared.Position.{Position}
 use Rattle.store.specs.declared.Shape.{Shape}
 use Rattle.store.specs.declared.Shape.the-variants.{Vertex, Open, Closed, Face}
@@ -100,7 +100,32 @@ pub length-cycles : (ns st : List ℕ) → length (cyclesFrom ns st) ≡ length 
 length-cycles [] st = refl
 length-cycles (n ∷ ns) st = ap suc (length-cycles ns (drop (width n) st))
 
-figure-shape : (s : Shape) (ks : List Cycle) (bs : List Position) → cycleCount s ≤ length ks → bendCount s ≤ length bs → shapeOf (figureOf s ks bs) ≡ s
+-- the cycle in place i
+pub cycle-at : (ns st : List ℕ) (i : ℕ) (z : Cycle) → i < length ns → getD (cyclesFrom ns st) i z ≡ cycleOf (getD ns i 0) (drop (widthSum (take i ns)) st)
+cycle-at [] st i z h = absurd (omega arith)
+cycle-at (n ∷ ns) st zero z h = refl
+cycle-at (n ∷ ns) st (suc i) z h =
+    cycle-at ns (drop (width n) st) i z (omega arith) ∙ ap (cycleOf (getD ns i 0)) (drop-drop (widthSum (take i ns)) (width n) st)
+
+pub length-cells : (cs : List Cell) (ks : List Cycle) (bs : List Position) → length (cellsOf cs ks bs) ≡ length cs
+length-cells [] ks bs = refl
+length-cells (c ∷ cs) ks bs = ap suc (length-cells cs (drop (cycleCount (c .shape)) ks) (drop (bendCount (c .shape)) bs))
+
+-- the cell in place i has its cycles and bends behind those of the cells before it
+pub cell-at : (cs : List Cell) (ks : List Cycle) (bs : List Position) (i : ℕ) (z : Entry) (y : Cell) → i < length cs
+    → getD (cellsOf cs ks bs) i z ≡ record {
+      id =
+          getD cs i y .id;
+      figure = figureOf (getD cs i y .shape) (drop (cycleSum (take i cs)) ks) (drop (bendSum (take i cs)) bs);
+    }
+cell-at [] ks bs i z y h = absurd (omega arith)
+cell-at (c ∷ cs) ks bs zero z y h = refl
+cell-at (c ∷ cs) ks bs (suc i) z y h =
+    cell-at cs (drop (cycleCount (c .shape)) ks) (drop (bendCount (c .shape)) bs) i z y (omega arith)
+    ∙ ap₂ (λ (k : List Cycle) (b : List Position). record { id = getD cs i y .id; figure = figureOf (getD cs i y .shape) k b })
+    (drop-drop (cycleSum (take i cs)) (cycleCount (c .shape)) ks) (drop-drop (bendSum (take i cs)) (bendCount (c .shape)) bs)
+
+pub figure-shape : (s : Shape) (ks : List Cycle) (bs : List Position) → cycleCount s ≤ length ks → bendCount s ≤ length bs → shapeOf (figureOf s ks bs) ≡ s
 figure-shape (Vertex p) ks bs h g = refl
 figure-shape (Open s e n) ks bs h g = ap (Open s e) (length-take-le n bs g)
 figure-shape (Closed n) ks bs h g = ap Closed (length-take-le n bs g)
@@ -114,7 +139,7 @@ heads (c ∷ cs) ks bs h g =
     (figure-shape (c .shape) ks bs (omega arith) (omega arith))
     (heads cs (drop (cycleCount (c .shape)) ks) (drop (bendCount (c .shape)) bs) (simp length-drop (omega arith)) (simp length-drop (omega arith)))
 
-figure-parts : (s : Shape) (ks : List Cycle) (bs : List Position)
+pub figure-parts : (s : Shape) (ks : List Cycle) (bs : List Position)
     → (figureCycles (figureOf s ks bs) ≡ take (cycleCount s) ks) × (figureBends (figureOf s ks bs) ≡ take (bendCount s) bs)
 figure-parts (Vertex p) ks bs = (refl, refl)
 figure-parts (Open s e n) ks bs = (refl, refl)

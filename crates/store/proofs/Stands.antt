@@ -106,7 +106,7 @@ module _ (d : Drawing) (xs : List Entry) (s : Stands d xs) where
   pub count-is : Sizes d → d .count ≤ 256 → d .count ≡ length xs
   count-is z h = sym (length-take-le (d .count) (d .cells) (omega (arith, z .cells))) ∙ ap length (s .cells) ∙ length-map xs entryCell
 
-heads-ids : (xs : List Entry) → map (λ (c : Cell). c .id) (map entryCell xs) ≡ map (λ (x : Entry). x .id) xs
+pub heads-ids : (xs : List Entry) → map (λ (c : Cell). c .id) (map entryCell xs) ≡ map (λ (x : Entry). x .id) xs
 heads-ids [] = refl
 heads-ids (x ∷ xs) = ap (λ (r : List ℕ). x .id ∷ r) (heads-ids xs)
 
