@@ -2,7 +2,6 @@
 use Prim.Native.Nat.{ℕ, _+_, _*_, _≤_, _<_}
 use native.Mathlib.Omega.{arith}
 use mathlib.Core.Path.{_≡_, refl, sym, ap, _∙_, subst}
-use mathlib.Core.Logic.{inl, inr}
 use mathlib.Core.Bool.{true}
 use mathlib.Core.List.{List, _++_, map}
 use lib.Ieee.{Float}
@@ -15,7 +14,7 @@ use Rattle.coordinate.specs.Positions.{positionAt}
 use Rattle.bends.specs.Bends.{positionsAt}
 use Rattle.bends.proofs.Laws.{positions-length}
 use Rattle.complex.specs.Decode.{readCycle}
-use Rattle.complex.specs.File.{readCell, readFile}
+use Rattle.complex.specs.File.{readCell}
 use Rattle.store.specs.declared.Shape.{Shape}
 use Rattle.store.specs.declared.Cell.{Cell}
 use Rattle.store.specs.declared.Drawing.{Drawing}
@@ -29,7 +28,7 @@ use Rattle.file_read.specs.declared.CellFound.{CellFound}
 use Rattle.file_read.specs.declared.CellFound.the-variants.{Begun, NoCell}
 use Rattle.file_read.specs.Heads.{readHead, ReadAt, HeadRead}
 use Rattle.file_read.specs.Filling.{Added, spotsFrom, bendsMore, CyclesLoaded}
-use Rattle.file_read.specs.Outcome.{CellsOver, SheetRead, refused}
+use Rattle.file_read.specs.Outcome.{CellsOver, NotHeld}
 use Rattle.file_read.proofs.Adding.{spots-length, spots-positions}
 use Rattle.file_read.proofs.ShapeParts.{cycles-over}
 use Rattle.file_read.proofs.Filled.{Filled, filled-start, filled-room, filled-turn, head-bad, parts-over, bytes-left, filled-given, filled-total}
@@ -250,13 +249,11 @@ module _ (s : List ℕ) (r : Counts) (c : CountsRead s r) where
   pub counts-some : (next n at : ℕ) → r ≡ From next n at → CountsIn s next n at
   counts-some next n at e = subst (CountsRead s) e c
 
-  pub counts-none : r ≡ Unread → readFile s ≡ refused
+  pub counts-none : r ≡ Unread → NotHeld s
   counts-none e = subst (CountsRead s) e c
 
 module _ (s t : List ℕ) (next : ℕ) (e : readNumber s ≡ got next t) (n : ℕ) (u : List ℕ) (f : readNumber t ≡ got n u) where
   pub sheet-in : (b : ℕ → Arrays) → CellsHeld (times readCell n u) b → SheetIn s (b next)
-  sheet-in b H = go (cells-read s t next e n u f (answerOf (b next)) (inl (H .cells next)))
-    where
-      go : SheetRead s (answerOf (b next)) → SheetIn s (b next)
-      go (inl p) = record { read = p .2; fits = p .1; rows = H .rows next }
-      go (inr p) = absurd (let m = p .0 .number in omega arith)
+  sheet-in b H =
+      let c = H .cells next in
+      record { read = cells-read s t next e n u f (answerOf (b next)) c; fits = c .given .fits; rows = H .rows next }

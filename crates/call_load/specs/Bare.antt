@@ -9,9 +9,8 @@ use Rattle.number.specs.Readers.{Read, all}
 use Rattle.coordinate.specs.declared.Position.{Position}
 use Rattle.coordinate.specs.Bounds.{within}
 use Rattle.complex.specs.Cells.{LiveCell}
-use Rattle.complex.specs.File.{readFile}
 use Rattle.store.specs.View.{bendTotal}
-use Rattle.file_read.specs.Outcome.{CellsOver, refused}
+use Rattle.file_read.specs.Outcome.{CellsOver, NotHeld}
 use Rattle.kernel_add.specs.Comes.{BendsPut}
 use Rattle.lent.specs.Arrays.{Arrays, Numbers, Floats, heldBy, Lengths}
 use Rattle.call_load.specs.declared.Looked.{Looked}
@@ -78,4 +77,4 @@ pub record RowsIn (keep : Bool) (s : List ℕ) (b : List Float → List Float �
 
 abbrev pub RowsLoaded : Bool → List ℕ → (ℕ → ℕ → List Float → List Float → Arrays) → List Float → List Float → Outline → Type 0
 RowsLoaded keep s b xs ys (Cells next n g) = RowsIn keep s (b next n) xs ys g
-RowsLoaded keep s b xs ys Refused = readFile s ≡ refused
+RowsLoaded keep s b xs ys Refused = NotHeld s

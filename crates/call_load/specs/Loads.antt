@@ -10,14 +10,14 @@ use Rattle.number.specs.Said.{Says}
 use Rattle.complex.specs.Cells.{LiveCell}
 use Rattle.complex.specs.Decode.{readCycle}
 use Rattle.complex.specs.Sound.{cellsMost, cyclesMost, stepsMost, bendsMost}
-use Rattle.complex.specs.File.{readSheet, readFile}
+use Rattle.complex.specs.File.{readSheet}
 use Rattle.store.specs.declared.Shape.{Shape}
 use Rattle.store.specs.View.{sheetOf, Fits, bendCount, cycleCount}
 use Rattle.file_read.specs.declared.ReadAnswer.{ReadAnswer}
 use Rattle.file_read.specs.declared.Used.{Used}
 use Rattle.file_read.specs.declared.Loaded.{Loaded}
 use Rattle.file_read.specs.Filling.{CyclesIn, loadedSays, bendsMore, PartsOver}
-use Rattle.file_read.specs.Outcome.{CellsIn, refused}
+use Rattle.file_read.specs.Outcome.{CellsIn, NotHeld}
 use Rattle.lent.specs.Arrays.{Arrays, heldBy, normal}
 use Rattle.call_load.specs.declared.Counts.{Counts}
 use Rattle.call_load.specs.declared.Counts.the-variants.{From, Refused as Unread}
@@ -63,7 +63,7 @@ pub record CountsIn (s : List ℕ) (next n at : ℕ) : Type 0 where
 
 abbrev pub CountsRead : List ℕ → Counts → Type 0
 CountsRead s (From next n at) = CountsIn s next n at
-CountsRead s Unread = readFile s ≡ refused
+CountsRead s Unread = NotHeld s
 
 -- all bytes are read as the sheet that the arrays hold
 pub record SheetIn (s : List ℕ) (b : Arrays) : Type 0 where

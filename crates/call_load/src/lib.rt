@@ -18,19 +18,20 @@ const CELLS_MOST: usize = 256;
 
 const BENDS_MOST: usize = 2048;
 
-// The next id, the number of cells and whether the bends that were looked at lie in bounds, or the bytes are no sound drawing's file.
+// The next id, the number of cells and whether the bends that were looked at lie in bounds; or the bytes are not, all of them, a next id and
+// cells that keep the ceilings.
 pub enum Outline {
     Cells(u32, usize, bool),
     Refused,
 }
 
-// What a file begins with: the next id, the number of cells and the place after them; or it is no sound drawing's.
+// What a file begins with: the next id, the number of cells and the place after them; or it begins with no such numbers.
 enum Counts {
     From(u32, usize, usize),
     Refused,
 }
 
-// Whether the bends of some cells that were looked at lie in bounds, or the cells are no sound drawing's.
+// Whether the bends of some cells that were looked at lie in bounds, or the bytes are not, all of them, cells for which there is room.
 enum Looked {
     Bends(bool),
     Refused,
@@ -94,7 +95,8 @@ fn bends_taken(
     false
 }
 
-// The n cells from a place on, with nothing after them; or they are no sound drawing's. Bends that are not kept are looked at in the bytes.
+// The n cells from a place on, with nothing after them; or the bytes are not, or there is no room. Bends that are not kept are looked at in
+// the bytes.
 fn load_cells(
     s: &[u8],
     at: usize,
@@ -188,7 +190,8 @@ fn counts_at(bytes: &[u8]) -> Counts
     Counts::From(next, n, b)
 }
 
-// The drawing whose file the bytes are, sound or not, whatever the arrays held. Where its bends are not kept, their arrays stay.
+// The drawing whose file the bytes are, sound or not, whatever the arrays held. Only its ceilings are asked. Where its bends are not kept, their
+// arrays stay.
 pub fn load(
     bytes: &[u8],
     ids: &mut [u32; 256],

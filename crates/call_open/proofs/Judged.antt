@@ -17,11 +17,11 @@ use Rattle.complex.proofs.Files.{read-refused}
 use Rattle.store.specs.View.{sheetOf}
 use Rattle.sound.specs.Soundness.{soundDrawing}
 use Rattle.sound.proofs.Testing.{and-true, and-false}
-use Rattle.file_read.specs.Outcome.{refused}
-use Rattle.file_read.proofs.Verdict.{accepted, sound-read, unsound-read}
+use Rattle.file_read.specs.Outcome.{refused, NotHeld}
+use Rattle.file_read.proofs.Verdict.{accepted, sound-read, unsound-read, not-held-refused}
 use Rattle.file_read.proofs.Judging.{fitting-sound}
 use Rattle.answer.specs.declared.Totals.{Totals}
-use Rattle.lent.specs.Arrays.{Arrays, heldBy, soundArrays}
+use Rattle.lent.specs.Arrays.{Arrays, heldBy, soundArrays, Lengths}
 use Rattle.lent.proofs.Sums.{bends-held}
 use Rattle.lent_sound.specs.declared.Walked.{Walked}
 use Rattle.lent_sound.specs.declared.Walked.the-variants.{Sound, Fault}
@@ -36,14 +36,23 @@ use Rattle.call_open.specs.Taken.{FileIn, OpenedIn, ReadIn}
 
 -- ---- what loading with the bends says
 module _ (s : List ℕ) (b : ℕ → ℕ → List Float → List Float → Arrays) (xs ys : List Float) (r : Outline) (l : RowsLoaded true s b xs ys r) where
-  pub loaded-some : (next n : ℕ) (g : Bool) → r ≡ Cells next n g → SheetIn s (b next n xs ys)
-  loaded-some next n g e =
+  loaded-in : (next n : ℕ) (g : Bool) → r ≡ Cells next n g → SheetIn s (b next n xs ys) × Lengths (b next n xs ys)
+  loaded-in next n g e =
       let R = subst (RowsLoaded true s b xs ys) e l in
-      subst (λ (us : List Float). SheetIn s (b next n us ys)) (R .kept .0)
-      (subst (λ (vs : List Float). SheetIn s (b next n (R .bx) vs)) (R .kept .1) (R .sheet))
+      subst (λ (us : List Float). SheetIn s (b next n us ys) × Lengths (b next n us ys)) (R .kept .0)
+      (subst (λ (vs : List Float). SheetIn s (b next n (R .bx) vs) × Lengths (b next n (R .bx) vs)) (R .kept .1) (R .sheet, R .long))
+
+  pub loaded-some : (next n : ℕ) (g : Bool) → r ≡ Cells next n g → SheetIn s (b next n xs ys)
+  loaded-some next n g e = loaded-in next n g e .0
+
+  pub loaded-long : (next n : ℕ) (g : Bool) → r ≡ Cells next n g → Lengths (b next n xs ys)
+  loaded-long next n g e = loaded-in next n g e .1
+
+  pub loaded-not : r ≡ Refused → NotHeld s
+  loaded-not e = subst (RowsLoaded true s b xs ys) e l
 
   pub loaded-none : r ≡ Refused → readFile s ≡ refused
-  loaded-none e = subst (RowsLoaded true s b xs ys) e l
+  loaded-none e = not-held-refused s (loaded-not e)
 
 -- ---- the file
 pub no-file : (s : List ℕ) → readFile s ≡ refused → readFile s .number ≡ 10
@@ -65,7 +74,7 @@ pub no-refusal : (s : List ℕ) → eqb (readFile s .number) 0 ≡ true → read
 no-refusal s y e = let m = eqb-true (readFile s .number) 0 y in let k = ap (λ (j : Judgement). j .number) e in omega (arith, m, k)
 
 module _ (s : List ℕ) (b : Arrays) (S : SheetIn s b) where
-  arrays-sound : soundArrays b ≡ sound (sheetOf (heldBy b))
+  pub arrays-sound : soundArrays b ≡ sound (sheetOf (heldBy b))
   arrays-sound = ap (λ (t : Bool). t && soundDrawing (heldBy b)) (S .rows) ∙ fitting-sound (heldBy b) (S .fits)
 
   file-whole : soundArrays b ≡ true → readFile s ≡ accepted (sheetOf (heldBy b))
@@ -102,7 +111,7 @@ module _ (s : List ℕ) (b : ℕ → ℕ → List Float → List Float → Array
   rows-some next n g e = subst (RowsLoaded false s b xs ys) e l
 
   pub rows-none : r ≡ Refused → false ≡ eqb (readFile s .number) 0
-  rows-none e = sym (no-number s (subst (RowsLoaded false s b xs ys) e l))
+  rows-none e = sym (no-number s (not-held-refused s (subst (RowsLoaded false s b xs ys) e l)))
 
 module _ (s : List ℕ) (b : List Float → List Float → Arrays) (xs ys : List Float) (g : Bool) (R : RowsIn false s b xs ys g) where
   abbrev held : Arrays

@@ -10,6 +10,7 @@ use Rattle.complex.specs.Calls.{unfilled, starCall, eulerCall, writeCall}
 use Rattle.store.specs.declared.Drawing.{Drawing}
 use Rattle.store.specs.View.{sheetOf}
 use Rattle.sound.specs.Soundness.{soundDrawing}
+use Rattle.sound.specs.Visits.{visitedIn, checkOf}
 use Rattle.rows_star.specs.Calls.{starOf}
 use Rattle.rows_euler.specs.Calls.{eulerOf}
 use Rattle.answer.specs.declared.Answer.{Answer}
@@ -18,6 +19,8 @@ use Rattle.lent.specs.Arrays.{Arrays, heldBy, soundArrays}
 use Rattle.lent.specs.declared.Line.{Line}
 use Rattle.lent.specs.Replies.{answerBy}
 use Rattle.lent.proofs.Replies.{drawing-of}
+use Rattle.lent_sound.specs.Visits.{checkOn}
+use Rattle.lent_sound.proofs.Whole.{visited-normal}
 use Rattle.call_asked.specs.Entries.{restOn, starOn, eulerOn, writeOn}
 use Rattle.entry_command.specs.Commands.{commandIn, CommandedIn}
 use Rattle.door.specs.Apart.{Apart}
@@ -57,6 +60,9 @@ module _ (d : Drawing) (a : Arrays) (h : Apart d a) where
   pub euler-apart : eulerOn a ≡ eulerOf d
   unfolding eulerOf
   euler-apart = same-call (λ x. eulerCall (sheetOf x)) (λ x. record { number = 1; value = pos 0 })
+
+  pub check-apart : checkOn a ≡ checkOf d
+  check-apart i = record { sound = same-sound i; visited = (visited-normal a (h .rows) ∙ ap visitedIn (h .held)) i }
 
   pub write-apart : (buffer : List ℕ) → writeOn a buffer ≡ writeOf d buffer
   write-apart buffer = same-call (λ x. writeCall (sheetOf x) buffer) (λ x. unfilled 1 buffer)

@@ -1,13 +1,16 @@
 // The calls that a caller makes. Each takes any struct and any bytes, and asks nothing of them beforehand. A struct is taken apart into
 // arrays, the call is made on the arrays, and the struct is put together again.
 ghost use mathlib.Core.Path.{_≡_};
+ghost use Rattle.sound.specs.Visits.{checkOf};
 ghost use Rattle.rows_star.specs.Calls.{starAnswered as queried, starOf};
 ghost use Rattle.rows_euler.specs.Calls.{eulerAnswered, eulerOf};
 ghost use Rattle.file_write.specs.Writes.{writeAnswered as written, writeOf};
 ghost use Rattle.file_read.specs.Outcome.{FileRead};
+ghost use Rattle.entry_check.specs.Verdicts.{verdictBy};
 ghost use Rattle.struct_empty.specs.Entries.{Empty};
 ghost use Rattle.core.specs.Entries.{Commanded, restOf};
 use answer::Answer;
+use entry_check::Verdict;
 use file_read::ReadAnswer;
 use file_write::Written;
 use rows_euler::EulerNumber;
@@ -228,6 +231,55 @@ pub fn euler(d: Drawing) -> EulerNumber
         &mut by,
     );
     entry_euler::euler(
+        d.next,
+        d.count,
+        &ids,
+        &kinds,
+        &starts,
+        &ends,
+        &bends,
+        &counts,
+        &px,
+        &py,
+        &cycles,
+        &steps,
+        &bx,
+        &by,
+    )
+}
+
+// The soundness test as a call of its own: yes or no, and the count of cells visited. It refuses nothing.
+pub fn check(d: Drawing) -> Verdict
+    ensures { λ r. ⌜ verdictBy r ≡ checkOf d ⌝ }
+{
+    let mut ids = [0u32; 256];
+    let mut kinds = [0u32; 256];
+    let mut starts = [0u32; 256];
+    let mut ends = [0u32; 256];
+    let mut bends = [0u32; 256];
+    let mut counts = [0u32; 256];
+    let mut px = [0.0; 256];
+    let mut py = [0.0; 256];
+    let mut cycles = [0u32; 512];
+    let mut steps = [0u32; 2048];
+    let mut bx = [0.0; 2048];
+    let mut by = [0.0; 2048];
+    door::take_apart(
+        d,
+        &mut ids,
+        &mut kinds,
+        &mut starts,
+        &mut ends,
+        &mut bends,
+        &mut counts,
+        &mut px,
+        &mut py,
+        &mut cycles,
+        &mut steps,
+        &mut bx,
+        &mut by,
+    );
+    entry_check::check(
         d.next,
         d.count,
         &ids,

@@ -1,13 +1,17 @@
 // The calls for programs in C and Rust. A slice crosses as a pointer and a length, a second result through a pointer. A no gives its
 // number, 0 for all else save what 9 gives, and leaves the lent memory as it was.
 ghost use mathlib.Core.Path.{_≡_};
+ghost use Prim.Native.Nat.{_≤_};
 ghost use lib.ListN.{length};
 ghost use Rattle.complex.specs.File.{readFile};
+ghost use Rattle.complex.specs.Visits.{checkFile};
 ghost use Rattle.lent.specs.Arrays.{entry, exit};
+ghost use Rattle.lent_sound.specs.Visits.{checkOn};
 ghost use Rattle.call_open.specs.Taken.{ReadIn};
 ghost use Rattle.call_asked.specs.Entries.{Begun, restOn, starOn, eulerOn, writeOn};
 ghost use Rattle.entry_command.specs.Commands.{CommandedIn};
-ghost use Rattle.entry_files.specs.Calls.{filledAs, starAt, eulerAs, eulerAt, again};
+ghost use Rattle.entry_check.specs.Verdicts.{verdictAs};
+ghost use Rattle.entry_files.specs.Calls.{filledAs, starAt, eulerAs, eulerAt, again, checkedAs};
 ghost use Rattle.entry_file_run.specs.Runs.{runAs, runAt};
 ghost use Rattle.dazolbei.specs.Blocks.{lineAs, RunIn};
 use lent_sound::Walked;
@@ -44,6 +48,16 @@ pub extern "C" fn dz_write(file: &[u8], buffer: &mut [u8], count: &mut u32) -> u
     ensures { λ r. ⌜ filledAs r (now (count .exit)) (now (buffer .exit)) ≡ again (now (file .entry)) (now (buffer .entry)) ⌝ }
 {
     entry_files::write_again(file, buffer, count)
+}
+
+// The soundness test of the drawing of a file, which need not be sound: 1 or 0 for a yes or a no, and the count of cells visited. 10 where
+// the bytes are not, all of them, a next id and cells that keep the ceilings.
+#[no_mangle]
+pub extern "C" fn dz_check(file: &[u8], sound: &mut u32, visited: &mut u32) -> u32
+    ensures { λ r. ⌜ checkedAs r (now (sound .exit)) (now (visited .exit)) ≡ checkFile (now (file .entry)) ⌝ }
+    ensures { λ _. ⌜ now (sound .exit) ≤ 1 ⌝ }
+{
+    entry_files::check(file, sound, visited)
 }
 
 // Runs a script on the drawing of a file. Of each command five numbers go to the lines: number, first, new, removed and
@@ -353,6 +367,48 @@ pub extern "C" fn dz_block_euler(
     let v = e.value;
     *value = v;
     e.number
+}
+
+// The soundness test as a call of its own, which refuses nothing: 1 or 0 for a yes or a no, and the count of cells visited.
+#[no_mangle]
+pub extern "C" fn dz_block_check(
+    next: u32,
+    count: usize,
+    ids: &[u32; 256],
+    kinds: &[u32; 256],
+    starts: &[u32; 256],
+    ends: &[u32; 256],
+    bends: &[u32; 256],
+    counts: &[u32; 256],
+    px: &[f64; 256],
+    py: &[f64; 256],
+    cycles: &[u32; 512],
+    steps: &[u32; 2048],
+    bx: &[f64; 2048],
+    by: &[f64; 2048],
+    sound: &mut u32,
+    visited: &mut u32,
+)
+    ensures { λ _. ⌜ verdictAs (now (sound .exit)) (now (visited .exit)) ≡ checkOn (entry next count ids kinds starts ends bends counts px py cycles steps bx by) ⌝ }
+    ensures { λ _. ⌜ now (sound .exit) ≤ 1 ⌝ }
+{
+    let v = entry_check::check(
+        next,
+        count,
+        ids,
+        kinds,
+        starts,
+        ends,
+        bends,
+        counts,
+        px,
+        py,
+        cycles,
+        steps,
+        bx,
+        by,
+    );
+    entry_check::tell(v, sound, visited);
 }
 
 // The drawing's file, in the buffer's first places.

@@ -1,2 +1,3 @@
 pub mod Counts
 pub mod Opening
+pub mod Checking

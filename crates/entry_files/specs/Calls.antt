@@ -6,7 +6,9 @@ use lib.Dec.{eqb}
 use lib.IntN.{ℤ, pos}
 use Rattle.complex.specs.Cells.{Sheet}
 use Rattle.complex.specs.File.{readFile}
+use Rattle.complex.specs.Visits.{FileVerdict}
 use Rattle.complex.specs.Calls.{Filled, unfilled, filled, starCall, EulerAnswer, eulerCall}
+use Rattle.entry_check.specs.Verdicts.{verdictAs}
 
 -- 10: are the bytes, all of them, a sound drawing's file?
 abbrev pub isFile : List ℕ → Bool
@@ -34,3 +36,7 @@ eulerAt file = cond (isFile file) (eulerCall (drawn file)) (eulerAs 10 (pos 0))
 -- bytes that are read as a drawing are themselves what is written of it
 abbrev pub again : List ℕ → List ℕ → Filled
 again file buffer = cond (isFile file) (filled file buffer) (unfilled 10 buffer)
+
+-- the soundness test: its number, and the verdict in two numbers
+abbrev pub checkedAs : ℕ → ℕ → ℕ → FileVerdict
+checkedAs number sound visited = record { number = number; verdict = verdictAs sound visited }

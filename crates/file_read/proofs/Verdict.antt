@@ -1,71 +1,57 @@
--- What a file that was read, or not read, means for question 10. Assumes nothing.
+-- What a file that was read, or not read, means for question 10 and for the test of its drawing. Assumes nothing.
 use Prim.Native.Nat.{ℕ, _≤_, _<_}
 use native.Mathlib.Omega.{arith}
 use mathlib.Core.Path.{_≡_, refl, sym, ap, _∙_}
-use mathlib.Core.Logic.{inl, inr}
 use mathlib.Core.Bool.{Bool, true, false, _&&_, cond}
 use mathlib.Core.List.{List, [], _∷_}
+use borrow.Author.Tests.{leb-true}
 use lib.ListN.{length}
-use lib.Dec.{T, leb, leb→le}
+use lib.Dec.{leb}
 use Rattle.number.specs.Readers.{Read, got, bad, andThen, times}
 use Rattle.number.specs.Numbers.{readNumber}
-use Rattle.number.proofs.Laws.{got-thing, got-rest}
+use Rattle.number.proofs.Laws.{not-bad, got-thing, got-rest}
 use Rattle.number.proofs.Counted.{times-length}
 use Rattle.complex.specs.Cells.{LiveCell, Sheet}
-use Rattle.complex.specs.Sound.{sound, cyclesIn, stepsIn, bendsIn, over, cellsMost, cyclesMost, stepsMost, bendsMost}
+use Rattle.complex.specs.Sound.{sound, ceilings, totalsOk, cyclesIn, stepsIn, bendsIn, over, cellsMost, cyclesMost, stepsMost, bendsMost}
 use Rattle.complex.specs.File.{readCell, readSheet, judged, readFile}
 use Rattle.complex.specs.File.{ReadAnswer as Judgement}
+use Rattle.complex.specs.Visits.{checkCall, checkFile, checked, unchecked}
 use Rattle.complex.proofs.FileReaders.{then-from}
-use Rattle.complex.proofs.Bools.{both}
+use Rattle.complex.proofs.Bools.{truth, true-of, both-true}
 use Rattle.complex.proofs.Keep.{sound-parts}
+use Rattle.store.specs.View.{sheetOf}
 use Rattle.store.proofs.Ceilings.{over-cycles, over-steps, over-bends}
 use Rattle.file_read.specs.declared.ReadAnswer.{ReadAnswer}
-use Rattle.file_read.specs.Outcome.{refused, RoomFor, CellsOver, CellsRead, SheetRead}
+use Rattle.file_read.specs.Outcome.{refused, RoomFor, CellsIn, CellsOver, NotHeld}
 
--- ---- a sound drawing has room in the arrays
-sound-room : (s : Sheet) → T (sound s) → RoomFor (s .cells) × (length (s .cells) ≤ cellsMost)
-sound-room s t =
-    let cs = s .cells in
-    let a = both (leb (length cs) cellsMost) (leb (over cyclesIn cs) cyclesMost && (leb (over stepsIn cs) stepsMost && leb (over bendsIn cs) bendsMost))
-    (sound-parts s t .fits) in
-    let b = both (leb (over cyclesIn cs) cyclesMost) (leb (over stepsIn cs) stepsMost && leb (over bendsIn cs) bendsMost) (a .1) in
-    let c = both (leb (over stepsIn cs) stepsMost) (leb (over bendsIn cs) bendsMost) (b .1) in
-    let k = leb→le (over cyclesIn cs) cyclesMost (b .0) in
-    let l = leb→le (over stepsIn cs) stepsMost (c .0) in
-    let m = leb→le (over bendsIn cs) bendsMost (c .1) in
+-- ---- cells that keep the ceilings have room in the arrays
+ceilings-room : (cs : List LiveCell) → ceilings cs ≡ true → RoomFor cs × (length cs ≤ cellsMost)
+ceilings-room cs e =
+    let a = both-true (leb (length cs) cellsMost) (totalsOk cs) e in
+    let b = both-true (leb (over cyclesIn cs) cyclesMost) (leb (over stepsIn cs) stepsMost && leb (over bendsIn cs) bendsMost) (a .1) in
+    let c = both-true (leb (over stepsIn cs) stepsMost) (leb (over bendsIn cs) bendsMost) (b .1) in
+    let k = leb-true (over cyclesIn cs) cyclesMost (b .0) in
+    let l = leb-true (over stepsIn cs) stepsMost (c .0) in
+    let m = leb-true (over bendsIn cs) bendsMost (c .1) in
     let r : RoomFor cs = record { bends = omega (arith, over-bends cs); cycles = omega (arith, over-cycles cs); steps = omega (arith, over-steps cs) } in
-    (r, leb→le (length cs) cellsMost (a .0))
+    (r, leb-true (length cs) cellsMost (a .0))
 
--- ---- refused
-abbrev pub accepted : Sheet → Judgement
-accepted x = record { number = 0; sheet = x }
-
-refused-if : (q : Read Sheet) → ((x : Sheet) → q ≡ got x [] → T (sound x) → ⊥) → judged q ≡ refused
-refused-if bad f = refl
-refused-if (got x (b ∷ t)) f = refl
-refused-if (got x []) f = go (sound x) (λ t. t)
-  where
-    go : (b : Bool) → (T b → T (sound x)) → cond b (accepted x) refused ≡ refused
-    go true g = absurd (f x refl (g tt))
-    go false g = refl
-
+-- ---- bytes that are no such cells
 abbrev counting : Read ℕ → Read (List LiveCell)
 counting q = andThen q λ n u. times readCell n u
 
 abbrev sheeted : ℕ → Read (List LiveCell) → Read Sheet
 sheeted n q = andThen q λ cs u. got (record { next = n; cells = cs }) u
 
-pub no-next : (s : List ℕ) → readNumber s ≡ bad → readFile s ≡ refused
-unfolding readFile
-no-next s e = ap (λ (q : Read ℕ). judged (andThen q λ n t. sheeted n (counting (readNumber t)))) e
+pub no-next : (s : List ℕ) → readNumber s ≡ bad → NotHeld s
+no-next s e x g c = not-bad x [] (sym (ap (λ (q : Read ℕ). andThen q λ n t. sheeted n (counting (readNumber t))) e) ∙ g)
 
 module _ (s t : List ℕ) (next : ℕ) (e : readNumber s ≡ got next t) where
   then-cells : readSheet s ≡ sheeted next (counting (readNumber t))
   then-cells = ap (λ (q : Read ℕ). andThen q λ n u. sheeted n (counting (readNumber u))) e
 
-  pub no-count : readNumber t ≡ bad → readFile s ≡ refused
-  unfolding readFile
-  no-count f = ap judged (then-cells ∙ ap (λ (q : Read ℕ). sheeted next (counting q)) f)
+  pub no-count : readNumber t ≡ bad → NotHeld s
+  no-count f x g c = not-bad x [] (sym (then-cells ∙ ap (λ (q : Read ℕ). sheeted next (counting q)) f) ∙ g)
 
   module _ (n : ℕ) (u : List ℕ) (f : readNumber t ≡ got n u) where
     counted-cells : readSheet s ≡ sheeted next (times readCell n u)
@@ -77,23 +63,22 @@ module _ (s t : List ℕ) (next : ℕ) (e : readNumber s ≡ got next t) where
         then-from (times readCell n u) (λ cs v. got (record { next = next; cells = cs }) v) x [] (sym counted-cells ∙ g) λ cs v h k.
         h ∙ (λ i. got (got-thing (record { next = next; cells = cs }) x v [] k i .cells) (got-rest (record { next = next; cells = cs }) x v [] k i))
 
-    pub cells-over : CellsOver (times readCell n u) → readFile s ≡ refused
-    unfolding readFile
-    cells-over over = refused-if (readSheet s) λ x g h. over (x .cells) (sheet-cells x g) (sound-room x h .0)
+    pub cells-over : CellsOver (times readCell n u) → NotHeld s
+    cells-over over x g c = over (x .cells) (sheet-cells x g) (ceilings-room (x .cells) c .0)
 
-    pub too-many : 256 < n → readFile s ≡ refused
-    unfolding readFile
-    too-many h = refused-if (readSheet s) λ x g k.
+    pub too-many : 256 < n → NotHeld s
+    too-many h x g c =
         let l = times-length readCell n u [] (x .cells) (sheet-cells x g) in
-        let m = sound-room x k .1 in
+        let m = ceilings-room (x .cells) c .1 in
         omega arith
 
-    pub cells-read : (r : ReadAnswer) → CellsRead (times readCell n u) next r → SheetRead s r
-    cells-read r (inl c) = inl
-        (c .given .number, c .given .fits, counted-cells ∙ ap (sheeted next) (c .read) ∙ ap (λ (x : Sheet). got x []) (sym (c .given .sheet)))
-    cells-read r (inr c) = inr (c .0, cells-over (c .1))
+    pub cells-read : (r : ReadAnswer) → CellsIn (times readCell n u) next r → readSheet s ≡ got (sheetOf (r .drawing)) []
+    cells-read r c = counted-cells ∙ ap (sheeted next) (c .read) ∙ ap (λ (x : Sheet). got x []) (sym (c .given .sheet))
 
 -- ---- answers
+abbrev pub accepted : Sheet → Judgement
+accepted x = record { number = 0; sheet = x }
+
 module _ (s : List ℕ) (x : Sheet) (read : readSheet s ≡ got x []) where
   pub sound-read : sound x ≡ true → readFile s ≡ accepted x
   unfolding readFile
@@ -102,3 +87,31 @@ module _ (s : List ℕ) (x : Sheet) (read : readSheet s ≡ got x []) where
   pub unsound-read : sound x ≡ false → readFile s ≡ refused
   unfolding readFile
   unsound-read e = ap judged read ∙ rw e
+
+  pub held-checked : ceilings (x .cells) ≡ true → checkFile s ≡ record { number = 0; verdict = checkCall x }
+  unfolding checkFile
+  held-checked e = ap checked read ∙ rw e
+
+cond-none : {A : Type 0} (b : Bool) (x y : A) → (b ≡ true → ⊥) → cond b x y ≡ y
+cond-none true x y f = absurd (f refl)
+cond-none false x y f = refl
+
+module _ (s : List ℕ) (none : NotHeld s) where
+  -- a sound drawing keeps the ceilings
+  pub not-held-refused : readFile s ≡ refused
+  unfolding readFile
+  not-held-refused = go (readSheet s) none
+    where
+      go : (q : Read Sheet) → ((x : Sheet) → q ≡ got x [] → ceilings (x .cells) ≡ true → ⊥) → judged q ≡ refused
+      go bad f = refl
+      go (got x (y ∷ t)) f = refl
+      go (got x []) f = cond-none (sound x) (accepted x) refused (λ e. f x refl (true-of (ceilings (x .cells)) (sound-parts x (truth e) .fits)))
+
+  pub not-held-unchecked : checkFile s ≡ unchecked
+  unfolding checkFile
+  not-held-unchecked = go (readSheet s) none
+    where
+      go : (q : Read Sheet) → ((x : Sheet) → q ≡ got x [] → ceilings (x .cells) ≡ true → ⊥) → checked q ≡ unchecked
+      go bad f = refl
+      go (got x (y ∷ t)) f = refl
+      go (got x []) f = cond-none (ceilings (x .cells)) (record { number = 0; verdict = checkCall x }) unchecked (f x refl)

@@ -10,12 +10,13 @@ use lib.Seq.{getD-take}
 use borrow.Author.Tests.{eq-eqb, ne-eqb, lt-ltb, le-ltb}
 use Rattle.coordinate.specs.declared.Position.{Position}
 use Rattle.coordinate.specs.Bounds.{within}
+use Rattle.complex.specs.Visits.{idBefore, idRight}
 use Rattle.sound.specs.Rows.{rowsOf, rowGood}
 use Rattle.sound.proofs.Testing.{and-true, and-false}
 use Rattle.sound.proofs.Parts.{and-unit}
 use Rattle.sound.proofs.Looking.{row-other}
 use Rattle.lent.specs.Arrays.{rowNormal}
-use Rattle.lent_figure.specs.Figure.{idBefore, idRight, figureRight}
+use Rattle.lent_figure.specs.Figure.{figureRight}
 
 -- ---- the id
 before-some : (is : List ℕ) (i : ℕ) → (i ≡ 0 → ⊥) → getD is (i - 1) 0 ≡ idBefore is i

@@ -2,10 +2,11 @@
 ghost use mathlib.Core.Path.{_≡_};
 ghost use Prim.Native.Nat.{_<_};
 ghost use Rattle.complex.specs.Sound.{cellsMost};
+ghost use Rattle.complex.specs.Visits.{idRight};
 ghost use Rattle.sound.specs.Rows.{rowsOf};
 ghost use Rattle.lent.specs.Arrays.{rowNormal};
 ghost use Rattle.lent_cycles.specs.Ring.{Looked};
-ghost use Rattle.lent_figure.specs.Figure.{idRight, FigureRight};
+ghost use Rattle.lent_figure.specs.Figure.{FigureRight};
 use coordinate::Position;
 
 // The kinds in a row.

@@ -10,12 +10,13 @@ use denote.Ref.{RefT}
 use Rattle.number.specs.Said.{Said, done, no}
 use Rattle.complex.specs.Lists.{total}
 use Rattle.complex.specs.Sound.{cellsMost, cyclesMost, stepsMost, bendsMost}
+use Rattle.complex.specs.Visits.{idRight}
 use Rattle.store.specs.Edits.{placesOf}
 use Rattle.sound.specs.Rows.{Rows, rowsOf}
 use Rattle.answer.specs.declared.Totals.{Totals}
 use Rattle.lent.specs.Arrays.{Arrays, Lengths, Numbers, Floats, ofLists, positionIn, normalAt, totalsBy}
 use Rattle.lent_cycles.specs.Ring.{cyclesRight}
-use Rattle.lent_figure.specs.Figure.{idRight, figureRight}
+use Rattle.lent_figure.specs.Figure.{figureRight}
 use Rattle.lent_row.specs.declared.Row.{Row}
 use Rattle.lent_row.specs.declared.Row.the-variants.{Sums, Fault}
 

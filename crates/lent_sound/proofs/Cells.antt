@@ -8,7 +8,9 @@ use lib.ListN.{take, getD}
 use borrow.Author.Tests.{leb-true}
 use Rattle.number.specs.Said.{Said, done, no}
 use Rattle.complex.specs.Sound.{cellsMost, cyclesMost, stepsMost, bendsMost, idsEnd}
+use Rattle.complex.specs.Visits.{idRight, boundsRight, visits}
 use Rattle.complex.proofs.Bools.{both-true}
+use Rattle.complex.proofs.Visits.{Visiting, visiting-turn, visiting-stop, visiting-end}
 use Rattle.sound.specs.Rows.{allFrom}
 use Rattle.sound.proofs.Testing.{and-true, and-false, Counting, counting-turn, counting-fail, counting-end}
 use Rattle.answer.specs.declared.Totals.{Totals}
@@ -17,11 +19,13 @@ use Rattle.lent_cycles.specs.Ring.{stepsUpto}
 use Rattle.lent_row.specs.declared.Row.{Row}
 use Rattle.lent_row.specs.declared.Row.the-variants.{Sums, Fault}
 use Rattle.lent_row.specs.Row.{placesUpto, rowsIn, rowRight, bareOf, rowSays, totalsUpto, RowLengths, Upto}
-use Rattle.lent_figure.specs.Figure.{idRight, figureRight}
+use Rattle.lent_figure.specs.Figure.{figureRight}
 use Rattle.lent_row.proofs.Rows.{said-no, said-done, places-more}
 use Rattle.lent_sound.specs.declared.Walked.{Walked}
 use Rattle.lent_sound.specs.declared.Walked.the-variants.{Sound, Fault as Wrong}
-use Rattle.lent_sound.specs.Walk.{bendRight, rightAt, boundsRight, walkRight, walkSays}
+use Rattle.lent_sound.specs.declared.Visited.{Visited}
+use Rattle.lent_sound.specs.declared.Visited.the-variants.{All, Upto as Stopped}
+use Rattle.lent_sound.specs.Walk.{bendRight, rightAt, walkRight, walkVisits, walkSays, visitSays}
 
 -- ---- the next id and the number of cells
 pub bounds-few : (next count : ℕ) → boundsRight next count ≡ true → count ≤ cellsMost
@@ -69,19 +73,25 @@ module _ (look : Bool) (a : Arrays) (l : Lengths a) where
   abbrev saidOf : Bool → Said Totals
   saidOf b = cond b (done (totalsOf a)) (no 1)
 
-  -- the walk is at fault
-  walk-no : walkRight look a ≡ false → no 1 ≡ saidOf (walkRight look a)
-  walk-no e = sym (ap saidOf e)
+  -- the walk ends, having visited v: with a fault, or with the sums t
+  abbrev Ends : Said Totals → ℕ → Type 0
+  Ends w v = (w ≡ saidOf (walkRight look a)) × (v ≡ walkVisits look a)
 
-  pub walk-out : boundsRight (a .next) (a .count) ≡ false → no 1 ≡ saidOf (walkRight look a)
-  walk-out e = walk-no (and-false _ e)
+  pub walk-out : boundsRight (a .next) (a .count) ≡ false → Ends (no 1) 0
+  walk-out e = (sym (ap saidOf (and-false _ e)), sym (ap (λ (b : Bool). cond b (visits (rightAt look a) 0 (a .count)) 0) e))
 
   module _ (b : boundsRight (a .next) (a .count) ≡ true) where
-    module _ (i : ℕ) (h : i < a .count) (g : Counting (rightAt look a) (a .count) i) where
-      cell-no : rightAt look a i ≡ false → no 1 ≡ saidOf (walkRight look a)
-      cell-no e = walk-no (and-true _ b ∙ sym (counting-fail (rightAt look a) (a .count) i h g e))
+    visits-are : visits (rightAt look a) 0 (a .count) ≡ walkVisits look a
+    visits-are = sym (ap (λ (t : Bool). cond t (visits (rightAt look a) 0 (a .count)) 0) b)
 
-      pub walk-fault : rowRight a i ≡ false → no 1 ≡ saidOf (walkRight look a)
+    module _ (i : ℕ) (h : i < a .count) (g : Counting (rightAt look a) (a .count) i) (s : Visiting (rightAt look a) (a .count) i) where
+      cell-no : rightAt look a i ≡ false → Ends (no 1) (i + 1)
+      cell-no e = (
+        sym (ap saidOf (and-true _ b ∙ sym (counting-fail (rightAt look a) (a .count) i h g e))),
+        visiting-stop (rightAt look a) (a .count) i h s e ∙ visits-are,
+      )
+
+      pub walk-fault : rowRight a i ≡ false → Ends (no 1) (i + 1)
       walk-fault e = cell-no (and-false _ e)
 
       -- the bends of the row are those between the sums
@@ -95,18 +105,31 @@ module _ (look : Bool) (a : Arrays) (l : Lengths a) where
             let z : u .bends - t .bends ≡ getD (a .bends) i 0 = omega (arith, m, x, y) in
             and-true _ w ∙ sym (e ∙ ap₂ (λ (k n : ℕ). cond look (allFrom (bendRight (a .bx) (a .by)) k n) true) x z)
 
-        pub walk-bent : r ≡ false → no 1 ≡ saidOf (walkRight look a)
-        walk-bent f = cell-no (cell-is ∙ f)
+        pub walk-bent : r ≡ false → Ends (no 1) (u .cells)
+        walk-bent f = let w = cell-no (cell-is ∙ f) in (w .0, ap (λ (s : Totals). s .cells) (uu .sums) ∙ w .1)
 
-        pub walk-turn : r ≡ true → Counting (rightAt look a) (a .count) (i + 1)
-        walk-turn f = counting-turn (rightAt look a) (a .count) i h g (cell-is ∙ f)
+        pub walk-turn : r ≡ true → Counting (rightAt look a) (a .count) (i + 1) × Visiting (rightAt look a) (a .count) (i + 1)
+        walk-turn f = (
+          counting-turn (rightAt look a) (a .count) i h g (cell-is ∙ f),
+          visiting-turn (rightAt look a) (a .count) i h s (cell-is ∙ f),
+        )
 
-    pub walk-end : (i : ℕ) (t : Totals) → i ≡ a .count → Counting (rightAt look a) (a .count) i → Upto (bareOf a) i t → done t ≡ saidOf (walkRight look a)
-    walk-end i t e g u =
-        ap done (u .sums ∙ ap (totalsUpto a) e)
-        ∙ sym (ap saidOf (and-true _ b ∙ sym (counting-end (rightAt look a) (a .count) i e g)))
+    pub walk-end : (i : ℕ) (t : Totals) → i ≡ a .count → Counting (rightAt look a) (a .count) i → Visiting (rightAt look a) (a .count) i
+        → Upto (bareOf a) i t → Ends (done t) (t .cells)
+    walk-end i t e g s u = (
+      ap done (u .sums ∙ ap (totalsUpto a) e)
+          ∙ sym (ap saidOf (and-true _ b ∙ sym (counting-end (rightAt look a) (a .count) i e g))),
+      ap (λ (x : Totals). x .cells) (u .sums) ∙ visiting-end (rightAt look a) (a .count) i e s ∙ visits-are,
+    )
 
 -- ---- what the walk said
+module _ (x : Said Totals) (r : Visited) (e : visitSays r ≡ x) where
+  pub visited-no : (n : ℕ) → r ≡ Stopped n → no 1 ≡ x
+  visited-no n q = ap visitSays (sym q) ∙ e
+
+  pub visited-yes : (t : Totals) → r ≡ All t → done t ≡ x
+  visited-yes t q = ap visitSays (sym q) ∙ e
+
 module _ (b : Bool) (t : Totals) (r : Walked) (e : walkSays r ≡ cond b (done t) (no 1)) where
   pub walked-no : r ≡ Wrong → false ≡ b
   walked-no q = sym (said-no b t (ap walkSays (sym q) ∙ e))

@@ -1,4 +1,6 @@
 pub mod Testing
 pub mod Ranges
-pub mod Whole
+pub mod Parts
+pub mod Visits
 pub mod Cells
+pub mod Whole

@@ -6,10 +6,10 @@ use native.Mathlib.Omega.{arith}
 use lib.Dec.{leb}
 use borrow.Author.Tests.{le-leb, lt-leb}
 use Rattle.complex.specs.Sound.{cellsMost, idsEnd}
+use Rattle.complex.specs.Visits.{boundsRight}
 use Rattle.sound.specs.Rows.{allFrom}
 use Rattle.sound.proofs.Testing.{and-true, and-false}
 use Rattle.sound.proofs.Parts.{and-unit, and-assoc}
-use Rattle.lent_sound.specs.Walk.{boundsRight}
 
 -- ---- the numbers from k to below m: b tells whether those before i are right, and the rest decides
 module _ (p : ℕ → Bool) (k m : ℕ) where

@@ -3,9 +3,10 @@ ghost use mathlib.Core.Bool.{true, false, cond, _&&_};
 ghost use Prim.Native.Nat.{_-_, _≤_};
 ghost use Rattle.number.specs.Said.{done, no};
 ghost use Rattle.complex.specs.Sound.{bendsMost};
+ghost use Rattle.complex.specs.Visits.{boundsRight};
 ghost use Rattle.sound.specs.Rows.{allFrom};
 ghost use Rattle.lent.specs.Arrays.{totalsOf, Lengths, entry};
-ghost use Rattle.lent_sound.specs.Walk.{bendRight, boundsRight, walkRight, walkSays};
+ghost use Rattle.lent_sound.specs.Walk.{bendRight, walkRight, walkVisits, walkSays, visitSays, visitCount};
 use answer::Totals;
 use coordinate::Position;
 use lent_row::Row;
@@ -14,7 +15,13 @@ const CELLS_MOST: usize = 256;
 
 const IDS_END: u32 = 65536;
 
-// The sums so far, or a fault of a cell.
+// The sums of all cells; or a fault, and the count of cells visited.
+pub enum Visited {
+    All(Totals),
+    Upto(usize),
+}
+
+// The same without the count.
 pub enum Walked {
     Sound(Totals),
     Fault,
@@ -69,9 +76,9 @@ fn bounds_right(next: u32, count: usize) -> bool
     count <= CELLS_MOST
 }
 
-// Question 1 of any contents of the arrays, and their sums: the cells one after another, each row, and the places of its bends where they
-// are looked at. The table is filled anew, whatever it held.
-pub fn walk(
+// Question 1 of any contents of the arrays: the cells one after another as they stand, each row, and the places of its bends where they are
+// looked at, up to the first fault. The table is filled anew, whatever it held.
+pub fn visit(
     next: u32,
     count: usize,
     ids: &[u32; 256],
@@ -88,8 +95,9 @@ pub fn walk(
     by: &[f64; 2048],
     table: &mut [u8; 1024],
     look: bool,
-) -> Walked
-    ensures { λ r. ⌜ walkSays r ≡ cond (walkRight look (entry next count ids kinds starts ends bends counts px py cycles steps bx by)) (done (totalsOf (entry next count ids kinds starts ends bends counts px py cycles steps bx by))) (no 1) ⌝ }
+) -> Visited
+    ensures { λ r. ⌜ visitSays r ≡ cond (walkRight look (entry next count ids kinds starts ends bends counts px py cycles steps bx by)) (done (totalsOf (entry next count ids kinds starts ends bends counts px py cycles steps bx by))) (no 1) ⌝ }
+    ensures { λ r. ⌜ visitCount r ≡ walkVisits look (entry next count ids kinds starts ends bends counts px py cycles steps bx by) ⌝ }
     ensures { λ _. ⌜ Lengths (entry next count ids kinds starts ends bends counts px py cycles steps bx by) ⌝ }
 {
     lent::known(
@@ -109,7 +117,7 @@ pub fn walk(
         by,
     );
     if !bounds_right(next, count) {
-        return Walked::Fault;
+        return Visited::Upto(0);
     }
     lent_table::fill(table, ids, count);
     let mut t = Totals {
@@ -137,13 +145,58 @@ pub fn walk(
             table,
             i,
         ) else {
-            return Walked::Fault;
+            return Visited::Upto(i + 1);
         };
         if !bends_asked(look, bx, by, t.bends, u.bends) {
-            return Walked::Fault;
+            return Visited::Upto(u.cells);
         }
         t = u;
         i = i + 1;
     }
+    Visited::All(t)
+}
+
+// Question 1 of any contents of the arrays, and their sums.
+pub fn walk(
+    next: u32,
+    count: usize,
+    ids: &[u32; 256],
+    kinds: &[u32; 256],
+    starts: &[u32; 256],
+    ends: &[u32; 256],
+    bends: &[u32; 256],
+    counts: &[u32; 256],
+    px: &[f64; 256],
+    py: &[f64; 256],
+    cycles: &[u32; 512],
+    steps: &[u32; 2048],
+    bx: &[f64; 2048],
+    by: &[f64; 2048],
+    table: &mut [u8; 1024],
+    look: bool,
+) -> Walked
+    ensures { λ r. ⌜ walkSays r ≡ cond (walkRight look (entry next count ids kinds starts ends bends counts px py cycles steps bx by)) (done (totalsOf (entry next count ids kinds starts ends bends counts px py cycles steps bx by))) (no 1) ⌝ }
+    ensures { λ _. ⌜ Lengths (entry next count ids kinds starts ends bends counts px py cycles steps bx by) ⌝ }
+{
+    let Visited::All(t) = visit(
+        next,
+        count,
+        ids,
+        kinds,
+        starts,
+        ends,
+        bends,
+        counts,
+        px,
+        py,
+        cycles,
+        steps,
+        bx,
+        by,
+        table,
+        look,
+    ) else {
+        return Walked::Fault;
+    };
     Walked::Sound(t)
 }

@@ -1,5 +1,5 @@
-// Asks question 1 of a sound drawing and of damaged ones, made by the lines of standard input, whose letters its first lines
-// explain, and prints a line for each.
+// Asks whether a sound drawing and damaged ones are sound, made by the lines of standard input, whose letters its first lines explain, and
+// prints a line for each: yes or no, and the count of cells visited.
 use coordinate::Located;
 use coordinate::Position;
 use libc::STDIN_FILENO;
@@ -46,6 +46,9 @@ fn changed(d: Drawing, letter: u8, row: u8, a: u32, b: u32, c: u32, p: Position)
         e.next = a;
         return e;
     }
+    if letter == b'm' {
+        return crowd(e, a as usize);
+    }
     if letter == b'k' {
         e.count = a as usize + 4294967296 * (b as usize);
         return e;
@@ -76,15 +79,40 @@ fn changed(d: Drawing, letter: u8, row: u8, a: u32, b: u32, c: u32, p: Position)
     e
 }
 
-// Whether the answer to question 1 is yes.
+// The drawing whose first n cells, up to 256, are vertices at zero, with ids from 1 on.
+fn crowd(d: Drawing, n: usize) -> Drawing {
+    let mut e = d;
+    let mut i: usize = 0;
+    while i < 256 {
+        if i < n {
+            let at_zero = Shape::Vertex(Position { x: 0.0, y: 0.0 });
+            e.cells[i] = Cell {
+                id: i as u32 + 1,
+                shape: at_zero,
+            };
+        }
+        i = i + 1;
+    }
+    e.next = 257;
+    e.count = n;
+    e
+}
+
+// Whether the drawing is sound, and the count of cells visited. A call that asks question 1 must say the same.
 fn tell(text: &[u8], d: Drawing) {
     io::write_all(STDOUT_FILENO, text);
+    let v = core::check(d);
     let a = core::euler(d);
-    if a.number == 0 {
-        io::write_all(STDOUT_FILENO, b" yes\n");
+    if v.sound {
+        io::write_all(STDOUT_FILENO, b" yes");
     } else {
-        io::write_all(STDOUT_FILENO, b" no\n");
+        io::write_all(STDOUT_FILENO, b" no");
     }
+    try_text::tell(v.visited as u64);
+    if v.sound == (a.number == 1) {
+        io::write_all(STDOUT_FILENO, b" (question 1 is answered otherwise)");
+    }
+    io::write_all(STDOUT_FILENO, b"\n");
 }
 
 // The drawing after a line: with one value changed, or the whole one again after a question.

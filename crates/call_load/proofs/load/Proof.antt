@@ -1,6 +1,7 @@
 -- `load` meets its contract. Assumes nothing.
 use borrow.Author.Needs.{needs}
 use mathlib.Core.Path.{refl}
+use denote.Ref.{now}
 use Rattle.file_read.proofs.Verdict.{cells-over}
 use Rattle.call_load.proofs.Loads.{counts-some, counts-none}
 use Rattle.call_load.proofs.Bare.{bare-yes, bare-no, rows-in}
@@ -25,7 +26,8 @@ returns-2 c =
     let kt = l .before .before .before .before .before .before .before .before .before .before .before .before .before in
     let k = kt .before .before .before in
     let C = counts-some _ (k .counts-at .result) (k .counts-at .ensures) _ _ _ (kt .before .next .given .1) in (
-      cells-over _ _ _ (C .first) _ _ (C .second) (bare-no _ _ _ _ _ (l .load-cells .result) (l .load-cells .ensures .0) (c .enum-told2 .given .1)),
+      cells-over (now (k .before .before .args .bytes)) _ _ (C .first) _ _ (C .second)
+          (bare-no _ _ _ _ _ (l .load-cells .result) (l .load-cells .ensures .0) (c .enum-told2 .given .1)),
       l .load-cells .ensures .1,
     )
 
