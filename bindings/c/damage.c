@@ -2,9 +2,9 @@
    buffers stand between pages that may not be touched, first at their very end, then at their very beginning. Whether a
    block is sound is judged here a second time, by the rules of document 01.
 
-   A damaged block must get 1 from every function that asks it, and stay byte for byte, the buffers too. One that is still
-   sound must be sound after every call and stay byte for byte with a no; what is written of it must open, and be written
-   again as the same bytes.
+   A damaged block must get 1 from every function that asks it, and stay byte for byte, the buffers too; the soundness test
+   must say no, and at which cell. One that is still sound must be sound after every call and stay byte for byte with a no;
+   what is written of it must open, and be written again as the same bytes.
 
    DAMAGE_ROUNDS  how many blocks (1,000,000)
    DAMAGE_SEED    where the random numbers start (1) */
@@ -151,15 +151,28 @@ static int sound_row(const dz_sheet *s, size_t i, places *p)
     }
 }
 
-static int sound(const dz_sheet *s)
+static int sound_id(const dz_sheet *s, size_t i)
+{
+    return s->ids[i] > (i == 0 ? 0 : s->ids[i - 1]) && s->ids[i] < s->next;
+}
+
+/* Whether the block is sound, and how many cells there are up to and with the first at fault. */
+static int judged(const dz_sheet *s, size_t *visited)
 {
     places p = {0, 0, 0};
+    *visited = 0;
     if (s->next < 1 || s->next > 65536 || s->count > 256) return 0;
-    for (size_t i = 0; i < s->count; i++)
-        if (s->ids[i] <= (i == 0 ? 0 : s->ids[i - 1]) || s->ids[i] >= s->next) return 0;
-    for (size_t i = 0; i < s->count; i++)
-        if (!sound_row(s, i, &p)) return 0;
+    while (*visited < s->count) {
+        size_t i = (*visited)++;
+        if (!sound_id(s, i) || !sound_row(s, i, &p)) return 0;
+    }
     return 1;
+}
+
+static int sound(const dz_sheet *s)
+{
+    size_t visited;
+    return judged(s, &visited);
 }
 
 /* ---- Commands, most of them good. */
@@ -422,6 +435,15 @@ static void ask_euler(int is_sound)
     must(is_sound || value == 0, "Euler's value at 1");
 }
 
+static void ask_check(void)
+{
+    uint32_t is_sound = 77, cells = 77;
+    size_t visited;
+    dz_sheet_check(block, &is_sound, &cells);
+    must(is_sound == (uint32_t)judged(block, &visited), "the verdict");
+    must(cells == visited, "the count of cells visited");
+}
+
 static void ask_star(int is_sound)
 {
     uint32_t places[] = {0, 1, 3, 256}, length = places[below(4)], found = 77;
@@ -500,6 +522,15 @@ static uint32_t ask_run(int is_sound)
     return number;
 }
 
+/* The soundness test of bytes says yes if they open, and only then. */
+static void check_file(const uint8_t *file, uint32_t bytes, uint32_t opened)
+{
+    uint32_t is_sound = 77, cells = 77, number = dz_check(file, bytes, &is_sound, &cells);
+    must(number == 0 || (number == 10 && is_sound == 0 && cells == 0), "the number of check");
+    must(is_sound == (opened == 0), "the verdict on bytes");
+    must(cells <= 256 && (opened != 0 || cells == block->count), "the count of cells visited in bytes");
+}
+
 /* The file of a sound block, most often with a byte changed, into the block as it is. */
 static uint32_t ask_open(void)
 {
@@ -511,6 +542,7 @@ static uint32_t ask_open(void)
     if (below(4) != 0) file[below(bytes)] ^= (uint8_t)(1u << below(8));
     uint32_t number = dz_sheet_open(block, file, bytes);
     must(number == 0 || number == 10, "the number of open");
+    check_file(file, bytes, number);
     if (number != 0) return number;
     must(sound(block), "the opened block is sound");
     uint8_t *again = held(for_file, bytes);
@@ -529,6 +561,7 @@ static void round_on(uint32_t place)
     int is_sound = sound(block);
     (*(is_sound ? &got_none : &got_one))++;
     ask_euler(is_sound);
+    ask_check();
     ask_star(is_sound);
     ask_write(is_sound);
     ask_rest(is_sound);

@@ -5,7 +5,8 @@
    to do what its comment says, whatever the block, the bytes, numbers and lengths, and to end; it keeps nothing between
    calls.
 
-   A function returns a number: 0 for done, or that of the first question of document 01 that it answers no:
+   A function (but for new, rest and check on a block) returns a number: 0 for done, or that of the first question of
+   document 01 that it answers no:
      1  is the drawing sound?
      2  do the bytes begin with a whole command, kind and every number well spelled?
      3  is every coordinate in bounds?
@@ -46,8 +47,9 @@ extern "C" {
 /* ---- A drawing in the caller's memory.
 
    The memory of one drawing. It has no pointer in it: it may be copied, moved and kept as its bytes. Any contents may be
-   handed over; those of no sound drawing get 1. The first `count` places of ids to py are the cells by rising id. The
-   places behind those in use may hold anything, and a call that is done may change them. */
+   handed over; those of no sound drawing get 1, and dz_sheet_check tells the first cell at fault. The first `count` places
+   of ids to py are the cells by rising id. The places behind those in use may hold anything, and a call that is done may
+   change them. */
 typedef struct dz_sheet {
     uint32_t next;        /* the next id */
     size_t count;         /* how many cells there are */
@@ -87,6 +89,7 @@ uint32_t dz_block_run(DZ_EDITED, const uint8_t *script, size_t script_length,
                       uint32_t *lines, size_t lines_length, uint32_t *commands);
 uint32_t dz_block_star(DZ_READ, uint32_t id, uint32_t *buffer, size_t buffer_length, uint32_t *found);
 uint32_t dz_block_euler(DZ_READ, int32_t *value);
+void dz_block_check(DZ_READ, uint32_t *sound, uint32_t *visited);
 uint32_t dz_block_write(DZ_READ, uint8_t *buffer, size_t buffer_length, uint32_t *bytes);
 
 #undef DZ_EDITED
@@ -152,6 +155,18 @@ static inline uint32_t dz_sheet_euler(const dz_sheet *sheet, int32_t *value)
     return dz_block_euler(DZ_READ(sheet), value);
 }
 
+/* The soundness test, question 1, as a call of its own: it takes the cells as they stand and ends at the first fault. 1 or 0
+   goes to *sound, the count of cells visited to *visited: all of them at 1; at 0, which is no refusal here, none where the
+   next id or the count of cells is out of bounds, else those up to and with the first cell at which a rule about it, or a
+   ceiling on the totals so far, fails. An id that does not rise is the later cell's fault, a named id means the first cell
+   that has it, and cells looked up for another's sake are not counted. The rules about a cell are those of document 01 and
+   of the block: a kind from 0 to 3, 0 where its kind says so, counts that keep within the arrays. Nothing but the two
+   numbers is written. */
+static inline void dz_sheet_check(const dz_sheet *sheet, uint32_t *sound, uint32_t *visited)
+{
+    dz_block_check(DZ_READ(sheet), sound, visited);
+}
+
 /* The drawing's file: a drawing has one. It goes to the first places of the buffer, its length to *bytes, also at 9. Asks
    1, 9. */
 static inline uint32_t dz_sheet_write(const dz_sheet *sheet, uint8_t *buffer, size_t buffer_length, uint32_t *bytes)
@@ -173,6 +188,11 @@ uint32_t dz_star(const uint8_t *file, size_t file_length, uint32_t id, uint32_t 
 
 /* The Euler number, to *value. Asks 10. */
 uint32_t dz_euler(const uint8_t *file, size_t file_length, int32_t *value);
+
+/* The soundness test of cells in the form of a file, which need not be a sound drawing's: *sound and *visited as
+   dz_sheet_check gives them. Returns 0 with either verdict. 10, with 0 and 0, means that the bytes are not, all of them, a
+   next id and cells in the form of a file, at most 256 cells, 512 cycles, 2,048 steps and 2,048 bends in all. */
+uint32_t dz_check(const uint8_t *file, size_t file_length, uint32_t *sound, uint32_t *visited);
 
 /* Reads the file and writes the drawing again, which gives the very same bytes: a drawing has one file. They go to the
    first places of the buffer, their count to *count, also at 9. Asks 10, 9. */

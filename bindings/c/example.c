@@ -46,7 +46,7 @@ static int done(const char *what, uint32_t number)
 int main(void)
 {
     int32_t euler;
-    uint32_t bytes, commands, length;
+    uint32_t bytes, commands, length, sound, visited;
     edit();
     if (!done("dz_sheet_euler", dz_sheet_euler(&sheet, &euler))) return 1;
     printf("euler %d cells %u\n", (int)euler, (unsigned)sheet.count);
@@ -56,8 +56,10 @@ int main(void)
         return 1;
     printf("%u commands, %s file\n", (unsigned)commands,
            length == bytes && memcmp(file, again, bytes) == 0 ? "the same" : "another");
-    /* A damaged block gets 1. */
-    sheet.ids[0] = sheet.next;
-    printf("damaged: %u\n", (unsigned)dz_sheet_euler(&sheet, &euler));
+    /* A damaged block gets 1, and the soundness test tells how many cells there are up to the first fault. */
+    sheet.ids[1] = sheet.next;
+    printf("damaged: %u", (unsigned)dz_sheet_euler(&sheet, &euler));
+    dz_sheet_check(&sheet, &sound, &visited);
+    printf(", %s, %u visited\n", sound ? "sound" : "not sound", (unsigned)visited);
     return 0;
 }

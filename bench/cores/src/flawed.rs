@@ -1,9 +1,11 @@
-//! Cores with the flaws that document 01 hands in to try a check ("How the archive will try it"), and with flaws of a
-//! renumbering.
+//! Cores with the flaws that document 01 hands in to try a check ("How the archive will try it"), with flaws of a renumbering,
+//! and with flaws of the soundness test's walk.
+
+mod walks;
 
 use std::time::Duration;
 
-use plain::{Cycle, Drawing};
+use plain::{Block, Cycle, Drawing, Verdict};
 
 use crate::{Call, Core, Line, Ordinary};
 
@@ -37,9 +39,25 @@ pub enum Flaw {
     TakesAField,
     /// A renumbering changes nothing.
     NothingRenumbered,
+    /// A walk counts all cells on a no.
+    AllCounted,
+    /// A walk gives the place of the cell at fault, from 0 on, instead of the count.
+    PlaceNotCount,
+    /// A walk blames the earlier of two cells whose ids do not rise.
+    EarlierBlamed,
+    /// A walk takes the last cell that has a named id.
+    LastLookedUp,
+    /// A walk tests the totals behind the last cell.
+    TotalsAtTheEnd,
+    /// A walk tests whether ids are below the next id behind the last cell.
+    NextIdAtTheEnd,
+    /// A walk counts the cells that it looked up, too.
+    LookedUpCounted,
+    /// A walk looks at cells where the next id or their count is out of bounds.
+    BoundsAtTheEnd,
 }
 
-pub const FLAWS: [Flaw; 14] = [
+pub const FLAWS: [Flaw; 22] = [
     Flaw::AlwaysSix,
     Flaw::KeepsAndSaysDone,
     Flaw::OnlyTheFirst,
@@ -54,6 +72,14 @@ pub const FLAWS: [Flaw; 14] = [
     Flaw::RenamedIsRemoved,
     Flaw::TakesAField,
     Flaw::NothingRenumbered,
+    Flaw::AllCounted,
+    Flaw::PlaceNotCount,
+    Flaw::EarlierBlamed,
+    Flaw::LastLookedUp,
+    Flaw::TotalsAtTheEnd,
+    Flaw::NextIdAtTheEnd,
+    Flaw::LookedUpCounted,
+    Flaw::BoundsAtTheEnd,
 ];
 
 pub struct Flawed {
@@ -160,6 +186,20 @@ impl Core for Flawed {
 
     fn euler(&mut self) -> (u32, i64) {
         self.core.euler()
+    }
+
+    fn check(&mut self) -> Verdict {
+        let right = self.core.check();
+        walks::falsified(self.flaw, &Block::of(&self.core.drawing), right)
+    }
+
+    fn check_block(&mut self, block: &Block) -> Verdict {
+        walks::falsified(self.flaw, block, self.core.check_block(block))
+    }
+
+    fn check_file(&mut self, bytes: &[u8]) -> Option<Verdict> {
+        let right = self.core.check_file(bytes)?;
+        plain::cells_of(bytes).map(|drawing| walks::falsified(self.flaw, &Block::of(&drawing), right))
     }
 
     fn file(&mut self, buffer: &mut [u8]) -> (u32, usize) {

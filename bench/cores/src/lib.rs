@@ -3,6 +3,8 @@
 
 use std::time::Duration;
 
+use plain::{Block, Verdict};
+
 pub mod flawed;
 mod ordinary;
 #[cfg(feature = "proved")]
@@ -30,7 +32,7 @@ pub struct Line {
 pub trait Core {
     fn name(&self) -> &'static str;
 
-    /// Whether star and Euler can be asked of it.
+    /// Whether star, Euler and the soundness test can be asked of it.
     fn has_queries(&self) -> bool {
         true
     }
@@ -47,6 +49,15 @@ pub trait Core {
     /// Number and Euler number.
     fn euler(&mut self) -> (u32, i64);
 
+    /// The soundness test of the drawing.
+    fn check(&mut self) -> Verdict;
+
+    /// The soundness test of a block of any contents.
+    fn check_block(&mut self, block: &Block) -> Verdict;
+
+    /// The soundness test of cells in the form of a file; nothing where the bytes are refused (10).
+    fn check_file(&mut self, bytes: &[u8]) -> Option<Verdict>;
+
     /// The drawing's file, written to the buffer: number and count.
     fn file(&mut self, buffer: &mut [u8]) -> (u32, usize);
 
@@ -61,6 +72,7 @@ pub enum Call<'a> {
     Command(&'a [u8]),
     Star(u32),
     Euler,
+    Check,
     Write,
     /// The file replaces the state.
     Read(&'a [u8]),

@@ -3,7 +3,7 @@
 use std::hint::black_box;
 use std::time::{Duration, Instant};
 
-use plain::{Drawing, Outcome};
+use plain::{Block, Drawing, Outcome, Verdict};
 
 use crate::{Call, Core, Line, LONGEST_FILE};
 
@@ -97,6 +97,18 @@ impl Core for Ordinary {
         plain::euler(&self.drawing)
     }
 
+    fn check(&mut self) -> Verdict {
+        plain::check(&self.drawing)
+    }
+
+    fn check_block(&mut self, block: &Block) -> Verdict {
+        plain::check_block(block)
+    }
+
+    fn check_file(&mut self, bytes: &[u8]) -> Option<Verdict> {
+        plain::check_file(bytes).ok()
+    }
+
     fn file(&mut self, buffer: &mut [u8]) -> (u32, usize) {
         plain::write(&self.drawing, buffer)
     }
@@ -110,6 +122,7 @@ impl Core for Ordinary {
                 timed(rounds, || plain::star(black_box(drawing), id, &mut buffer))
             }
             Call::Euler => timed(rounds, || plain::euler(black_box(drawing))),
+            Call::Check => timed(rounds, || plain::check(black_box(drawing))),
             Call::Write => {
                 let mut buffer = vec![0; LONGEST_FILE];
                 timed(rounds, || plain::write(black_box(drawing), &mut buffer))

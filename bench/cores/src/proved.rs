@@ -6,6 +6,7 @@ use std::time::{Duration, Instant};
 
 use dazolbei::raw::{self, Block, Told};
 use dazolbei::LINE_WIDTH;
+use plain::Verdict;
 
 use crate::{Call, Core, Line, LONGEST_FILE};
 
@@ -170,6 +171,26 @@ impl Core for Proved {
         (number, i64::from(value))
     }
 
+    fn check(&mut self) -> Verdict {
+        match self.way() {
+            Way::Files => self.check_file(&self.whole_file()).expect("the file of a drawing"),
+            _ => verdict(raw::block_check(&self.block)),
+        }
+    }
+
+    fn check_block(&mut self, block: &plain::Block) -> Verdict {
+        verdict(raw::block_check(&lent(block)))
+    }
+
+    fn check_file(&mut self, bytes: &[u8]) -> Option<Verdict> {
+        let (number, told) = raw::check(bytes);
+        if number == 0 {
+            return Some(verdict(told));
+        }
+        assert_eq!((number, verdict(told)), (10, Verdict { sound: false, visited: 0 }), "dz_check");
+        None
+    }
+
     fn file(&mut self, buffer: &mut [u8]) -> (u32, usize) {
         match self.way() {
             Way::Files => raw::write(&self.whole_file(), buffer),
@@ -185,6 +206,7 @@ impl Core for Proved {
                 timed(rounds, || raw::block_star(black_box(&self.block), id, &mut buffer))
             }
             Call::Euler => timed(rounds, || raw::block_euler(black_box(&self.block))),
+            Call::Check => timed(rounds, || raw::block_check(black_box(&self.block))),
             Call::Write => timed(rounds, || raw::block_write(black_box(&self.block), &mut self.out)),
             Call::Read(file) => timed(rounds, || raw::block_open(black_box(&mut self.block), black_box(file))),
             Call::Script(script) => self.time_script(script, rounds),
@@ -210,4 +232,28 @@ fn timed<T>(rounds: usize, mut call: impl FnMut() -> T) -> Duration {
 
 fn line(numbers: &[u32]) -> Line {
     Line { number: numbers[0], first: numbers[1], new: numbers[2], removed: numbers[3], rest: numbers[4] as usize }
+}
+
+fn verdict(told: dazolbei::Verdict) -> Verdict {
+    Verdict { sound: told.sound, visited: told.visited }
+}
+
+/// The same contents in the wrapper's block.
+fn lent(b: &plain::Block) -> Box<Block> {
+    Box::new(Block {
+        next: b.next,
+        count: b.count,
+        ids: b.ids,
+        kinds: b.kinds,
+        starts: b.starts,
+        ends: b.ends,
+        bends: b.bends,
+        counts: b.counts,
+        px: b.px,
+        py: b.py,
+        cycles: b.cycles,
+        steps: b.steps,
+        bx: b.bx,
+        by: b.by,
+    })
 }

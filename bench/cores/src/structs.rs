@@ -3,6 +3,8 @@
 
 use std::time::Duration;
 
+use plain::{Block, Verdict};
+
 use crate::{Call, Core, Line, LONGEST_FILE};
 
 extern "C" {
@@ -104,6 +106,18 @@ impl Core for Structs {
     }
 
     fn euler(&mut self) -> (u32, i64) {
+        unreachable!("not offered")
+    }
+
+    fn check(&mut self) -> Verdict {
+        unreachable!("not offered")
+    }
+
+    fn check_block(&mut self, _: &Block) -> Verdict {
+        unreachable!("not offered")
+    }
+
+    fn check_file(&mut self, _: &[u8]) -> Option<Verdict> {
         unreachable!("not offered")
     }
 

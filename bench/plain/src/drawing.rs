@@ -90,6 +90,17 @@ pub enum Shape {
     Face { cycles: Vec<Cycle> },
 }
 
+impl Shape {
+    /// Where an open edge that is passed forward or backward begins and ends.
+    pub fn ends(&self, backward: bool) -> Option<(u32, u32)> {
+        match *self {
+            Shape::Open { start, end, .. } if backward => Some((end, start)),
+            Shape::Open { start, end, .. } => Some((start, end)),
+            _ => None,
+        }
+    }
+}
+
 #[derive(Clone, PartialEq, Eq, Debug)]
 pub struct Cell {
     pub id: u32,
@@ -128,11 +139,7 @@ impl Drawing {
 
     /// Where a step of an open edge begins and ends.
     pub fn ends(&self, step: Halfedge) -> Option<(u32, u32)> {
-        match self.shape(step.edge) {
-            Some(&Shape::Open { start, end, .. }) if step.backward => Some((end, start)),
-            Some(&Shape::Open { start, end, .. }) => Some((start, end)),
-            _ => None,
-        }
+        self.shape(step.edge)?.ends(step.backward)
     }
 
     /// Gives every cell another id, here and wherever it is named. The next id stays.

@@ -2,7 +2,7 @@
 
 use crate::bytes::{put_bends, put_cycles, put_number, put_position, Cursor};
 use crate::drawing::{Cell, Drawing, Shape};
-use crate::sound::sound;
+use crate::sound::{check, sound, Sizes, Verdict, CEILINGS};
 use crate::Refusal;
 
 /// Writes the file into the buffer's first places: number and count.
@@ -55,12 +55,28 @@ fn put_shape(out: &mut Vec<u8>, shape: &Shape) {
 
 /// The sound drawing that the bytes, all of them, are the file of.
 pub fn read(bytes: &[u8]) -> Result<Drawing, Refusal> {
-    let mut cursor = Cursor::new(bytes);
-    let drawing = get_drawing(&mut cursor).ok_or(Refusal::File)?;
-    if !cursor.left.is_empty() || sound(&drawing).is_none() {
+    let drawing = cells_of(bytes).ok_or(Refusal::File)?;
+    if sound(&drawing).is_none() {
         return Err(Refusal::File);
     }
     Ok(drawing)
+}
+
+/// The next id and the cells that the bytes, all of them, are in the form of a file. They may be damaged.
+pub fn cells_of(bytes: &[u8]) -> Option<Drawing> {
+    let mut cursor = Cursor::new(bytes);
+    let drawing = get_drawing(&mut cursor)?;
+    cursor.left.is_empty().then_some(drawing)
+}
+
+/// The soundness test of cells in the form of a file; refused where there are none, or more than the ceilings.
+pub fn check_file(bytes: &[u8]) -> Result<Verdict, Refusal> {
+    let drawing = cells_of(bytes).ok_or(Refusal::File)?;
+    let sizes = drawing.cells.iter().map(|cell| Sizes::of(&cell.shape)).fold(Sizes::default(), Sizes::plus);
+    if !sizes.within(CEILINGS) {
+        return Err(Refusal::File);
+    }
+    Ok(check(&drawing))
 }
 
 fn get_drawing(cursor: &mut Cursor) -> Option<Drawing> {

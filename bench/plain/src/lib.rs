@@ -1,9 +1,12 @@
-//! The boundary complex of document 01, with note 1 of document 02, in ordinary Rust.
+//! The boundary complex of document 01, with notes 1 and 2 of document 02, in ordinary Rust.
 //!
 //! A drawing is a sorted vector of cells. [`edit`] runs one command in place, [`command`] on a copy; both ask
-//! questions 1 to 8 in their order, and a refused command leaves the drawing as it was. [`star`], [`euler`],
-//! [`write`] and [`read`] are the other calls; [`run`] is a script from first to last command.
+//! questions 1 to 8 in their order, and a refused command leaves the drawing as it was. [`star`], [`euler`], [`check`],
+//! [`write`] and [`read`] are the other calls; [`run`] is a script from first to last command. [`check_block`] and
+//! [`check_file`] are the soundness test of cells in arrays and in bytes, whatever they hold.
 
+mod block;
+mod block_walk;
 mod bytes;
 mod create;
 mod cut_edge;
@@ -21,12 +24,14 @@ mod uncut;
 mod unglue;
 mod uses;
 
+pub use block::Block;
+pub use block_walk::check_block;
 pub use bytes::{put_bends, put_cycles, put_number, put_position};
 pub use decode::{decode, Command};
 pub use drawing::{Cell, Cycle, Drawing, Halfedge, Position, Shape};
-pub use file::{file_of, read, write};
+pub use file::{cells_of, check_file, file_of, read, write};
 pub use query::{euler, star};
-pub use sound::{sound, Sizes, BOUND, CEILINGS, END_OF_IDS};
+pub use sound::{check, sound, Sizes, Verdict, BOUND, CEILINGS, END_OF_IDS};
 
 use editor::Editor;
 

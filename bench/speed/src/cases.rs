@@ -15,6 +15,7 @@ pub enum Timed {
     Command(Vec<u8>),
     Star(u32),
     Euler,
+    Check,
     Write,
     Read,
     Script(Vec<u8>),
@@ -56,11 +57,12 @@ pub enum Row {
     Renumber,
     Star,
     Euler,
+    Check,
     Write,
     Read,
 }
 
-pub const ROWS: [(Row, &str); 21] = [
+pub const ROWS: [(Row, &str); 22] = [
     (Row::Vertex, "01 vertex"),
     (Row::OpenEdge, "02 open edge"),
     (Row::ClosedEdge, "03 closed edge"),
@@ -80,6 +82,7 @@ pub const ROWS: [(Row, &str); 21] = [
     (Row::Renumber, "0F renumber"),
     (Row::Star, "star"),
     (Row::Euler, "Euler"),
+    (Row::Check, "check"),
     (Row::Write, "write"),
     (Row::Read, "read"),
 ];
@@ -92,6 +95,7 @@ pub fn case(row: Row, size: Size) -> Case {
     let call = match row {
         Row::Star => Timed::Star(sheet.vertex),
         Row::Euler => Timed::Euler,
+        Row::Check => Timed::Check,
         Row::Write => Timed::Write,
         Row::Read => Timed::Read,
         _ => Timed::Command(command(row, &mut sheet)),

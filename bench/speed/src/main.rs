@@ -66,15 +66,17 @@ fn times(cores: &mut [Box<dyn Core>], effort: Effort) -> Result<Times, String> {
 }
 
 fn about(times: &Times, effort: Effort) {
-    println!("Every call asks question 1 first; a run of a script asks it once, before its first command. Each case is tried for");
+    println!("Every call asks question 1 first, which is all that check does; a run of a script asks it once, before its first command.");
     println!(
-        "{} ms, the cores in turn, one thread, {} calls (1 run of a script) between two readings of the clock; the fastest count.",
+        "Each case is tried for {} ms, the cores in turn, one thread, {} calls (1 run of a script) between two readings of the clock;",
         effort.time.as_millis(),
         measure::BATCH
     );
-    println!("Sizes are those of the drawing, or of the result where the command adds cells or steps.");
-    println!("State: both cores edit a drawing that is there, in place. Commands get copies made before the clock starts; star, Euler");
-    println!("and write read one drawing again and again, read replaces it. Buffers are made once and not cleared between calls.");
+    println!(
+        "the fastest count. Sizes are those of the drawing, or of the result where the command adds cells or steps."
+    );
+    println!("State: both cores edit a drawing that is there, in place. Commands get copies made before the clock starts; star, Euler,");
+    println!("check and write read one drawing again and again, read replaces it. Buffers are made once and not cleared between calls.");
     if times.cores.len() == 1 {
         println!("No proved core is linked (DAZOLBEI_LIB): plain alone.");
     }

@@ -32,6 +32,7 @@ pub fn measure(case: &Case, cores: &mut [Box<dyn Core>], effort: Effort) -> Resu
         Timed::Command(bytes) => (Call::Command(bytes), BATCH),
         Timed::Star(id) => (Call::Star(*id), BATCH),
         Timed::Euler => (Call::Euler, BATCH),
+        Timed::Check => (Call::Check, BATCH),
         Timed::Write => (Call::Write, BATCH),
         Timed::Read => (Call::Read(&file), BATCH),
         Timed::Script(script) => (Call::Script(script), 1),
@@ -76,6 +77,11 @@ fn accepted(core: &mut dyn Core, file: &[u8], call: Call) -> Result<(Vec<u32>, V
             let mut buffer = [0; 256];
             numbers.push(core.star(id, &mut buffer).0);
             told.extend(buffer);
+        }
+        Call::Check => {
+            let verdict = core.check();
+            numbers.push(u32::from(!verdict.sound));
+            told.push(verdict.visited);
         }
         _ => {
             let (number, value) = core.euler();

@@ -1,9 +1,10 @@
 //! Episodes of scripts: the ordinary core runs each command under the laws, another core runs the same scripts, and
-//! both must agree on every answer, file, star and Euler number.
+//! both must agree on every answer, file, star and Euler number, and on every verdict on a damaged drawing.
 
 use cores::{Core, Line, Ordinary, LONGEST_FILE};
-use plain::file_of;
+use plain::{file_of, Block, Verdict};
 
+use crate::damage;
 use crate::files;
 use crate::generator::{Generator, RENEWALS, THEMES};
 use crate::histogram::Histogram;
@@ -12,6 +13,9 @@ use crate::random::Random;
 
 /// Longest script: what the program `edit` takes.
 const LONGEST_SCRIPT: usize = 65_536;
+
+/// So many blocks are damaged after each script.
+const DAMAGED: usize = 5;
 
 /// After so many failures the campaign ends.
 const ENOUGH: usize = 10;
@@ -67,6 +71,7 @@ impl<'a> Campaign<'a> {
                 self.mutated(bytes);
             }
             self.calls();
+            self.damaged_blocks();
             if self.random.one_in(4) {
                 self.damaged_files();
             }
@@ -149,8 +154,12 @@ impl<'a> Campaign<'a> {
         Err(format!("file {} is not {} after script {}", hex(file), hex(&right), hex(script)))
     }
 
-    /// Star of some ids with several buffers, Euler, and write into a short buffer.
+    /// Star of some ids with several buffers, Euler, the soundness test, and write into a short buffer.
     fn calls(&mut self) {
+        let all = Verdict { sound: true, visited: self.model.drawing.cells.len() as u32 };
+        let lawful = self.model.check() == all;
+        let same = self.asked().is_none_or(|other| other.check() == all);
+        self.check(if lawful && same { Ok(()) } else { Err(format!("check is not {all:?}")) });
         let euler = self.model.euler();
         self.histogram.call("euler", euler.0);
         let lawful = euler == (0, laws::euler(&self.model.drawing));
@@ -166,7 +175,45 @@ impl<'a> Campaign<'a> {
         self.check(result);
     }
 
-    /// The other core, if star and Euler can be asked of it.
+    /// The soundness test of damaged blocks, and of their cells as bytes.
+    fn damaged_blocks(&mut self) {
+        for _ in 0..DAMAGED {
+            let (block, cause) = damage::damaged(&mut self.random, &self.model.drawing);
+            let verdict = self.model.check_block(&block);
+            self.histogram.verdict(cause, &block, verdict);
+            let result = laws::verdict(&block, verdict).and_then(|()| self.same_verdict(&block, verdict));
+            self.check(result.map_err(|what| format!("{what} ({cause}): {}", shown(&block))));
+            if let Some(drawing) = block.drawing() {
+                let result = self.judged(&file_of(&drawing));
+                self.check(result);
+            }
+        }
+    }
+
+    fn same_verdict(&mut self, block: &Block, verdict: Verdict) -> Result<(), String> {
+        let Some(other) = self.asked() else { return Ok(()) };
+        let got = other.check_block(block);
+        if got == verdict {
+            Ok(())
+        } else {
+            Err(format!("{got:?} is not {verdict:?}"))
+        }
+    }
+
+    /// The soundness test of bytes: a yes where they are a file, and only there.
+    fn judged(&mut self, bytes: &[u8]) -> Result<(), String> {
+        let verdict = self.model.check_file(bytes);
+        self.histogram.call("check", if verdict.is_some() { 0 } else { 10 });
+        let lawful = plain::read(bytes).is_ok() == verdict.is_some_and(|verdict| verdict.sound);
+        let same = self.asked().is_none_or(|other| other.check_file(bytes) == verdict);
+        if lawful && same {
+            Ok(())
+        } else {
+            Err(format!("check is not {verdict:?}: {}", hex(bytes)))
+        }
+    }
+
+    /// The other core, if the calls that read can be asked of it.
     fn asked(&mut self) -> Option<&mut dyn Core> {
         match &mut self.other {
             Some(other) if other.has_queries() => Some(&mut **other),
@@ -231,8 +278,13 @@ impl<'a> Campaign<'a> {
         for _ in 0..4 {
             let file = files::damaged(&mut self.random, &drawing);
             self.open(&file);
+            let result = self.judged(&file);
+            self.check(result);
         }
-        self.open(&files::overlong(&drawing));
+        let overlong = files::overlong(&drawing);
+        self.open(&overlong);
+        let result = self.judged(&overlong);
+        self.check(result);
         self.open(&file_of(&drawing));
     }
 
@@ -285,6 +337,19 @@ fn hex(bytes: &[u8]) -> String {
     let mut text: String = bytes.iter().take(SHOWN).map(|byte| format!("{byte:02x}")).collect();
     if bytes.len() > SHOWN {
         text += &format!(".. ({} bytes)", bytes.len());
+    }
+    text
+}
+
+/// The numbers of a block's rows.
+fn shown(block: &Block) -> String {
+    let mut text = format!("next {}, {} cells", block.next, block.count);
+    for row in 0..block.count.min(256) {
+        let (ends, counts) = ((block.starts[row], block.ends[row]), (block.bends[row], block.counts[row]));
+        text += &format!(
+            "; {} {} {ends:?} {counts:?} {} {}",
+            block.ids[row], block.kinds[row], block.px[row], block.py[row]
+        );
     }
     text
 }

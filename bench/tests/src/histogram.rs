@@ -1,15 +1,19 @@
-//! Counts what was met: answers by kind and number, calls, and the largest drawings.
+//! Counts what was met: answers by kind and number, calls, verdicts by damage, and the largest drawings.
 
 use std::collections::BTreeMap;
 use std::fmt;
 
 use cores::Line;
-use plain::{decode, Command, Drawing, Shape, Sizes};
+use plain::{decode, Block, Command, Drawing, Shape, Sizes, Verdict};
+
+use crate::damage::DAMAGES;
 
 #[derive(Default)]
 pub struct Histogram {
     commands: BTreeMap<&'static str, [u64; 9]>,
     calls: BTreeMap<(&'static str, u32), u64>,
+    /// By damage: sound, then by how many cells were visited, as in [`VERDICTS`].
+    verdicts: BTreeMap<&'static str, [u64; 5]>,
     most: Sizes,
     full: Sizes,
     highest_id: u32,
@@ -25,6 +29,18 @@ impl Histogram {
     /// Counts another call.
     pub fn call(&mut self, name: &'static str, number: u32) {
         *self.calls.entry((name, number)).or_default() += 1;
+    }
+
+    /// Counts a verdict on a damaged block.
+    pub fn verdict(&mut self, damage: &'static str, block: &Block, verdict: Verdict) {
+        let column = match verdict.visited as usize {
+            _ if verdict.sound => 0,
+            0 => 1,
+            1 => 2,
+            visited if visited < block.count => 3,
+            _ => 4,
+        };
+        self.verdicts.entry(damage).or_default()[column] += 1;
     }
 
     /// Notes a drawing's sizes.
@@ -51,13 +67,19 @@ impl Histogram {
         self.commands.values().flatten().sum()
     }
 
-    /// Whether each kind was accepted and each of the questions 2 to 8 said no.
+    /// Whether each kind was accepted, each of the questions 2 to 8 said no, and so did the soundness test of each damage.
     pub fn complete(&self) -> bool {
+        let harmed = |name| self.verdicts.get(name).is_some_and(|row| row[1..].iter().any(|&count| count > 0));
         let kinds = self.commands.iter().filter(|(name, _)| **name != UNREADABLE);
         let refused = (2..=8).all(|number| self.commands.values().any(|row| row[number] > 0));
-        refused && kinds.clone().all(|(name, row)| row[0] > 0 || name.ends_with('?'))
+        refused
+            && DAMAGES.iter().all(|(name, _)| harmed(*name))
+            && kinds.clone().all(|(name, row)| row[0] > 0 || name.ends_with('?'))
     }
 }
+
+/// What a verdict is counted as.
+const VERDICTS: [&str; 5] = ["sound", "none", "first", "between", "last"];
 
 const UNREADABLE: &str = "unreadable";
 
@@ -109,6 +131,21 @@ fn numbered(drawing: &Drawing) -> bool {
     ids.eq(1..drawing.next)
 }
 
+impl Histogram {
+    fn show_verdicts(&self, f: &mut fmt::Formatter) -> fmt::Result {
+        write!(f, "\n\n{:<30}", "damage, by last cell visited")?;
+        VERDICTS.iter().try_for_each(|verdict| write!(f, "{verdict:>9}"))?;
+        for (name, row) in &self.verdicts {
+            write!(f, "\n{name:<30}")?;
+            row.iter().try_for_each(|count| write!(f, "{count:>9}"))?;
+        }
+        write!(f, "\n{:<30}", "all")?;
+        let all = |column: usize| self.verdicts.values().map(|row| row[column]).sum::<u64>();
+        (0..VERDICTS.len()).try_for_each(|column| write!(f, "{:>9}", all(column)))?;
+        write!(f, "\n\n")
+    }
+}
+
 impl fmt::Display for Histogram {
     fn fmt(&self, f: &mut fmt::Formatter) -> fmt::Result {
         write!(f, "{:<30}", "command, by number answered")?;
@@ -126,10 +163,11 @@ impl fmt::Display for Histogram {
         writeln!(f, "\n\n`?`: refused before the case was decided")?;
         write!(f, "other calls, by number:")?;
         self.calls.iter().try_for_each(|((name, number), count)| write!(f, "  {name} {number}: {count}"))?;
+        self.show_verdicts(f)?;
         let (most, full) = (self.most, self.full);
         writeln!(
             f,
-            "\nlargest drawings: {} cells, {} cycles, {} steps, {} bends, id {}",
+            "largest drawings: {} cells, {} cycles, {} steps, {} bends, id {}",
             most.cells, most.cycles, most.steps, most.bends, self.highest_id
         )?;
         writeln!(

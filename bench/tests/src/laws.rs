@@ -1,11 +1,11 @@
 //! What documents 01 and 02 say of every answer, asked by definitions of its own: refusals change nothing, ids are issued in
 //! turn and again only after a renumbering, which renames and changes nothing else; Euler numbers follow the shares, deletes
-//! take what rests on their target, stars are exact.
+//! take what rests on their target, stars are exact; the soundness test counts no cell, all cells, or some.
 
 use std::collections::{BTreeMap, BTreeSet};
 
 use cores::Line;
-use plain::{decode, Command, Cycle, Drawing, Halfedge, Shape};
+use plain::{decode, Block, Command, Cycle, Drawing, Halfedge, Shape, Verdict};
 
 type Law = Result<(), String>;
 
@@ -170,4 +170,21 @@ fn resting_on(drawing: &Drawing, cell: u32) -> BTreeSet<u32> {
 pub fn star(drawing: &Drawing, id: u32) -> Vec<u32> {
     let holding = drawing.cells.iter().filter(|cell| boundary(drawing, &cell.shape).contains(&id));
     holding.map(|cell| cell.id).collect()
+}
+
+/// The soundness test of a block: no cell is visited where the next id or the count is out of bounds, and only there on a no;
+/// all are on a yes. The walk over a drawing says the same, where one holds the cells as they stand.
+pub fn verdict(block: &Block, verdict: Verdict) -> Law {
+    let Verdict { sound, visited } = verdict;
+    let bounded = (1..=65_536).contains(&block.next) && block.count <= 256;
+    if bounded {
+        let least = if sound { block.count } else { 1 };
+        hold((least..=block.count).contains(&(visited as usize)), "the count of cells visited is wrong")?;
+    } else {
+        hold(verdict == Verdict { sound: false, visited: 0 }, "out of bounds, and not 0 visited")?;
+    }
+    match block.drawing() {
+        Some(drawing) => hold(plain::check(&drawing) == verdict, "the walk over the drawing says otherwise"),
+        None => hold(!sound, "sound without a drawing"),
+    }
 }

@@ -7,7 +7,7 @@ use std::process::ExitCode;
 
 use cores::{Core, Ordinary};
 use differ::campaign::Campaign;
-use differ::vectors;
+use differ::vectors::{self, Fault};
 
 #[derive(Default)]
 struct Tally {
@@ -63,8 +63,19 @@ fn try_vectors(folder: &Path, programs: &Path, tally: &mut Tally) -> io::Result<
         for mut other in cores::others() {
             tally.count(other.name(), &name, vectors::try_core(other.as_mut(), &name)?);
         }
+        for (line, fault) in vectors::faults(&name)?.iter().enumerate() {
+            try_fault(fault, &name.with_extension(format!("faults:{}", line + 1)), tally);
+        }
     }
     Ok(())
+}
+
+fn try_fault(fault: &Fault, name: &Path, tally: &mut Tally) {
+    tally.count("plain's walk", name, Some(fault.try_walk()));
+    tally.count("plain", name, Some(fault.try_core(&mut Ordinary::new())));
+    for mut other in cores::others().into_iter().filter(|other| other.has_queries()) {
+        tally.count(other.name(), name, Some(fault.try_core(other.as_mut())));
+    }
 }
 
 fn try_scripts(commands: u64, seed: u64, other: Option<&mut dyn Core>, tally: &mut Tally) {

@@ -1,10 +1,10 @@
 //! A sheet of the boundary register, edited by the proved core.
 //!
-//! The core is proved to do what document 01 and note 1 of document 02 say, whatever the bytes. This crate lends it a block of
+//! The core is proved to do what document 01 and notes 1 and 2 of document 02 say, whatever the bytes. This crate lends it a block of
 //! memory for each drawing and slices, and turns its numbers into Rust's types; it has no dependencies.
 //!
 //! ```
-//! use dazolbei::{Done, Question, Sheet};
+//! use dazolbei::{Done, Question, Sheet, Verdict};
 //!
 //! // Vertex 1 at zero, open edge 2 from 1 to 1, face 3 whose cycle is edge 2.
 //! let mut script = vec![0x01];
@@ -41,6 +41,11 @@
 //! let again = Sheet::open(&sheet.save())?;
 //! assert_eq!(again, sheet);
 //! assert_eq!(Sheet::open(&[0x01]), Err(Question::File));
+//!
+//! // Next id 3, faces 1 and 3 without cycles: no sound drawing's file. The second cell is at fault, its id is too high.
+//! let damaged = [0x03, 0x02, 0x01, 0x03, 0x00, 0x03, 0x03, 0x00];
+//! assert_eq!(Sheet::open(&damaged), Err(Question::File));
+//! assert_eq!(Sheet::check_file(&damaged)?, Verdict { sound: false, visited: 2 });
 //! # Ok::<(), Question>(())
 //! ```
 //!
@@ -180,6 +185,24 @@ pub struct Done {
     pub removed: u32,
 }
 
+/// What the soundness test says, as a call of its own.
+#[derive(Clone, Copy, Debug, PartialEq, Eq, Hash)]
+pub struct Verdict {
+    /// Whether the drawing is sound.
+    pub sound: bool,
+    /// How many cells were visited: all of a sound drawing; else none where the next id or the count of cells is out of bounds,
+    /// or those up to and with the first one at which a rule about it, or a ceiling on the totals so far, fails. Cells looked up
+    /// for another's sake are not counted.
+    pub visited: u32,
+}
+
+impl Verdict {
+    /// From the numbers of the core: 1 alone is sound.
+    fn new(sound: u32, visited: u32) -> Verdict {
+        Verdict { sound: sound == 1, visited }
+    }
+}
+
 /// A command of a script.
 #[derive(Clone, Copy, Debug, PartialEq, Eq, Hash)]
 pub struct Line {
@@ -257,6 +280,19 @@ impl Sheet {
         value
     }
 
+    /// The soundness test: a sheet is sound, and all its cells are visited.
+    pub fn check(&self) -> Verdict {
+        raw::block_check(&self.block)
+    }
+
+    /// The soundness test of cells in the form of a file, which need not be a sound drawing's; refused (10) where the bytes
+    /// are no such cells, or more than a sheet holds.
+    pub fn check_file(bytes: &[u8]) -> Result<Verdict, Question> {
+        let (number, verdict) = raw::check(bytes);
+        asked(number)?;
+        Ok(verdict)
+    }
+
     /// The drawing's file. A drawing has one file, so a sheet that was opened and not edited gives the very bytes again.
     pub fn save(&self) -> Vec<u8> {
         let mut file = vec![0; FILE_MOST];
@@ -313,6 +349,14 @@ mod tests {
         }
         for number in [11, 255, u32::MAX] {
             assert_eq!(asked(number), Err(Question::Unknown(number)));
+        }
+    }
+
+    #[test]
+    fn one_alone_is_sound() {
+        assert_eq!(Verdict::new(1, 3), Verdict { sound: true, visited: 3 });
+        for number in [0, 2, 257, u32::MAX] {
+            assert!(!Verdict::new(number, 3).sound);
         }
     }
 

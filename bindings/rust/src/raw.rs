@@ -2,6 +2,8 @@
 
 use std::mem::size_of;
 
+use crate::Verdict;
+
 /// The memory of one drawing, as C has it (`dz_sheet`). The caller owns it; any contents may be handed over, and those of no
 /// sound drawing get 1.
 ///
@@ -123,6 +125,7 @@ extern "C" {
         count: *mut u32,
     ) -> u32;
     fn dz_euler(file: *const u8, file_length: usize, value: *mut i32) -> u32;
+    fn dz_check(file: *const u8, file_length: usize, sound: *mut u32, visited: *mut u32) -> u32;
     fn dz_write(file: *const u8, file_length: usize, buffer: *mut u8, buffer_length: usize, count: *mut u32) -> u32;
     fn dz_run(
         file: *const u8,
@@ -161,6 +164,7 @@ on_block! {
     reads fn dz_block_rest(script: *const u8, script_length: usize) -> usize;
     reads fn dz_block_star(id: u32, buffer: *mut u32, buffer_length: usize, found: *mut u32) -> u32;
     reads fn dz_block_euler(value: *mut i32) -> u32;
+    reads fn dz_block_check(sound: *mut u32, visited: *mut u32);
     reads fn dz_block_write(buffer: *mut u8, buffer_length: usize, bytes: *mut u32) -> u32;
 }
 
@@ -278,6 +282,14 @@ pub fn block_euler(block: &Block) -> (u32, i32) {
     (number, value)
 }
 
+/// The soundness test of a block of any contents. A rule about a cell is here also that its kind is one, that places which the
+/// kind does not use are 0, and that its counts keep within the arrays.
+pub fn block_check(block: &Block) -> Verdict {
+    let (mut sound, mut visited) = (u32::MAX, u32::MAX);
+    ask!(dz_block_check, block, &mut sound, &mut visited);
+    Verdict::new(sound, visited)
+}
+
 /// The drawing's file, in the buffer's first places: number and count. Asks 1, 9; 9 gives the count too.
 pub fn block_write(block: &Block, buffer: &mut [u8]) -> (u32, usize) {
     let mut bytes = u32::MAX;
@@ -306,6 +318,16 @@ pub fn euler(file: &[u8]) -> (u32, i32) {
     // SAFETY: pointer and length of one slice, and a local.
     let number = unsafe { dz_euler(file.as_ptr(), file.len(), &mut value) };
     (number, value)
+}
+
+/// The soundness test of cells in the form of a file, which need not be a sound drawing's: number and verdict. The number is 0
+/// with a yes and with a no, and 10 where the bytes are no such cells, or more than a block holds; then no cell is visited.
+pub fn check(bytes: &[u8]) -> (u32, Verdict) {
+    let (mut sound, mut visited) = (u32::MAX, u32::MAX);
+    // SAFETY: pointer and length of one slice, and two locals.
+    let number = unsafe { dz_check(bytes.as_ptr(), bytes.len(), &mut sound, &mut visited) };
+    // Sound is only what was not refused.
+    (number, Verdict::new(if number == 0 { sound } else { 0 }, visited))
 }
 
 /// The file read and written again, in the buffer's first places: number and count. Asks 10, 9; 9 gives the count too.

@@ -1,7 +1,7 @@
 //! The C functions themselves: a no leaves the lent buffers as they were, and counts 0 save what 9 gives.
 
 use dazolbei::raw::{self, Block, Told};
-use dazolbei::Sheet;
+use dazolbei::{Question, Sheet, Verdict};
 
 /// Vertex 1 at zero and the loop 2 at it.
 fn file() -> Vec<u8> {
@@ -178,4 +178,73 @@ fn calls_on_blocks() {
     assert_eq!(write(&block(), n + 2), (0, n, [&file[..], &[77, 77]].concat()));
     assert_eq!(write(&block(), n - 1), (9, n, vec![77; n - 1]));
     assert_eq!(write(&damaged(), n), (1, 0, vec![77; n]));
+}
+
+fn verdict(sound: bool, visited: u32) -> Verdict {
+    Verdict { sound, visited }
+}
+
+#[test]
+fn checks_of_blocks() {
+    assert_eq!(raw::block_check(&block()), verdict(true, 2));
+    assert_eq!(raw::block_check(&Block::EMPTY), verdict(true, 0));
+    let checked = |damage: fn(&mut Block)| {
+        let mut bad = block();
+        damage(&mut bad);
+        let before = parts(&bad);
+        let told = raw::block_check(&bad);
+        assert_eq!(parts(&bad), before);
+        assert_eq!(raw::block_euler(&bad).0, u32::from(!told.sound));
+        (told.sound, told.visited)
+    };
+    assert_eq!(checked(|b| b.ids[2] = 1), (true, 2));
+    // The next id or the count is out of bounds.
+    assert_eq!(checked(|b| b.next = 0), (false, 0));
+    assert_eq!(checked(|b| b.next = 65_537), (false, 0));
+    assert_eq!(checked(|b| b.count = 257), (false, 0));
+    assert_eq!(checked(|b| b.count = usize::MAX), (false, 0));
+    // The first cell at fault is the last one visited.
+    assert_eq!(checked(|b| b.px[0] = f64::NAN), (false, 1));
+    assert_eq!(checked(|b| (b.py[0], b.ends[1]) = (f64::INFINITY, 9)), (false, 1));
+    assert_eq!(checked(|b| b.ends[1] = 9), (false, 2));
+    assert_eq!(checked(|b| b.ids[1] = 1), (false, 2));
+    assert_eq!(checked(|b| b.next = 2), (false, 2));
+    // The rules of a block: kinds, places that a kind does not use, counts within the arrays.
+    assert_eq!(checked(|b| b.kinds[1] = 4), (false, 2));
+    assert_eq!(checked(|b| b.counts[0] = 1), (false, 1));
+    assert_eq!(checked(|b| b.bends[1] = 2_048), (true, 2));
+    assert_eq!(checked(|b| b.bends[1] = 2_049), (false, 2));
+    assert_eq!(checked(|b| b.bends[1] = u32::MAX), (false, 2));
+}
+
+#[test]
+fn a_named_id_means_the_first_cell_that_has_it() {
+    // Loop 1 at vertex 2, and behind it closed edge 2, which is at fault; or loop 1 at closed edge 2, which is the first.
+    let mut bad = Box::new(Block::EMPTY);
+    (bad.next, bad.count, bad.starts[0], bad.ends[0]) = (9, 3, 2, 2);
+    bad.ids[..3].copy_from_slice(&[1, 2, 2]);
+    bad.kinds[..3].copy_from_slice(&[1, 0, 2]);
+    bad.bends[2] = 1;
+    assert_eq!(raw::block_check(&bad), verdict(false, 3));
+    bad.kinds[1..3].copy_from_slice(&[2, 0]);
+    bad.bends[1..3].copy_from_slice(&[1, 0]);
+    assert_eq!(raw::block_check(&bad), verdict(false, 1));
+}
+
+#[test]
+fn checks_of_bytes() {
+    let file = file();
+    let n = file.len();
+    assert_eq!(raw::check(&file), (0, verdict(true, 2)));
+    assert_eq!(raw::check(&[0x01, 0x00]), (0, verdict(true, 0)));
+    assert_eq!(raw::check(&[0x00, 0x00]), (0, verdict(false, 0)));
+    // The loop's end is a dead id.
+    let mut bad = file.clone();
+    bad[n - 2] = 0x07;
+    assert_eq!(raw::check(&bad), (0, verdict(false, 2)));
+    assert_eq!(Sheet::check_file(&bad), Ok(verdict(false, 2)));
+    for none in [&NO_FILE[..], &[], &file[..n - 1], &[&file[..], &[0x00]].concat()] {
+        assert_eq!(raw::check(none), (10, verdict(false, 0)));
+        assert_eq!(Sheet::check_file(none), Err(Question::File));
+    }
 }

@@ -3,7 +3,7 @@
 use std::collections::hash_map::DefaultHasher;
 use std::hash::{Hash, Hasher};
 
-use dazolbei::{Done, Line, Question, Sheet, FILE_MOST};
+use dazolbei::{Done, Line, Question, Sheet, Verdict, FILE_MOST};
 
 /// A vertex at (x, y).
 fn vertex(x: f64, y: f64) -> Vec<u8> {
@@ -83,6 +83,7 @@ fn saves() {
 #[test]
 fn files() {
     assert_eq!(Sheet::new().save(), [0x01, 0x00]);
+    assert_eq!(Sheet::new().check(), Verdict { sound: true, visited: 0 });
     let mut sheet = Sheet::default();
     sheet.run(&vertex(0.0, 0.0)).unwrap();
     let mut file = vec![0x02, 0x01, 0x01, 0x00];
@@ -125,6 +126,7 @@ fn ceilings() {
     assert_eq!(lines[255].answer, done(256, 1, 0));
     assert_eq!(lines[256].answer, Err(Question::Ceilings));
     assert_eq!(sheet.euler(), 256);
+    assert_eq!(sheet.check(), Verdict { sound: true, visited: 256 });
     assert!(sheet.save().len() <= FILE_MOST);
     let again = sheet.run(&[&[0x06, 0x01][..], &vertex(0.0, 0.0)].concat()).unwrap();
     assert_eq!(again[1].answer, done(257, 1, 0));

@@ -1,6 +1,7 @@
-//! Question 1 of a block, by the rules of document 01 and those of the block.
+//! Question 1 of a block, by the rules of document 01, note 2 of document 02 and those of the block.
 
 use dazolbei::raw::Block;
+use dazolbei::Verdict;
 
 fn in_bounds(x: f64) -> bool {
     (-1_048_576.0..=1_048_576.0).contains(&x)
@@ -75,15 +76,21 @@ fn sound_row(block: &Block, i: usize, left: &mut Left) -> bool {
     }
 }
 
-pub fn sound(block: &Block) -> bool {
+fn sound_id(block: &Block, i: usize) -> bool {
+    let before = if i == 0 { 0 } else { block.ids[i - 1] };
+    before < block.ids[i] && block.ids[i] < block.next
+}
+
+/// The soundness test, with the count of cells up to and with the first at fault.
+pub fn verdict(block: &Block) -> Verdict {
     if !(1..=65_536).contains(&block.next) || block.count > 256 {
-        return false;
-    }
-    let ids = &block.ids[..block.count];
-    let rise = ids.windows(2).all(|pair| pair[0] < pair[1]);
-    if !rise || ids.first() == Some(&0) || ids.last().is_some_and(|&last| last >= block.next) {
-        return false;
+        return Verdict { sound: false, visited: 0 };
     }
     let mut left = Left { cycles: &block.cycles, steps: &block.steps, bx: &block.bx, by: &block.by };
-    (0..block.count).all(|i| sound_row(block, i, &mut left))
+    let at_fault = (0..block.count).find(|&i| !sound_id(block, i) || !sound_row(block, i, &mut left));
+    Verdict { sound: at_fault.is_none(), visited: at_fault.map_or(block.count, |i| i + 1) as u32 }
+}
+
+pub fn sound(block: &Block) -> bool {
+    verdict(block).sound
 }

@@ -2,9 +2,9 @@
 //! stand between pages that may not be touched, first at their very end, then at their very beginning. Whether a block is
 //! sound is judged here a second time, by the rules of document 01 (`judge`).
 //!
-//! A damaged block gets 1 from every function that asks it, and stays byte for byte, the buffers too. One that is still sound
-//! is sound after every call and stays byte for byte with a no; what is written of it opens, and is written again as the same
-//! bytes.
+//! A damaged block gets 1 from every function that asks it, and stays byte for byte, the buffers too; the soundness test says
+//! no, and at which cell. One that is still sound is sound after every call and stays byte for byte with a no; what is written
+//! of it opens, and is written again as the same bytes.
 //!
 //! DAMAGE_ROUNDS: how many blocks (1,000,000, in a debug build 20,000). DAMAGE_SEED: where the random numbers start (1).
 
@@ -14,12 +14,12 @@ mod harm;
 mod judge;
 
 use dazolbei::raw::{self, Block, BLOCK_SIZE};
-use dazolbei::{FILE_MOST, LINE_WIDTH, STAR_MOST};
+use dazolbei::{Verdict, FILE_MOST, LINE_WIDTH, STAR_MOST};
 
 use commands::{command, script, SCRIPT_MOST};
 use guarded::Guarded;
 use harm::harm;
-use judge::sound;
+use judge::{sound, verdict};
 
 /// Random numbers (xorshift64*).
 pub struct Random(u64);
@@ -111,6 +111,7 @@ impl Rounds {
         let is_sound = sound(self.block());
         *(if is_sound { &mut self.got_none } else { &mut self.got_one }) += 1;
         self.euler(is_sound);
+        assert_eq!(raw::block_check(self.block()), verdict(self.block()));
         self.star(is_sound);
         self.write(is_sound);
         self.rest(is_sound);
@@ -232,7 +233,12 @@ impl Rounds {
         let lent = self.again.holding(&file, self.at_end);
         let block = self.block.block(self.at_end);
         let number = raw::block_open(block, lent);
+        // The soundness test of bytes says yes if they open, and only then.
+        let (refused, told) = raw::check(lent);
+        assert_eq!(told.sound, number == 0);
+        assert!(refused == 0 || (refused, told) == (10, Verdict { sound: false, visited: 0 }), "{refused}, {told:?}");
         if number == 0 {
+            assert_eq!(told, verdict(block));
             assert!(sound(block), "the opened block is sound");
             let again = self.file.bytes(count, self.at_end);
             assert_eq!(raw::block_write(block, again), (0, count));
