@@ -7,7 +7,7 @@ use mathlib.Core.List.{List, [], ◌∷◌}
 use lib.ListN.{length}
 use lib.Dec.{T, eqb, leb, leb→le}
 use Rattle.complex.specs.Lists.{cons_if, filter}
-use Rattle.complex.specs.Cells.{Figure, LiveCell, Sheet, cell_at, is_vertex, is_live_lem}
+use Rattle.complex.specs.Cells.{Figure, LiveCell, Sheet, cell_at, is_vertex, is_live}
 use Rattle.complex.specs.Edits.{rebuild}
 use Rattle.complex.specs.Sound.{ids_end, ceilings, cells_most, cycles_most, steps_most, bends_most}
 use Rattle.complex.specs.Decode.{Command}
@@ -44,7 +44,7 @@ module _ (d : Drawing) (w : T (sound_drawing d)) where
 
   pub next_in_lem : d.next ≤ ids_end
   unfolding sheet_of
-  next_in_lem = leb→le d.next ids_end sound_in.in_ids_lem
+  next_in_lem = leb→le d.next ids_end sound_in.in_ids
 
 -- the kind in the row of an id
 pub kind_vertex : (d : Drawing) → Sizes d → T (sound_drawing d) → (ix : Index) → Indexes d ix → (v k : ℕ) → k ≡ index_value 4 d ix ix.kinds v
@@ -83,7 +83,7 @@ pub record Sized (d : Drawing) (z : Sizes d) (w : T (sound_drawing d)) (c : Comm
   pub more : Totals
   pub less : Totals
   pub passed : Passed (sheet_of d) c
-  pub new_is_lem : new_cells (sheet_of d) c ≡ new
+  pub new_is : new_cells (sheet_of d) c ≡ new
   pub change_is : change_of (sheet_of d) c ≡ more_less (sizes_by more) (sizes_by less)
   pub totals_are : totals ≡ totals_in d z (sound_fits d w) index indexes
   pub says : r ≡ late_no d.next new (changed_by (sizes_by totals) (more_less (sizes_by more) (sizes_by less)))
@@ -93,7 +93,7 @@ unfolding sizes_after sheet_of
 asked_of d z w c r k =
     record {
       passed = k.passed;
-      says = k.says ∙ ap₂ (late_no d.next) (sym k.new_is_lem)
+      says = k.says ∙ ap₂ (late_no d.next) (sym k.new_is)
           (ap₂ changed_by (ap sizes_by k.totals_are ∙ totals_are_lem d z (sound_fits d w) k.index k.indexes) (sym k.change_is));
     }
 
@@ -104,7 +104,7 @@ asked_still d w c p n f =
     record {
       passed = p;
       says = sym (ap₂ (λ (a b : Bool). cond a (cond b 0 8) 7)
-          (ap (λ (i : ℕ). leb i ids_end) (the_sum (sheet_of d).next n) ∙ true_of (leb (sheet_of d).next ids_end) (sound_in d w).in_ids_lem) f);
+          (ap (λ (i : ℕ). leb i ids_end) (the_sum (sheet_of d).next n) ∙ true_of (leb (sheet_of d).next ids_end) (sound_in d w).in_ids) f);
     }
   where
     the_sum : (a : ℕ) {b : ℕ} → b ≡ 0 → a + b ≡ a
@@ -185,7 +185,7 @@ module _ (d : Drawing) (z : Sizes d) (w : T (sound_drawing d)) (c : Command) (r 
       counts_done =
           let n = next_is in
           let r = removed_is in
-          let l = chosen_le (λ (x : LiveCell). not (is_live_lem (cell_at (sheet_of out) x.id))) (sheet_of d).cells in
+          let l = chosen_le (λ (x : LiveCell). not (is_live (cell_at (sheet_of out) x.id))) (sheet_of d).cells in
           let b = cells_before in
           let h = (sound_fits d w).cells in
           let k = go.cells in

@@ -59,7 +59,7 @@ module _ (d : Drawing) (z : Sizes d) (f : Fits d) (ix : Index) (x : Indexes d ix
         bend_sum = omega (arith, f.bends);
         cycle_sum = omega (arith, f.cycles);
         cycle_room = z.cycles;
-        step_sum_lem = omega (arith, f.steps);
+        step_sum = omega (arith, f.steps);
       }
 
   abbrev pub totals_in : Totals

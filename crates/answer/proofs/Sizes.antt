@@ -12,7 +12,7 @@ use Rattle.coordinate.specs.declared.Position.{Position}
 use Rattle.complex.specs.Lists.{total, one}
 use Rattle.complex.specs.Cells.{Halfedge, Cycle, lone, path, Figure, vertex, open_edge, closed_edge, face, LiveCell, Sheet, is_vertex, is_edge, cycles_of, steps_of}
 use Rattle.complex.specs.Cells.{cell_at}
-use Rattle.complex.specs.Sound.{cells_most, cycles_most, steps_most, bends_most, step_count_lem, cycles_in, steps_in, bends_in, over, ceilings}
+use Rattle.complex.specs.Sound.{cells_most, cycles_most, steps_most, bends_most, step_count, cycles_in, steps_in, bends_in, over, ceilings}
 use Rattle.complex.specs.Decode.{Command, create, move, delete, glue_vertices, glue_edges}
 use Rattle.complex.specs.Edits.{keep_ids, rebuild, as_it_is, rewired_cycle, rewired, same_vertex, others, in_place_of}
 use Rattle.complex.specs.Delete.{moved, goes, deleted}
@@ -141,7 +141,7 @@ module _ (r : ℕ → ℕ) (σ : Halfedge → List Halfedge) where
     length_spread [] = refl
     length_spread (x ∷ hs) = let a = fair x in let b = length_spread hs in let c = length-append (σ x) (spread σ hs) in omega arith
 
-    pub steps_cycle : (k : Cycle) → step_count_lem (rewired_cycle r σ k) + total d (steps_of k) ≡ step_count_lem k + total h (steps_of k)
+    pub steps_cycle : (k : Cycle) → step_count (rewired_cycle r σ k) + total d (steps_of k) ≡ step_count k + total h (steps_of k)
     steps_cycle (lone v) = refl
     steps_cycle (path hs) = length_spread hs
 
@@ -149,7 +149,7 @@ module _ (r : ℕ → ℕ) (σ : Halfedge → List Halfedge) where
     steps_rewired i (vertex p) = refl
     steps_rewired i (open_edge a b bs) = refl
     steps_rewired i (closed_edge bs) = refl
-    steps_rewired i (face ks) = total_by (rewired_cycle r σ) step_count_lem step_count_lem (λ (k : Cycle). total d (steps_of k))
+    steps_rewired i (face ks) = total_by (rewired_cycle r σ) step_count step_count (λ (k : Cycle). total d (steps_of k))
         (λ (k : Cycle). total h (steps_of k)) steps_cycle ks
 
     pub rewired_sizes : (s : Sheet) (p : ℕ → Bool) (us new : List Figure) → Without s p us → (c : Change) → Rewires s us new d h c

@@ -13,7 +13,7 @@ use Rattle.coordinate.specs.declared.Position.{Position}
 use Rattle.complex.specs.Lists.{is_empty, total, holds, places, one, rotated, without, chosen, distance}
 use Rattle.complex.specs.Cells.{Halfedge, Cycle, lone, path, Figure, vertex, open_edge, closed_edge, face, Sheet, is_edge, is_face, cycles_of, steps_of, along}
 use Rattle.complex.specs.Cells.{against, cell_at}
-use Rattle.complex.specs.Sound.{step_count_lem}
+use Rattle.complex.specs.Sound.{step_count}
 use Rattle.complex.specs.Decode.{cut_edge, cut_face_vertex, cut_face_open, cut_face_closed}
 use Rattle.complex.specs.Edits.{rebuild, every_id, replaced, same_vertex, others, in_place_of}
 use Rattle.complex.specs.Uses.{edge_use, step_use, uses_by}
@@ -45,7 +45,7 @@ unfolding question4 result face_cut_at sizes_after
 dot_sizes s S f p q =
     let ks = cycles_of (cell_at s f) in
     let a = length-append ks (one (lone s.next)) in
-    let b = total_append step_count_lem ks (one (lone s.next)) in
+    let b = total_append step_count ks (one (lone s.next)) in
     refaced_sizes s S f q.1 (ks ++ one (lone s.next)) (vertex p ∷ []) (change_of s (cut_face_vertex f p)) (omega arith)
 
 -- ---- 0D
@@ -57,15 +57,15 @@ round_sizes s S f bs ms q =
     let e = s.next in
     let there = (both (not (is_empty bs)) (places 0 ms (length ks)) q.2).1 in
     let a = length-append (without ms 0 ks) (one (path (one (along e)))) in
-    let b = total_append step_count_lem (without ms 0 ks) (one (path (one (along e)))) in
+    let b = total_append step_count (without ms 0 ks) (one (path (one (along e)))) in
     let c = length_left no_cycle ms ks there in
-    let d = total_left step_count_lem no_cycle ms ks there in
+    let d = total_left step_count no_cycle ms ks there in
     let n : length (chosen no_cycle ms ks) ≡ length ms = length-map ms _ in
     refaced_sizes s S f q.1 (without ms 0 ks ++ one (path (one (along e)))) (closed_edge bs ∷ face (path (one (against e)) ∷ chosen no_cycle ms ks) ∷ [])
     (change_of s (cut_face_closed f bs ms)) (omega arith)
 
 -- ---- 0C
-count_alone : (k : Cycle) → step_count_lem k ≡ length (steps_of k) + alone_in k
+count_alone : (k : Cycle) → step_count k ≡ length (steps_of k) + alone_in k
 count_alone (lone v) = refl
 count_alone (path hs) = omega arith
 
@@ -77,7 +77,7 @@ parted_length s t hs = sym (length-append (stretch s t hs) (remainder s t hs)) �
 abbrev bridge_of : ℕ → ℕ → ℕ → List Halfedge → List Halfedge → Cycle
 bridge_of e s1 s2 hs gs = path (rotated s1 hs ++ (along e ∷ (rotated s2 gs ++ one (against e))))
 
-bridge_steps : (e s1 s2 : ℕ) (hs gs : List Halfedge) → step_count_lem (bridge_of e s1 s2 hs gs) ≡ length hs + length gs + 2
+bridge_steps : (e s1 s2 : ℕ) (hs gs : List Halfedge) → step_count (bridge_of e s1 s2 hs gs) ≡ length hs + length gs + 2
 bridge_steps e s1 s2 hs gs =
     let a = length-append (rotated s1 hs) (along e ∷ (rotated s2 gs ++ one (against e))) in
     let b = length-append (rotated s2 gs) (one (against e)) in
@@ -88,15 +88,15 @@ bridge_steps e s1 s2 hs gs =
 -- y in the place of one cycle, and another goes
 one_for_two : (ks : List Cycle) (c1 c2 : ℕ) (y : Cycle) → c1 < length ks → c2 < length ks → (c1 ≡ c2 → ⊥)
     → (length (without (one c2) 0 (set ks c1 y)) + 1 ≡ length ks)
-    × (total step_count_lem (without (one c2) 0 (set ks c1 y)) + (step_count_lem (get_or ks c1 no_cycle) + step_count_lem (get_or ks c2 no_cycle))
-    ≡ total step_count_lem ks + step_count_lem y)
+    × (total step_count (without (one c2) 0 (set ks c1 y)) + (step_count (get_or ks c1 no_cycle) + step_count (get_or ks c2 no_cycle))
+    ≡ total step_count ks + step_count y)
 one_for_two ks c1 c2 y l1 l2 ne =
     let a = length-set ks c1 y in
     let l : c2 < length (set ks c1 y) = omega arith in
     let b = length_but_one no_cycle c2 (set ks c1 y) l in
-    let d = total_but_one step_count_lem no_cycle c2 (set ks c1 y) l in
-    let e = ap step_count_lem (get_or-set_other ks c1 c2 y no_cycle (λ z. ne (sym z))) in
-    let g = total_set step_count_lem ks c1 y no_cycle l1 in
+    let d = total_but_one step_count no_cycle c2 (set ks c1 y) l in
+    let e = ap step_count (get_or-set_other ks c1 c2 y no_cycle (λ z. ne (sym z))) in
+    let g = total_set step_count ks c1 y no_cycle l1 in
     (omega arith, omega arith)
 
 module _ (s : Sheet) (S : Sound s) (f c1 s1 c2 s2 : ℕ) (bs : List Position) (ms : List ℕ) (is_f : T (is_face (cell_at s f)))
@@ -121,9 +121,9 @@ module _ (s : Sheet) (S : Sound s) (f c1 s1 c2 s2 : ℕ) (bs : List Position) (m
       let there' : T (places 0 ms (length x)) = subst (λ (n : ℕ). T (places 0 ms n)) (sym (length-set ks c1 y)) there in
       let a = length-set ks c1 y in
       let b = length_left no_cycle ms x there' in
-      let d = total_left step_count_lem no_cycle ms x there' in
-      let e = ap (total step_count_lem) (chosen_set no_cycle ms ks c1 y h) in
-      let g = total_set step_count_lem ks c1 y no_cycle l1 in
+      let d = total_left step_count no_cycle ms x there' in
+      let e = ap (total step_count) (chosen_set no_cycle ms ks c1 y h) in
+      let g = total_set step_count ks c1 y no_cycle l1 in
       let i = count_alone k1 in
       let j = length-append P (one (against s.next)) in
       let k = length-append Q (one (along s.next)) in

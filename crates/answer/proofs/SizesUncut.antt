@@ -11,9 +11,9 @@ use lib.Dec.{T, eqb, leb}
 use borrow.Author.Tests.{ne_eqb, eqb-true, eqb-false, leb-true, leb-false}
 use Rattle.coordinate.specs.declared.Position.{Position}
 use Rattle.complex.specs.Lists.{total, one, without}
-use Rattle.complex.specs.Cells.{Halfedge, Cycle, lone, path, Figure, vertex, open_edge, closed_edge, face, Sheet, Look, is_open_lem, is_closed, is_edge, start_of, end_of}
+use Rattle.complex.specs.Cells.{Halfedge, Cycle, lone, path, Figure, vertex, open_edge, closed_edge, face, Sheet, Look, is_open, is_closed, is_edge, start_of, end_of}
 use Rattle.complex.specs.Cells.{bends_of, cycles_of, position_of, steps_of, same, head_of, cell_at}
-use Rattle.complex.specs.Sound.{Walk, cycle_ok, step_count_lem, cycles_in, steps_in, bends_in}
+use Rattle.complex.specs.Sound.{Walk, cycle_ok, step_count, cycles_in, steps_in, bends_in}
 use Rattle.complex.specs.Decode.{uncut}
 use Rattle.complex.specs.Edits.{same_vertex, in_place_of, others, neither}
 use Rattle.complex.specs.Uses.{ends_at, edge_use, lone_use, uses_by, Use, uses_of}
@@ -30,22 +30,22 @@ use Rattle.complex.proofs.UnglueVertex.{open_at}
 use Rattle.complex.proofs.UncutFaces.{Placed, placed_use, real_u, real_w, following_length, u_only, w_only, two_less, merged_cycles, rings_cycles}
 use Rattle.complex.proofs.UncutCycle.{Only, stretch_length, stretches_length, w_lt, distinct, Y_is, one_less, more_cycles_lem}
 use Rattle.complex.proofs.UncutVertex.{cycles_less, steps_less, lonely_less, lonely_same, real_ends, loop_gone, joint_gone}
-use Rattle.complex.proofs.Uncut.{Holds, is_lonely, is_loop, is_joint, is_two, is_one, is_rings, uncut_holds}
+use Rattle.complex.proofs.Uncut.{Holds, is_lonely, is_loop, is_joint, is_two, is_one_lem, is_rings, uncut_holds}
 use Rattle.answer.proofs.Sizes.{Asked6, each, shifts_sizes, sums_sizes, rewired_sizes, no_step_more, none_used}
 
 -- ---- cycles and their counts
 -- nothing left is a lone vertex
-left_count : (v : ℕ) (hs : List Halfedge) → step_count_lem (path_or v hs) ≡ length hs + alone_left (length hs)
+left_count : (v : ℕ) (hs : List Halfedge) → step_count (path_or v hs) ≡ length hs + alone_left (length hs)
 left_count v [] = refl
 left_count v (h ∷ hs) = rw (ne_eqb (suc (length hs)) 0 (λ e. omega arith)) (omega arith)
 
 -- a cycle with a step is a path
-step_count : (k : Cycle) (n : ℕ) → n < length (steps_of k) → step_count_lem k ≡ length (steps_of k)
-step_count (lone v) n l = absurd (omega arith)
-step_count (path hs) n l = refl
+step_count_lem : (k : Cycle) (n : ℕ) → n < length (steps_of k) → step_count k ≡ length (steps_of k)
+step_count_lem (lone v) n l = absurd (omega arith)
+step_count_lem (path hs) n l = refl
 
 -- ---- a ring in which a closed edge has one step
-walk_open : (look : Look) (u : ℕ) (hs : List Halfedge) (w n : ℕ) → Walk look u hs w → n < length hs → T (is_open_lem (look (get_or hs n no_step).edge))
+walk_open : (look : Look) (u : ℕ) (hs : List Halfedge) (w n : ℕ) → Walk look u hs w → n < length hs → T (is_open (look (get_or hs n no_step).edge))
 walk_open look u [] w n k l = absurd (omega arith)
 walk_open look u (h ∷ hs) w zero k l = k.0
 walk_open look u (h ∷ hs) w (suc n) k l = walk_open look (head_of look h) hs w n k.2 (omega arith)
@@ -68,7 +68,7 @@ ring_one s S e c x r only = go (leb (length (cycle_of_use (cell_at s) x)) 1) ref
         → j < length (steps_of k) → (get_or (steps_of k) j no_step).edge ≡ e
     edges (lone v) t l z j m = absurd (omega arith)
     edges (path hs) t l z j m = elim (joins_cases (cell_at s) hs t) [
-      | inl w ↦ absurd (apart (cell_at s e) c (subst (λ (i : ℕ). T (is_open_lem (cell_at s i))) z (walk_open (cell_at s) w.1.0 hs w.1.0 x.step w.1.1 l)))
+      | inl w ↦ absurd (apart (cell_at s e) c (subst (λ (i : ℕ). T (is_open (cell_at s i))) z (walk_open (cell_at s) w.1.0 hs w.1.0 x.step w.1.1 l)))
       | inr g ↦ ap (λ (h : Halfedge). h.edge) (ring_same (cell_at s) hs j x.step g m l) ∙ z
     ]
 
@@ -161,11 +161,11 @@ module _ (s : Sheet) (S : Sound s) (i : ℕ) where
       let m = path_or (head_of (cell_at s) u.halfedge) left in
       let ks' = set ks1 u.cycle m ++ without (one w.cycle) 0 ks2 in
       let cycles = merged_cycles s S i u w q E k n in
-      let s1 = total_append step_count_lem (set ks1 u.cycle m) (without (one w.cycle) 0 ks2) in
-      let s2 = total_set step_count_lem ks1 u.cycle m no_cycle ru.1 in
-      let s3 = total_but_one step_count_lem no_cycle w.cycle ks2 rw'.1 in
-      let s4 = step_count (get_or ks1 u.cycle no_cycle) u.step ru.2 in
-      let s5 = step_count (get_or ks2 w.cycle no_cycle) w.step rw'.2 in
+      let s1 = total_append step_count (set ks1 u.cycle m) (without (one w.cycle) 0 ks2) in
+      let s2 = total_set step_count ks1 u.cycle m no_cycle ru.1 in
+      let s3 = total_but_one step_count no_cycle w.cycle ks2 rw'.1 in
+      let s4 = step_count_lem (get_or ks1 u.cycle no_cycle) u.step ru.2 in
+      let s5 = step_count_lem (get_or ks2 w.cycle no_cycle) w.step rw'.2 in
       let s6 = following_length (cycle_of_use (cell_at s) u) u.step ru.2 in
       let s7 = following_length (cycle_of_use (cell_at s) w) w.step rw'.2 in
       let s8 = length-append (following (cell_at s) u) (following (cell_at s) w) in
@@ -186,11 +186,11 @@ module _ (s : Sheet) (S : Sound s) (i : ℕ) where
       let ks2 = cycles_of (cell_at s w.face) in
       let ks' = without (one u.cycle) 0 ks1 ++ without (one w.cycle) 0 ks2 in
       let cycles = rings_cycles s S i u w q E k n in
-      let s1 = total_append step_count_lem (without (one u.cycle) 0 ks1) (without (one w.cycle) 0 ks2) in
-      let s2 = total_but_one step_count_lem no_cycle u.cycle ks1 ru.1 in
-      let s3 = total_but_one step_count_lem no_cycle w.cycle ks2 rw'.1 in
-      let s4 = step_count (get_or ks1 u.cycle no_cycle) u.step ru.2 in
-      let s5 = step_count (get_or ks2 w.cycle no_cycle) w.step rw'.2 in
+      let s1 = total_append step_count (without (one u.cycle) 0 ks1) (without (one w.cycle) 0 ks2) in
+      let s2 = total_but_one step_count no_cycle u.cycle ks1 ru.1 in
+      let s3 = total_but_one step_count no_cycle w.cycle ks2 rw'.1 in
+      let s4 = step_count_lem (get_or ks1 u.cycle no_cycle) u.step ru.2 in
+      let s5 = step_count_lem (get_or ks2 w.cycle no_cycle) w.step rw'.2 in
       let s6 = ring_one s S i C u ru (u_only s S i u w q E k n) in
       let s7 = ring_one s S i C w rw' (w_only s S i u w q E k n) in
       let z = ap cell_bends at in
@@ -201,7 +201,7 @@ module _ (s : Sheet) (S : Sound s) (i : ℕ) where
       → Only s i u w → T (opposite u w) → u.face ≡ w.face → u.cycle ≡ w.cycle → Right (one_cycle u w)
   one_sizes a b bs at u w ru rw' L k ef ec =
       let E : T (is_edge (cell_at s i)) = rw at tt in
-      let o : T (is_open_lem (cell_at s i)) = rw at tt in
+      let o : T (is_open (cell_at s i)) = rw at tt in
       let ks = cycles_of (cell_at s u.face) in
       let hs = cycle_of_use (cell_at s) u in
       let X = following_to (cell_at s) u w in
@@ -212,9 +212,9 @@ module _ (s : Sheet) (S : Sound s) (i : ℕ) where
       let d = distinct s S i E o u w ru rw' L k ef ec in
       let lw = w_lt s S i E o u w ru rw' L k ef ec in
       let cycles = more_cycles_lem s S i E o u w ru rw' L k ef ec in
-      let s1 = total_append step_count_lem (set ks u.cycle x) (one y) in
-      let s2 = total_set step_count_lem ks u.cycle x no_cycle ru.1 in
-      let s3 = step_count (get_or ks u.cycle no_cycle) u.step ru.2 in
+      let s1 = total_append step_count (set ks u.cycle x) (one y) in
+      let s2 = total_set step_count ks u.cycle x no_cycle ru.1 in
+      let s3 = step_count_lem (get_or ks u.cycle no_cycle) u.step ru.2 in
       let s4 = stretches_length hs u.step w.step ru.2 lw d in
       let s5 = ap length (Y_is s S i E o u w ru rw' L k ef ec) in
       let s6 = left_count (head_of (cell_at s) u.halfedge) X ∙ ap (λ (n : ℕ). length X + alone_left n) (stretch_length hs u.step w.step ru.2 lw d) in
@@ -246,7 +246,7 @@ module _ (s : Sheet) (S : Sound s) (i : ℕ) where
       (λ (m : ℕ). others i m && neither x.edge y.edge m) (vertex p ∷ t ∷ t' ∷ [])
       (joined (cell_at s) (position_of (cell_at s i)) x y ∷ []) (joint_gone s S i p at x y e n k z t t' o.3 o'.3) (uncut_change s i (joint x y)) (omega arith)
   case_sizes c (is_two a b bs at u w q k n) = two_sizes a b bs at u w q k n
-  case_sizes c (is_one a b bs at u w ru rw' L k ef ec) = one_sizes a b bs at u w ru rw' L k ef ec
+  case_sizes c (is_one_lem a b bs at u w ru rw' L k ef ec) = one_sizes a b bs at u w ru rw' L k ef ec
   case_sizes c (is_rings bs at u w q k n) = ring_sizes bs at u w q k n
 
   pub uncut_sizes : Asked6 s (uncut i) → sizes_of (result s (uncut i)).cells ≡ sizes_after s (uncut i)

@@ -9,7 +9,7 @@ use lib.ListN.{length, replicate}
 use lib.Dec.{T}
 use Rattle.coordinate.specs.declared.Position.{Position}
 use Rattle.complex.specs.Cells.{Halfedge, Cycle, lone, path, Figure, vertex, open_edge, closed_edge, face, Sheet, is_vertex_or_edge, cell_at}
-use Rattle.complex.specs.Sound.{step_count_lem, cycles_in, steps_in, bends_in, over}
+use Rattle.complex.specs.Sound.{step_count, cycles_in, steps_in, bends_in, over}
 use Rattle.complex.specs.Decode.{unglue}
 use Rattle.complex.specs.Edits.{rebuild, every_id, same_vertex, in_place_of}
 use Rattle.complex.specs.Uses.{groups, edge_use, lone_use, step_use, ring_use, uses_by, earlier, on_uses}
@@ -22,7 +22,7 @@ use Rattle.complex.proofs.UnglueVertex.{ends_over}
 use Rattle.answer.proofs.Sizes.{Asked6, each, shifts_sizes, steps_cycle, no_step_more}
 
 -- ---- copies keep the steps
-steps_path : (e next n : ℕ) (k : Cycle) → step_count_lem (new_path e next n k) ≡ step_count_lem k
+steps_path : (e next n : ℕ) (k : Cycle) → step_count (new_path e next n k) ≡ step_count k
 steps_path e next n (lone v) = refl
 steps_path e next n (path hs) = go n hs
   where
@@ -30,10 +30,10 @@ steps_path e next n (path hs) = go n hs
     go n [] = refl
     go n (h ∷ hs) = ap suc (go (n + edge_use e h) hs)
 
-steps_ring : (e next n : ℕ) (k : Cycle) → step_count_lem (new_ring e next n k) ≡ step_count_lem k
+steps_ring : (e next n : ℕ) (k : Cycle) → step_count (new_ring e next n k) ≡ step_count k
 steps_ring e next n k = let a = steps_cycle same_vertex (in_place_of e (copy_of e next n) false) no_step_more no_step_more (λ h. refl) k in omega arith
 
-steps_lone : (v next n : ℕ) (k : Cycle) → step_count_lem (new_lone v next n k) ≡ step_count_lem k
+steps_lone : (v next n : ℕ) (k : Cycle) → step_count (new_lone v next n k) ≡ step_count k
 steps_lone v next n (lone w) = refl
 steps_lone v next n (path hs) = refl
 
@@ -52,14 +52,14 @@ copied_sizes s r n (closed_edge bs) k c = shifts_sizes s r (unglue_change n (som
 copied_sizes s r n (face ks) k c = absurd k
 
 module _ (s : Sheet) (S : Sound s) (i : ℕ) where
-  edge_copied : (t : Figure) → cell_at s i ≡ some t → (uses : Cycle → ℕ) (f : ℕ → Cycle → Cycle) → ((n : ℕ) (k : Cycle) → step_count_lem (f n k) ≡ step_count_lem k)
+  edge_copied : (t : Figure) → cell_at s i ≡ some t → (uses : Cycle → ℕ) (f : ℕ → Cycle → Cycle) → ((n : ℕ) (k : Cycle) → step_count (f n k) ≡ step_count k)
       → Copied s (rebuild every_id (on_uses uses f 0 s.cells) (replicate (uses_by uses s.cells - 1) t) s) (uses_by uses s.cells - 1) t
   edge_copied t at uses f same =
       let over' = uses_over uses f s S i t at in
       record {
         cells = over' each (λ n ks. refl);
         cycles = over' cycles_in (length_counting uses f);
-        steps = over' steps_in (total_counting uses f step_count_lem
+        steps = over' steps_in (total_counting uses f step_count
             same);
         bends = over' bends_in (λ n ks. refl);
       }
@@ -87,7 +87,7 @@ module _ (s : Sheet) (S : Sound s) (i : ℕ) where
       steps j (vertex r) = refl
       steps j (open_edge a b bs) = refl
       steps j (closed_edge bs) = refl
-      steps j (face ks) = total_counting (lone_use i) (new_lone i s.next) step_count_lem (steps_lone i s.next) (before j) ks
+      steps j (face ks) = total_counting (lone_use i) (new_lone i s.next) step_count (steps_lone i s.next) (before j) ks
 
       bends : (j : ℕ) (t : Figure) → bends_in (f j t) ≡ bends_in t
       bends j (vertex r) = refl

@@ -27,4 +27,4 @@ pub record Summed (bends counts : List ℕ) (n : ℕ) (cycles : List ℕ) : Type
   pub bend_sum : total (places_of 0) (take n bends) ≤ bends_most
   pub cycle_sum : total (places_of 0) (take n counts) ≤ cycles_most
   pub cycle_room : length cycles ≡ 512
-  pub step_sum_lem : total (places_of 1) (take (total (places_of 0) (take n counts)) cycles) ≤ steps_most
+  pub step_sum : total (places_of 1) (take (total (places_of 0) (take n counts)) cycles) ≤ steps_most

@@ -61,7 +61,7 @@ module _ (d : Drawing) (z : Sizes d) (w : T (sound_drawing d)) (x : Figure) (p :
         more = record { cells = 1; cycles = cycles_in x; steps = steps_in x; bends = bends_in x };
         less = record { cells = 0; cycles = 0; steps = 0; bends = 0 };
         passed = p;
-        new_is_lem = one_new_lem d x;
+        new_is = one_new_lem d x;
         change_is = one_more d x;
         totals_are = et;
         says = er;

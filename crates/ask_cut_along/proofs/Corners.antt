@@ -11,7 +11,7 @@ use lib.Seq.{length-take-le, get_or-take, get_or-drop}
 use Rattle.number.specs.Numbers.{read_number}
 use Rattle.number.proofs.Counted.{times_length}
 use Rattle.complex.specs.Lists.{is_empty, holds, places}
-use Rattle.complex.specs.Cells.{Halfedge, Cycle, Look, cell_at, is_open_lem, cycles_of}
+use Rattle.complex.specs.Cells.{Halfedge, Cycle, Look, cell_at, is_open, cycles_of}
 use Rattle.complex.specs.Cut.{no_cycle, no_step, corner_exists, cut_corners}
 use Rattle.answer.specs.declared.Totals.{Totals}
 use Rattle.answer.specs.Sizes.{sized, more_less, changed_by, alone_in}
@@ -32,7 +32,7 @@ use Rattle.rows_split.proofs.Places.{place_room, place_cycle}
 use Rattle.ask_cut_along.specs.Corners.{corner_on, corner_at, lone_count, cut_no, moved_fit}
 
 -- ---- a cycle in the arrays, and its corners
-module _ (look : Look) (ix : Index) (n : ℕ) (o : (i : ℕ) → eqb (value_at 4 (take n ix.ids) (take n ix.kinds) i) 1 ≡ is_open_lem (look i)) (steps : List ℕ)
+module _ (look : Look) (ix : Index) (n : ℕ) (o : (i : ℕ) → eqb (value_at 4 (take n ix.ids) (take n ix.kinds) i) 1 ≡ is_open (look i)) (steps : List ℕ)
     (z : length steps ≡ 2048) (at s : ℕ) where
   module _ (m : ℕ) (h : at + suc m ≤ 2048) where
     abbrev hs : List Halfedge
@@ -47,10 +47,10 @@ module _ (look : Look) (ix : Index) (n : ℕ) (o : (i : ℕ) → eqb (value_at 4
     step_is : s < suc m → get_or hs s no_step ≡ halfedge_of (get_or steps (at + s) 0)
     step_is k = get_or-map halfedge_of (take (suc m) (drop at steps)) s 0 ∙ ap halfedge_of (get_or-take (suc m) (drop at steps) s 0 k ∙ get_or-drop at steps s 0)
 
-    inside_is : (b : Bool) → ltb s (suc m) ≡ b → inside ≡ (ltb s (length hs) && is_open_lem (look (get_or hs s no_step).edge))
+    inside_is : (b : Bool) → ltb s (suc m) ≡ b → inside ≡ (ltb s (length hs) && is_open (look (get_or hs s no_step).edge))
     inside_is true e =
         ap₂ ◌&&◌ (ap (ltb s) (sym many))
-        (o (get_or steps (at + s) 0 / 2) ∙ ap (λ (x : Halfedge). is_open_lem (look x.edge)) (sym (step_is (ltb-true s (suc m) e))))
+        (o (get_or steps (at + s) 0 / 2) ∙ ap (λ (x : Halfedge). is_open (look x.edge)) (sym (step_is (ltb-true s (suc m) e))))
     inside_is false e = rw (many, e)
 
   pub corner_is : (m : ℕ) → at + width m ≤ 2048 → corner_in ix n m steps at s ≡ corner_exists look (cycle_of m (drop at steps)) s

@@ -149,7 +149,7 @@ module _ (d : Drawing) (z : Sizes d) (ix : Index) (script : List ℕ) (f c1 s1 c
         more = record { cells = 2; cycles = 1; steps = 2; bends = bends };
         less = record { cells = 0; cycles = 0; steps = n; bends = 0 };
         passed = pass;
-        new_is_lem = one_new_lem (sheet_of d) f c1 s1 c2 s2 bs ms e;
+        new_is = one_new_lem (sheet_of d) f c1 s1 c2 s2 bs ms e;
         change_is = one_change (sheet_of d) f c1 s1 c2 s2 bs ms e bends n many en;
         totals_are = et;
         says = er;
@@ -168,7 +168,7 @@ module _ (d : Drawing) (z : Sizes d) (ix : Index) (script : List ℕ) (f c1 s1 c
         more = record { cells = 1; cycles = 0; steps = 2; bends = bends };
         less = record { cells = 0; cycles = 1; steps = n + m; bends = 0 };
         passed = pass;
-        new_is_lem = two_new (sheet_of d) f c1 s1 c2 s2 bs ms e;
+        new_is = two_new (sheet_of d) f c1 s1 c2 s2 bs ms e;
         change_is = two_change (sheet_of d) f c1 s1 c2 s2 bs ms e bends n m many en em;
         totals_are = et;
         says = er;

@@ -12,7 +12,7 @@ use lib.Dec.{eqb, ltb, leb}
 use borrow.Author.Tests.{ltb-true, eqb-true, eqb-false}
 use Rattle.coordinate.specs.declared.Position.{Position}
 use Rattle.coordinate.specs.Bounds.{middle}
-use Rattle.complex.specs.Cells.{Figure, vertex, open_edge, closed_edge, face, Look, Sheet, cell_at, is_closed, is_live_lem, bends_of, origin}
+use Rattle.complex.specs.Cells.{Figure, vertex, open_edge, closed_edge, face, Look, Sheet, cell_at, is_closed, is_live, bends_of, origin}
 use Rattle.complex.specs.Edits.{rebuild, others, rewired, same_vertex, in_place_of}
 use Rattle.complex.specs.Cut.{cut_place, cut_exists, bends_round, cut_figure, edge_cut}
 use Rattle.complex.specs.Decode.{cut_edge}
@@ -128,7 +128,7 @@ module _ (d : Drawing) (z : Sizes d) (e row base m q : ℕ) (c : EdgeCuts d e ro
       omega arith
 
   pub edge_small : e < ids_end
-  edge_small = live_id (sheet_of d) (sound_in d c.sound) e (ap is_live_lem (closed_figure (cell_at (sheet_of d) e) k))
+  edge_small = live_id (sheet_of d) (sound_in d c.sound) e (ap is_live (closed_figure (cell_at (sheet_of d) e) k))
 
   abbrev pub loop_step : ℕ → Figure → Figure
   loop_step = rewired same_vertex (in_place_of e (d.next + 1) false)

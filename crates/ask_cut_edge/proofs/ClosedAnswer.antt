@@ -7,7 +7,7 @@ use lib.Dec.{T, ltb}
 use borrow.Author.Tests.{lt-ltb, le-ltb}
 use Rattle.complex.specs.Lists.{total}
 use Rattle.store.specs.Edits.{places_of}
-use Rattle.complex.specs.Cells.{cell_at, is_open_lem, is_closed, is_live_lem, bends_of}
+use Rattle.complex.specs.Cells.{cell_at, is_open, is_closed, is_live, bends_of}
 use Rattle.complex.specs.Uses.{step_use, uses_by}
 use Rattle.complex.specs.Decode.{cut_edge}
 use Rattle.complex.specs.Commands.{question4, question5}
@@ -34,12 +34,12 @@ or_true true = refl
 or_true false = refl
 
 module _ (d : Drawing) (z : Sizes d) (w : T (sound_drawing d)) (e q : ℕ) (k : is_closed (cell_at (sheet_of d) e) ≡ true) where
-  pub closed_live : is_live_lem (cell_at (sheet_of d) e) ≡ true
-  closed_live = ap is_live_lem (closed_figure (cell_at (sheet_of d) e) k)
+  pub closed_live : is_live (cell_at (sheet_of d) e) ≡ true
+  closed_live = ap is_live (closed_figure (cell_at (sheet_of d) e) k)
 
   four : question4 (sheet_of d) (cut_edge e q) ≡ true
   unfolding question4
-  four = ap (λ (b : Bool). is_open_lem (cell_at (sheet_of d) e) || b) k ∙ or_true (is_open_lem (cell_at (sheet_of d) e))
+  four = ap (λ (b : Bool). is_open (cell_at (sheet_of d) e) || b) k ∙ or_true (is_open (cell_at (sheet_of d) e))
 
   five : question5 (sheet_of d) (cut_edge e q) ≡ ltb (q / 2) (length (bends_of (cell_at (sheet_of d) e)))
   unfolding question5
@@ -49,9 +49,9 @@ module _ (d : Drawing) (z : Sizes d) (w : T (sound_drawing d)) (e q : ℕ) (k : 
   unfolding new_cells
   new_are = ap new_by_cut (closed_figure (cell_at (sheet_of d) e) k)
 
-  change_is_lem : change_of (sheet_of d) (cut_edge e q) ≡ more_less (sized 1 0 0 0) (sized 0 0 0 (q % 2))
+  change_is : change_of (sheet_of d) (cut_edge e q) ≡ more_less (sized 1 0 0 0) (sized 0 0 0 (q % 2))
   unfolding change_of
-  change_is_lem = ap (cut_change (uses_by (step_use e) (sheet_of d).cells) q) (closed_figure (cell_at (sheet_of d) e) k)
+  change_is = ap (cut_change (uses_by (step_use e) (sheet_of d).cells) q) (closed_figure (cell_at (sheet_of d) e) k)
 
   module _ (ix : Index) (x : Indexes d ix) (row : ℕ) (er : row ≡ row_of e (take d.count ix.ids)) (m : ℕ) (em : m ≡ get_or ix.bends row 0) where
     counted : m ≡ length (bends_of (cell_at (sheet_of d) e))
@@ -67,7 +67,7 @@ module _ (d : Drawing) (z : Sizes d) (w : T (sound_drawing d)) (e q : ℕ) (k : 
       module _ (t : Totals) (et : t ≡ totals_in d z (sound_fits d w) ix x) (r : ℕ)
           (ro : r ≡ late_no d.next 2 (changed_by (sizes_by t) (more_less (sized 1 0 0 0) (sized 0 0 0 (q % 2))))) where
         pub asked : Asked d (cut_edge e q) r
-        asked = cut_asked d z w ix x t et e q 2 1 0 r four (five ∙ exists) new_are change_is_lem ro
+        asked = cut_asked d z w ix x t et e q 2 1 0 r four (five ∙ exists) new_are change_is ro
 
         pub closed_cuts : r ≡ 0 → (base : ℕ) → base ≡ total (places_of 0) (take row ix.bends) → EdgeCuts d e row base m q
         closed_cuts r0 base eb = found_cuts d z w ix x e row er closed_live q r asked r0 base m eb em (closed_exists (cell_at (sheet_of d) e) q k ∙ exists)

@@ -9,7 +9,7 @@ use lib.ListN.{length, get_or, take}
 use lib.Seq.{get_or-take, take-take}
 use lib.Dec.{T}
 use Rattle.complex.specs.Lists.{total}
-use Rattle.complex.specs.Cells.{vertex, cell_at, is_live_lem, bends_of, origin}
+use Rattle.complex.specs.Cells.{vertex, cell_at, is_live, bends_of, origin}
 use Rattle.complex.specs.Cut.{cut_exists}
 use Rattle.complex.specs.Decode.{cut_edge}
 use Rattle.complex.specs.Commands.{question4, question5, question6}
@@ -70,14 +70,14 @@ cut_asked d z w ix x t et e q k n u r four five new change says =
       more = record { cells = n; cycles = 0; steps = u; bends = 0 };
       less = record { cells = 0; cycles = 0; steps = 0; bends = q % 2 };
       passed = record { bytes = cut_bytes e q; four = four; five = five; six = cut_six d e q };
-      new_is_lem = new;
+      new_is = new;
       change_is = change;
       totals_are = et;
       says = says;
     })
 
 module _ (d : Drawing) (z : Sizes d) (w : T (sound_drawing d)) (ix : Index) (x : Indexes d ix) (e row : ℕ) (er : row ≡ row_of e (take d.count ix.ids))
-    (l : is_live_lem (cell_at (sheet_of d) e) ≡ true) where
+    (l : is_live (cell_at (sheet_of d) e) ≡ true) where
   pub row_below : row < 256
   row_below = let a = live_below d z w ix x e row er l in let b = (sound_fits d w).cells in omega arith
 

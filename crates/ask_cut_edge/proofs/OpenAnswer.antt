@@ -8,7 +8,7 @@ use lib.ListN.{length, get_or, take, drop, length-map, length-take}
 use lib.Dec.{T, eqb, leb}
 use borrow.Author.Tests.{le-leb, lt-leb}
 use Rattle.complex.specs.Lists.{total}
-use Rattle.complex.specs.Cells.{Halfedge, cell_at, is_open_lem, is_closed, is_live_lem, bends_of}
+use Rattle.complex.specs.Cells.{Halfedge, cell_at, is_open, is_closed, is_live, bends_of}
 use Rattle.complex.specs.Uses.{edge_use, step_use, uses_by}
 use Rattle.complex.specs.Decode.{cut_edge}
 use Rattle.complex.specs.Commands.{question4, question5}
@@ -69,17 +69,17 @@ module _ (d : Drawing) (z : Sizes d) (w : T (sound_drawing d)) (ix : Index) (x :
         next_in = next_in_lem d w;
         small = rw et (totals_small d z f ix x);
         cycle_room = z.cycles;
-        step_room_lem = z.steps;
+        step_room = z.steps;
         cycles_in = rw cycles_are f.cycles;
         steps_in = rw cycles_are f.steps;
       }
 
-  module _ (e q : ℕ) (k : is_open_lem (cell_at (sheet_of d) e) ≡ true) where
+  module _ (e q : ℕ) (k : is_open (cell_at (sheet_of d) e) ≡ true) where
     pub uses_are : uses_by (step_use e) (sheet_of d).cells ≡ total (step_use e) (cycles_from (take t.cycles d.cycles) d.steps)
     uses_are = uses_held d z (sound_fits d w) (step_use e) ∙ ap (λ (n : ℕ). total (step_use e) (cycles_from (take n d.cycles) d.steps)) (sym cycles_are)
 
-    pub open_live : is_live_lem (cell_at (sheet_of d) e) ≡ true
-    open_live = ap is_live_lem (open_figure (cell_at (sheet_of d) e) k)
+    pub open_live : is_live (cell_at (sheet_of d) e) ≡ true
+    open_live = ap is_live (open_figure (cell_at (sheet_of d) e) k)
 
     four : question4 (sheet_of d) (cut_edge e q) ≡ true
     unfolding question4
@@ -93,10 +93,10 @@ module _ (d : Drawing) (z : Sizes d) (w : T (sound_drawing d)) (ix : Index) (x :
     unfolding new_cells
     new_are = ap new_by_cut (open_figure (cell_at (sheet_of d) e) k)
 
-    change_is_lem : change_of (sheet_of d) (cut_edge e q) ≡ more_less (sized 2 0 (total (step_use e) (cycles_from (take t.cycles d.cycles) d.steps)) 0)
+    change_is : change_of (sheet_of d) (cut_edge e q) ≡ more_less (sized 2 0 (total (step_use e) (cycles_from (take t.cycles d.cycles) d.steps)) 0)
         (sized 0 0 0 (q % 2))
     unfolding change_of
-    change_is_lem = ap (cut_change (uses_by (step_use e) (sheet_of d).cells) q) (open_figure (cell_at (sheet_of d) e) k)
+    change_is = ap (cut_change (uses_by (step_use e) (sheet_of d).cells) q) (open_figure (cell_at (sheet_of d) e) k)
         ∙ ap (λ (u : ℕ). more_less (sized 2 0 u 0) (sized 0 0 0 (q % 2))) uses_are
 
     module _ (row : ℕ) (er : row ≡ row_of e (take d.count ix.ids)) (m : ℕ) (em : m ≡ get_or ix.bends row 0) where
@@ -106,7 +106,7 @@ module _ (d : Drawing) (z : Sizes d) (w : T (sound_drawing d)) (ix : Index) (x :
       pub ends_found : (s f : ℕ) → s ≡ get_or ix.starts row 0 → f ≡ get_or ix.ends row 0 → OpenEnds d e s f
       ends_found s f es ef =
           record {
-            is_one_lem = k;
+            is_one = k;
             start = es ∙ read_row d z w ix x e row er open_live ix.starts ∙ (looks d z ix x w).starts e;
             end = ef ∙ read_row d z w ix x e row er open_live ix.ends ∙ (looks d z ix x w).ends e;
           }
@@ -122,7 +122,7 @@ module _ (d : Drawing) (z : Sizes d) (w : T (sound_drawing d)) (ix : Index) (x :
             (changed_by (sizes_by t) (more_less (sized 2 0 (total (step_use e) (cycles_from (take t.cycles d.cycles) d.steps)) 0)
             (sized 0 0 0 (q % 2))))) where
           pub asked : Asked d (cut_edge e q) r
-          asked = cut_asked d z w ix x t et e q 3 2 _ r four (five ∙ exists) new_are change_is_lem ro
+          asked = cut_asked d z w ix x t et e q 3 2 _ r four (five ∙ exists) new_are change_is ro
 
           pub open_cuts : r ≡ 0 → (base : ℕ) → base ≡ total (places_of 0) (take row ix.bends) → EdgeCuts d e row base m q
           open_cuts r0 base eb = found_cuts d z w ix x e row er open_live q r asked r0 base m eb em (open_exists (cell_at (sheet_of d) e) q k ∙ exists)

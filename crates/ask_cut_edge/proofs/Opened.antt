@@ -12,8 +12,8 @@ use borrow.Author.Tests.{ltb-true, ltb-false, leb-true, eqb-true, eqb-false, ne_
 use Rattle.coordinate.specs.declared.Position.{Position}
 use Rattle.coordinate.specs.Bounds.{within, middle}
 use Rattle.complex.specs.Lists.{one, all}
-use Rattle.complex.specs.Cells.{Figure, vertex, open_edge, closed_edge, face, LiveCell, Look, Sheet, cell_at, lookup, some_if, ids, is_vertex, is_open_lem, is_closed}
-use Rattle.complex.specs.Cells.{is_live_lem, start_of, end_of, bends_of, position_of, origin}
+use Rattle.complex.specs.Cells.{Figure, vertex, open_edge, closed_edge, face, LiveCell, Look, Sheet, cell_at, lookup, some_if, ids, is_vertex, is_open, is_closed}
+use Rattle.complex.specs.Cells.{is_live, start_of, end_of, bends_of, position_of, origin}
 use Rattle.complex.specs.Edits.{keep_ids, reshape, rebuild, others, rewired, same_vertex}
 use Rattle.complex.specs.Sound.{ids_end, steps_most, steps_in, over}
 use Rattle.complex.specs.Cut.{cut_place, cut_exists, bends_before, bends_after, in_two, cut_figure, edge_cut}
@@ -46,14 +46,14 @@ use Rattle.ask_cut_edge.proofs.Made.{made_room, made_is}
 use Rattle.ask_cut_edge.proofs.Closed.{bends_count, bend_at}
 use Rattle.answer.proofs.Asked.{sound_in}
 
-pub open_figure : (o : Option Figure) → is_open_lem o ≡ true → o ≡ some (open_edge (start_of o) (end_of o) (bends_of o))
+pub open_figure : (o : Option Figure) → is_open o ≡ true → o ≡ some (open_edge (start_of o) (end_of o) (bends_of o))
 open_figure none e = absurd (false≢true e)
 open_figure (some (vertex p)) e = absurd (false≢true e)
 open_figure (some (open_edge a b bs)) e = refl
 open_figure (some (closed_edge bs)) e = absurd (false≢true e)
 open_figure (some (face ks)) e = absurd (false≢true e)
 
-pub open_exists : (o : Option Figure) (q : ℕ) → is_open_lem o ≡ true → cut_exists o q ≡ leb (q / 2 + q % 2) (length (bends_of o))
+pub open_exists : (o : Option Figure) (q : ℕ) → is_open o ≡ true → cut_exists o q ≡ leb (q / 2 + q % 2) (length (bends_of o))
 open_exists o q e =
     ap (λ (c : Bool). cond (eqb (q % 2) 1 || c) (ltb (q / 2) (length (bends_of o))) (leb (q / 2) (length (bends_of o)))) (ap is_closed (open_figure o e))
     ∙ go (eqb (q % 2) 1) refl
@@ -168,12 +168,12 @@ module _ (d : Drawing) (z : Sizes d) (e row base m q : ℕ) (c : EdgeCuts d e ro
 
   pub place_below : q / 2 + q % 2 ≤ m
   place_below =
-      let a = leb-true (q / 2 + q % 2) (length (bends_of (cell_at (sheet_of d) e))) (sym (open_exists (cell_at (sheet_of d) e) q n.is_one_lem) ∙ c.exists) in
+      let a = leb-true (q / 2 + q % 2) (length (bends_of (cell_at (sheet_of d) e))) (sym (open_exists (cell_at (sheet_of d) e) q n.is_one) ∙ c.exists) in
       let b = bends_count d.bends (bends_of (cell_at (sheet_of d) e)) base m room_bends c.bends in
       omega arith
 
   pub edge_small : e < ids_end
-  edge_small = live_id (sheet_of d) (sound_in d c.sound) e (ap is_live_lem (open_figure (cell_at (sheet_of d) e) n.is_one_lem))
+  edge_small = live_id (sheet_of d) (sound_in d c.sound) e (ap is_live (open_figure (cell_at (sheet_of d) e) n.is_one))
 
   abbrev pub part_step : ℕ → Figure → Figure
   part_step = rewired same_vertex (in_two e (d.next + 1) (d.next + 2))
@@ -195,7 +195,7 @@ module _ (d : Drawing) (z : Sizes d) (e row base m q : ℕ) (c : EdgeCuts d e ro
         ≡ part_cells p first second
     cells_are =
         let o = cell_at (sheet_of d) e in
-        let a = ap (λ (x : Option Figure). cut_place (cell_at (sheet_of d)) x q) (sym (open_figure o n.is_one_lem)) ∙ sym ep.place in
+        let a = ap (λ (x : Option Figure). cut_place (cell_at (sheet_of d)) x q) (sym (open_figure o n.is_one)) ∙ sym ep.place in
         let b = sym (before_are d.bends (bends_of o) base m room_bends c.bends p q place_below) in
         let g = sym (after_are d.bends (bends_of o) base m room_bends c.bends p q) in
         let u = sym n.start in
@@ -208,7 +208,7 @@ module _ (d : Drawing) (z : Sizes d) (e row base m q : ℕ) (c : EdgeCuts d e ro
         let k : suc (suc d.next) ≡ d.next + 2 = omega arith in
         let j : suc d.next ≡ d.next + 1 = omega arith in
         let g = cells_are in
-        ap (cut_figure (sheet_of d) e q) (open_figure (cell_at (sheet_of d) e) n.is_one_lem)
+        ap (cut_figure (sheet_of d) e q) (open_figure (cell_at (sheet_of d) e) n.is_one)
         ∙ λ i. rebuild (others e) (rewired same_vertex (in_two e (j i) (k i))) (g i) (sheet_of d)
 
     pub parts_room : (u : Sheet) → u ≡ remade (others e) part_step (sheet_of d) → RoomIn u (part_cells p first second)
@@ -240,17 +240,17 @@ module _ (d : Drawing) (z : Sizes d) (e row base m q : ℕ) (c : EdgeCuts d e ro
         let r : over steps_in (result (sheet_of d) (cut_edge e q)).cells ≡ over steps_in (reshape part_step k) + 0 =
         ap (λ (t : Sheet). over steps_in t.cells) parts_are ∙ over_rebuild steps_in (others e) part_step (part_cells p first second) (sheet_of d) in
         let w = without_one e (open_edge (start_of (cell_at (sheet_of d) e)) (end_of (cell_at (sheet_of d) e)) (bends_of (cell_at (sheet_of d) e))) (sheet_of d)
-        (sound_in d c.sound) (open_figure (cell_at (sheet_of d) e) n.is_one_lem) steps_after in
+        (sound_in d c.sound) (open_figure (cell_at (sheet_of d) e) n.is_one) steps_after in
         let x = steps_by cs in
         let y = steps_by k in
         omega arith
 
 -- ---- the end vertices
-row_lives : (cs : List LiveCell) (i : ℕ) → is_live_lem (lookup cs i) ≡ true → row_of i (ids cs) < length cs
+row_lives : (cs : List LiveCell) (i : ℕ) → is_live (lookup cs i) ≡ true → row_of i (ids cs) < length cs
 row_lives [] i e = absurd (false≢true e)
 row_lives (x ∷ cs) i e = go (eqb x.id i) e (row_lives cs i)
   where
-    go : (b : Bool) → is_live_lem (some_if b x.figure (lookup cs i)) ≡ true → (is_live_lem (lookup cs i) ≡ true → row_of i (ids cs) < length cs)
+    go : (b : Bool) → is_live (some_if b x.figure (lookup cs i)) ≡ true → (is_live (lookup cs i) ≡ true → row_of i (ids cs) < length cs)
         → cond b 0 (suc (row_of i (ids cs))) < suc (length cs)
     go true h ih = omega arith
     go false h ih = let k = ih h in omega arith
@@ -261,12 +261,12 @@ place_figure (open_edge a b bs) = refl
 place_figure (closed_edge bs) = refl
 place_figure (face ks) = refl
 
-pub vertex_live_lem : (o : Option Figure) → T (is_vertex o) → is_live_lem o ≡ true
-vertex_live_lem none t = absurd t
-vertex_live_lem (some x) t = refl
+pub vertex_live : (o : Option Figure) → T (is_vertex o) → is_live o ≡ true
+vertex_live none t = absurd t
+vertex_live (some x) t = refl
 
 module _ (d : Drawing) (z : Sizes d) (w : T (sound_drawing d)) where
-  module _ (v row : ℕ) (er : row ≡ row_of v (ids (sheet_of d).cells)) (l : is_live_lem (cell_at (sheet_of d) v) ≡ true) where
+  module _ (v row : ℕ) (er : row ≡ row_of v (ids (sheet_of d).cells)) (l : is_live (cell_at (sheet_of d) v) ≡ true) where
     pub vertex_below : row < d.count
     vertex_below =
         let a = row_lives (sheet_of d).cells v l in
@@ -281,14 +281,14 @@ module _ (d : Drawing) (z : Sizes d) (w : T (sound_drawing d)) where
         ∙ ap position_of (ap (λ (k : ℕ). some (get_or (sheet_of d).cells k y).figure) er
         ∙ sym (row_lookup (sheet_of d).cells v y (row_lives (sheet_of d).cells v l)))
 
-  pub ends_live : (e : ℕ) → is_open_lem (cell_at (sheet_of d) e) ≡ true
-      → (is_live_lem (cell_at (sheet_of d) (start_of (cell_at (sheet_of d) e))) ≡ true) × (is_live_lem (cell_at (sheet_of d) (end_of (cell_at (sheet_of d) e))) ≡ true)
+  pub ends_live : (e : ℕ) → is_open (cell_at (sheet_of d) e) ≡ true
+      → (is_live (cell_at (sheet_of d) (start_of (cell_at (sheet_of d) e))) ≡ true) × (is_live (cell_at (sheet_of d) (end_of (cell_at (sheet_of d) e))) ≡ true)
   ends_live e k =
       let o = cell_at (sheet_of d) e in
       let t = (sound_in d w).figures e (open_edge (start_of o) (end_of o) (bends_of o)) (open_figure o k) in
       let a = both (is_vertex (cell_at (sheet_of d) (start_of o))) (is_vertex (cell_at (sheet_of d) (end_of o)) && all within (bends_of o)) t in
       let b = both (is_vertex (cell_at (sheet_of d) (end_of o))) (all within (bends_of o)) a.1 in
-      (vertex_live_lem (cell_at (sheet_of d) (start_of o)) a.0, vertex_live_lem (cell_at (sheet_of d) (end_of o)) b.0)
+      (vertex_live (cell_at (sheet_of d) (start_of o)) a.0, vertex_live (cell_at (sheet_of d) (end_of o)) b.0)
 
 -- ---- by the rows of the two ends
 module _ (d : Drawing) (z : Sizes d) (e row base m q : ℕ) (c : EdgeCuts d e row base m q) (s f : ℕ) (n : OpenEnds d e s f) (is : List ℕ)
@@ -300,18 +300,18 @@ module _ (d : Drawing) (z : Sizes d) (e row base m q : ℕ) (c : EdgeCuts d e ro
     start_row_lem : rs ≡ row_of (start_of (cell_at (sheet_of d) e)) (ids (sheet_of d).cells)
     start_row_lem = es ∙ ap₂ row_of n.start ei
 
-    end_row : re ≡ row_of (end_of (cell_at (sheet_of d) e)) (ids (sheet_of d).cells)
-    end_row = ef ∙ ap₂ row_of n.end ei
+    end_row_lem : re ≡ row_of (end_of (cell_at (sheet_of d) e)) (ids (sheet_of d).cells)
+    end_row_lem = ef ∙ ap₂ row_of n.end ei
 
-    lives : (is_live_lem (cell_at (sheet_of d) (start_of (cell_at (sheet_of d) e))) ≡ true) × (is_live_lem (cell_at (sheet_of d) (end_of (cell_at (sheet_of d) e))) ≡ true)
-    lives = ends_live d z c.sound e n.is_one_lem
+    lives : (is_live (cell_at (sheet_of d) (start_of (cell_at (sheet_of d) e))) ≡ true) × (is_live (cell_at (sheet_of d) (end_of (cell_at (sheet_of d) e))) ≡ true)
+    lives = ends_live d z c.sound e n.is_one
 
     pub start_below : rs < 256
     start_below = let h = vertex_below d z c.sound (start_of (cell_at (sheet_of d) e)) rs start_row_lem lives.0 in let g = (sound_fits d c.sound).cells in
         omega arith
 
     pub end_below : re < 256
-    end_below = let h = vertex_below d z c.sound (end_of (cell_at (sheet_of d) e)) re end_row lives.1 in let g = (sound_fits d c.sound).cells in
+    end_below = let h = vertex_below d z c.sound (end_of (cell_at (sheet_of d) e)) re end_row_lem lives.1 in let g = (sound_fits d c.sound).cells in
         omega arith
 
     placed_at : (p : Position) → p ≡ open_place (vertex_place (get_or d.cells rs no_cell).shape) (vertex_place (get_or d.cells re no_cell).shape)
@@ -323,9 +323,9 @@ module _ (d : Drawing) (z : Sizes d) (e row base m q : ℕ) (c : EdgeCuts d e ro
               ep
               ∙ open_place_is d.bends (bends_of o) base m (room_bends d z e row base m q c s f n) c.bends (cell_at (sheet_of d)) (start_of o) (end_of o) q
               (vertex_place (get_or d.cells rs no_cell).shape) (vertex_place (get_or d.cells re no_cell).shape)
-              (vertex_place_lem d z c.sound (start_of o) rs start_row_lem lives.0) (vertex_place_lem d z c.sound (end_of o) re end_row lives.1)
+              (vertex_place_lem d z c.sound (start_of o) rs start_row_lem lives.0) (vertex_place_lem d z c.sound (end_of o) re end_row_lem lives.1)
               (place_below d z e row base m q c s f n)
-              ∙ ap (λ (x : Option Figure). cut_place (cell_at (sheet_of d)) x q) (sym (open_figure o n.is_one_lem));
+              ∙ ap (λ (x : Option Figure). cut_place (cell_at (sheet_of d)) x q) (sym (open_figure o n.is_one));
         }
 
     cell_read : (k : ℕ) (y : Cell) → k < 256 → vertex_place (get_or d.cells k y).shape ≡ vertex_place (get_or d.cells k no_cell).shape

@@ -2,7 +2,7 @@
 use Rattle.std.specs.Prelude.{ℕ, ◌+◌, ◌-◌, ◌/◌, ◌%◌, ◌≤◌, ◌<◌, ◌≡◌, true, false, cond, List, length, get_or, take, T, eqb, ltb, leb}
 use Rattle.coordinate.specs.declared.Position.{Position}
 use Rattle.coordinate.specs.Bounds.{middle}
-use Rattle.complex.specs.Cells.{cell_at, ids, is_open_lem, start_of, end_of, bends_of, origin}
+use Rattle.complex.specs.Cells.{cell_at, ids, is_open, start_of, end_of, bends_of, origin}
 use Rattle.complex.specs.Sound.{ids_end, cycles_most, steps_most, ceilings}
 use Rattle.complex.specs.Cut.{cut_exists, cut_place}
 use Rattle.complex.specs.Decode.{cut_edge}
@@ -96,7 +96,7 @@ part_run p first count =
 
 -- e is an open edge from s to f
 pub record OpenEnds (d : Drawing) (e s f : ℕ) : Type 0 where
-  pub is_one_lem : is_open_lem (cell_at (sheet_of d) e) ≡ true
+  pub is_one : is_open (cell_at (sheet_of d) e) ≡ true
   pub start : s ≡ start_of (cell_at (sheet_of d) e)
   pub end : f ≡ end_of (cell_at (sheet_of d) e)
 
@@ -109,6 +109,6 @@ pub record CutCounted (cycles steps : List ℕ) (next : ℕ) (t : Totals) : Type
   pub next_in : next ≤ ids_end
   pub small : Small t
   pub cycle_room : length cycles ≡ 512
-  pub step_room_lem : length steps ≡ 2048
+  pub step_room : length steps ≡ 2048
   pub cycles_in : t.cycles ≤ cycles_most
   pub steps_in : width_sum (take t.cycles cycles) ≤ steps_most

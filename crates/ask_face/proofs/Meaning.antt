@@ -11,7 +11,7 @@ use lib.Seq.{take_all}
 use borrow.Author.Tests.{leb-true, leb-false, lt-leb}
 use Rattle.complex.specs.Lists.{all, total}
 use Rattle.complex.specs.Cells.{Halfedge, Cycle, lone, path, face, LiveCell, lookup, cell_at, is_edge}
-use Rattle.complex.specs.Sound.{ids_end, cells_most, cycles_most, bends_most, step_count_lem, cycle_ok}
+use Rattle.complex.specs.Sound.{ids_end, cells_most, cycles_most, bends_most, step_count, cycle_ok}
 use Rattle.complex.specs.Decode.{create, read_cycle}
 use Rattle.complex.specs.Commands.{question4, question5, question6, cycle_names}
 use Rattle.answer.specs.Sizes.{sized, nothing, more_less, changed_by}
@@ -28,14 +28,14 @@ use Rattle.store.specs.Places.{word, num_of, cycle_words}
 use Rattle.store.proofs.Encode.{halves}
 use Rattle.sound.specs.Rows.{Rows, rows_of, cycle_good}
 use Rattle.sound.specs.Soundness.{sound_drawing}
-use Rattle.sound.proofs.Parts.{is_vertex_lem, is_open, is_closed_lem, kind_row}
+use Rattle.sound.proofs.Parts.{is_vertex_lem, is_open_lem, is_closed_lem, kind_row_lem}
 use Rattle.sound.proofs.Rings.{cell_rows, cycles_right_lem}
 use Rattle.sound.proofs.Meaning.{sound_fits, looks, ids_are, kinds_are, starts_are, ends_are}
 use Rattle.decode_parts.specs.Lists.{cycles_read, Stand}
 use Rattle.script.proofs.Cycles.{reals_read}
 use Rattle.answer.specs.declared.Totals.{Totals}
 use Rattle.answer.specs.Late.{sizes_by, late_no}
-use Rattle.ask_face_named.specs.Walks.{Rowed, edge_in_lem, passes_in}
+use Rattle.ask_face_named.specs.Walks.{Rowed, edge_in, passes_in}
 use Rattle.ask_face.specs.Faces.{face_no}
 
 and_none : (b : Bool) → (b && true) ≡ b
@@ -48,13 +48,13 @@ all_alike p q h (x ∷ xs) = ap₂ ◌&&◌ (h x) (all_alike p q h xs)
 
 -- ---- of the cells' own rows
 module _ (xs : List LiveCell) where
-  edge_is : (e : ℕ) → edge_in_lem (cell_rows xs).ids (cell_rows xs).kinds e ≡ is_edge (lookup xs e)
-  edge_is e = ap₂ ◌||◌ (ap (λ (n : ℕ). eqb n 1) (kind_row xs e) ∙ is_open (lookup xs e)) (ap (λ (n : ℕ). eqb n 2) (kind_row xs e) ∙ is_closed_lem (lookup xs e))
+  edge_is : (e : ℕ) → edge_in (cell_rows xs).ids (cell_rows xs).kinds e ≡ is_edge (lookup xs e)
+  edge_is e = ap₂ ◌||◌ (ap (λ (n : ℕ). eqb n 1) (kind_row_lem xs e) ∙ is_open_lem (lookup xs e)) (ap (λ (n : ℕ). eqb n 2) (kind_row_lem xs e) ∙ is_closed_lem (lookup xs e))
 
   names_are : (k : Cycle) → passes_in (cell_rows xs) true k ≡ cycle_names (lookup xs) k
-  names_are (lone v) = ap (λ (n : ℕ). eqb n 0) (kind_row xs v) ∙ is_vertex_lem (lookup xs v)
+  names_are (lone v) = ap (λ (n : ℕ). eqb n 0) (kind_row_lem xs v) ∙ is_vertex_lem (lookup xs v)
   names_are (path hs) =
-      all_alike (λ (h : Halfedge). edge_in_lem (cell_rows xs).ids (cell_rows xs).kinds h.edge) (λ (h : Halfedge). is_edge (lookup xs h.edge))
+      all_alike (λ (h : Halfedge). edge_in (cell_rows xs).ids (cell_rows xs).kinds h.edge) (λ (h : Halfedge). is_edge (lookup xs h.edge))
       (λ h. edge_is h.edge) hs
 
   cycle_back : (k : Cycle) → real k ≡ true → cycle_of (num_of k) (cycle_words k) ≡ k
@@ -167,11 +167,11 @@ capped a m t e = ⊎_elim (λ p. few (leb-true t 2048 p)) (λ p. many (leb-false
     many : 2048 < t → leb (a + m - 0) 2048 ≡ leb (a + t - 0) 2048
     many h = lt-leb (a + m - 0) 2048 (omega arith) ∙ sym (lt-leb (a + t - 0) 2048 (omega arith))
 
-pub no_by_steps : (next : ℕ) (t : Totals) (r k m : ℕ) (ks : List Cycle) → k ≡ length ks → m ≡ min 2049 (total step_count_lem ks)
+pub no_by_steps : (next : ℕ) (t : Totals) (r k m : ℕ) (ks : List Cycle) → k ≡ length ks → m ≡ min 2049 (total step_count ks)
     → r ≡ late_no next 1 (changed_by (sizes_by t) (more_less (sized 1 k m 0) nothing))
-    → r ≡ late_no next 1 (changed_by (sizes_by t) (more_less (sized 1 (length ks) (total step_count_lem ks) 0) nothing))
+    → r ≡ late_no next 1 (changed_by (sizes_by t) (more_less (sized 1 (length ks) (total step_count ks) 0) nothing))
 no_by_steps next t r k m ks ek em q =
     q
     ∙ ap₂ (λ (c : ℕ) (b : Bool). cond (leb (next + 1) ids_end)
     (cond (leb (t.cells + 1 - 0) cells_most && (leb (t.cycles + c - 0) cycles_most && (b && leb (t.bends + 0 - 0) bends_most))) 0 8) 7)
-    ek (capped t.steps m (total step_count_lem ks) em)
+    ek (capped t.steps m (total step_count ks) em)

@@ -8,18 +8,18 @@ use lib.Dec.{eqb}
 use lib.ListN.{get_or}
 use borrow.Author.Tests.{eq-eqb, ne_eqb}
 use Rattle.complex.specs.Lists.{all}
-use Rattle.sound.specs.Rows.{Rows, row_in, tail_in, head_in, goes_on_lem, leads_in, joins_in}
+use Rattle.sound.specs.Rows.{Rows, row_in, tail_in, head_in, goes_on, leads_in, joins_in}
 
 -- ---- a walk
 module _ (t : Rows) where
-  goes_no : (u s k : ℕ) → k ≡ get_or t.kinds (row_in t s) 4 → (k ≡ 1 → ⊥) → false ≡ goes_on_lem t u s
+  goes_no : (u s k : ℕ) → k ≡ get_or t.kinds (row_in t s) 4 → (k ≡ 1 → ⊥) → false ≡ goes_on t u s
   goes_no u s k ek h = sym (ap (λ (b : Bool). b && eqb u (tail_in t s)) (ap (λ (n : ℕ). eqb n 1) (sym ek) ∙ ne_eqb k 1 h))
 
   module _ (u s : ℕ) (st : List ℕ) (w : ℕ) where
-    pub leads_no : goes_on_lem t u s ≡ false → false ≡ leads_in t u (s ∷ st) w
+    pub leads_no : goes_on t u s ≡ false → false ≡ leads_in t u (s ∷ st) w
     leads_no e = sym (ap (λ (b : Bool). b && leads_in t (head_in t s) st w) e)
 
-    pub leads_on : goes_on_lem t u s ≡ true → (v : ℕ) → v ≡ head_in t s → leads_in t v st w ≡ leads_in t u (s ∷ st) w
+    pub leads_on : goes_on t u s ≡ true → (v : ℕ) → v ≡ head_in t s → leads_in t v st w ≡ leads_in t u (s ∷ st) w
     leads_on e v ev = ap (λ (x : ℕ). leads_in t x st w) ev ∙ sym (ap (λ (b : Bool). b && leads_in t (head_in t s) st w) e)
 
   -- ---- the kind of the first step tells how a path is to join

@@ -18,13 +18,13 @@ use Rattle.store.specs.Places.{word}
 use Rattle.store.specs.Edits.{places_of}
 use Rattle.store.proofs.Lists.{places_of_some}
 use Rattle.store.proofs.Encode.{halves}
-use Rattle.sound.specs.Rows.{Rows, is_vertex_in, row_in, tail_in, head_in, goes_on_lem, leads_in, is_closed_in, joins_in, cycle_good}
+use Rattle.sound.specs.Rows.{Rows, is_vertex_in, row_in, tail_in, head_in, goes_on, leads_in, is_closed_in, joins_in, cycle_good}
 use Rattle.decode_parts.specs.Lists.{FieldAt, things_read, numbers_read, cycles_read, Reaches, Stand}
 use Rattle.decode_parts.proofs.Rest.{Leaves}
 use Rattle.decode_parts.proofs.Stands.{stand_length}
 use Rattle.script.proofs.Steps.{one_stands, reach_field, field_list, Asking, asking_stop, asking_turn}
 use Rattle.script.proofs.Cycles.{cycle_from, from_number, from_places, numbers_stand, cycle_is, cycle_reach}
-use Rattle.ask_face_named.specs.Walks.{Valued, Rowed, Walked, edge_in_lem, step_named, passes_in}
+use Rattle.ask_face_named.specs.Walks.{Valued, Rowed, Walked, edge_in, step_named, passes_in}
 use Rattle.ask_face_named.specs.declared.Walk.{Walk}
 use Rattle.ask_face_named.specs.declared.Walk.TheVariants.{To, No}
 use Rattle.ask_face_named.proofs.Walking.{first_no_lem, first_yes}
@@ -70,7 +70,7 @@ module _ (t : Rows) where
   lone_passes : (names : Bool) (ns : List ℕ) → is_vertex_in t.ids t.kinds (get_or ns 0 0) ≡ passes_in t names (cycle_from 0 ns)
   lone_passes names ns = same_both names (is_vertex_in t.ids t.kinds (get_or ns 0 0))
 
-  names_map : (ns : List ℕ) → all (step_named t.ids t.kinds) ns ≡ all (λ (h : Halfedge). edge_in_lem t.ids t.kinds h.edge) (map step_of ns)
+  names_map : (ns : List ℕ) → all (step_named t.ids t.kinds) ns ≡ all (λ (h : Halfedge). edge_in t.ids t.kinds h.edge) (map step_of ns)
   names_map [] = refl
   names_map (n ∷ ns) = ap (λ (b : Bool). step_named t.ids t.kinds n && b) (names_map ns)
 
@@ -139,7 +139,7 @@ or_true true = refl
 or_true false = refl
 
 module _ (t : Rows) where
-  goes_named : (u s : ℕ) → goes_on_lem t u s ≡ true → step_named t.ids t.kinds s ≡ true
+  goes_named : (u s : ℕ) → goes_on t u s ≡ true → step_named t.ids t.kinds s ≡ true
   goes_named u s e =
       let k = get_or t.kinds (row_in t s) 4 in
       ap (λ (b : Bool). b || eqb k 2) (both_true (eqb k 1) (eqb u (tail_in t s)) e).0
@@ -152,7 +152,7 @@ module _ (t : Rows) where
   leads_named : (u : ℕ) (ns : List ℕ) (w : ℕ) → leads_in t u ns w ≡ true → all (step_named t.ids t.kinds) ns ≡ true
   leads_named u [] w e = refl
   leads_named u (s ∷ ns) w e =
-      let p = both_true (goes_on_lem t u s) (leads_in t (head_in t s) ns w) e in
+      let p = both_true (goes_on t u s) (leads_in t (head_in t s) ns w) e in
       ap₂ ◌&&◌ (goes_named u s p.0) (leads_named (head_in t s) ns w p.1)
 
   same_named : (s : ℕ) (ns : List ℕ) → step_named t.ids t.kinds s ≡ true → all (eqb s) ns ≡ true → all (step_named t.ids t.kinds) ns ≡ true
@@ -182,7 +182,7 @@ module _ (t : Rows) where
   cycle_named (path (h ∷ hs)) e =
       let l = length-map (h ∷ hs) word in
       let w = take_all (suc (length hs)) (map word (h ∷ hs)) (omega arith) in
-      ap (all (λ (x : Halfedge). edge_in_lem t.ids t.kinds x.edge)) (sym (halves (h ∷ hs)))
+      ap (all (λ (x : Halfedge). edge_in t.ids t.kinds x.edge)) (sym (halves (h ∷ hs)))
       ∙ sym (names_map t (map word (h ∷ hs)))
       ∙ joins_named (map word (h ∷ hs)) (ap (joins_in t) (sym w) ∙ e)
 

@@ -23,8 +23,8 @@ module _ {A : Type 0} (p : A → Bool) (x : A) (xs : List A) where
 
 -- ---- an edge
 module _ (k : ℕ) where
-  pub edge_open_lem : k ≡ 1 → true ≡ (eqb k 1 || eqb k 2)
-  edge_open_lem e = sym (ap (λ (b : Bool). b || eqb k 2) (eq-eqb k 1 e))
+  pub edge_open : k ≡ 1 → true ≡ (eqb k 1 || eqb k 2)
+  edge_open e = sym (ap (λ (b : Bool). b || eqb k 2) (eq-eqb k 1 e))
 
   pub edge_other : (k ≡ 1 → ⊥) → eqb k 2 ≡ (eqb k 1 || eqb k 2)
   edge_other e = sym (ap (λ (b : Bool). b || eqb k 2) (ne_eqb k 1 e))

@@ -35,17 +35,17 @@ pub record Walked {A : Type 0} (r : List ℕ → Read A) (s : List ℕ) (at n : 
   pub says : walk_says r s at n b w
 
 -- whether the cell e is an edge, where is are the cells' ids and ks their kinds
-abbrev pub edge_in_lem : List ℕ → List ℕ → ℕ → Bool
-edge_in_lem is ks e = eqb (value_at 4 is ks e) 1 || eqb (value_at 4 is ks e) 2
+abbrev pub edge_in : List ℕ → List ℕ → ℕ → Bool
+edge_in is ks e = eqb (value_at 4 is ks e) 1 || eqb (value_at 4 is ks e) 2
 
 -- the edge of a step
 abbrev pub step_named : List ℕ → List ℕ → ℕ → Bool
-step_named is ks s = edge_in_lem is ks (s / 2)
+step_named is ks s = edge_in is ks (s / 2)
 
 -- 4: the cycle names vertices and edges
 abbrev pub names_in : List ℕ → List ℕ → Cycle → Bool
 names_in is ks (lone v) = is_vertex_in is ks v
-names_in is ks (path hs) = all (λ (h : Halfedge). edge_in_lem is ks h.edge) hs
+names_in is ks (path hs) = all (λ (h : Halfedge). edge_in is ks h.edge) hs
 
 -- 4, or 6: the cycle joins
 abbrev pub passes_in : Rows → Bool → Cycle → Bool

@@ -5,7 +5,7 @@ use mathlib.Core.Path.{◌≡◌, refl, sym, ap, ◌∙◌}
 use mathlib.Core.Bool.{Bool, true, false, not, ◌&&◌, ◌||◌, cond}
 use mathlib.Core.Option.{Option, none, some}
 use lib.Dec.{T, eqb, leb}
-use Rattle.complex.specs.Cells.{Figure, vertex, open_edge, closed_edge, face, cell_at, is_open_lem, is_closed, is_edge, is_live_lem, start_of, end_of}
+use Rattle.complex.specs.Cells.{Figure, vertex, open_edge, closed_edge, face, cell_at, is_open, is_closed, is_edge, is_live, start_of, end_of}
 use Rattle.complex.specs.Edits.{others, rewired, same_vertex, in_place_of}
 use Rattle.complex.specs.Glue.{glued_edges}
 use Rattle.complex.specs.Decode.{glue_edges}
@@ -24,19 +24,19 @@ use Rattle.store.specs.View.{sheet_of}
 use Rattle.sound.specs.Soundness.{sound_drawing}
 use Rattle.sound.specs.Looks.{index_value, kind_number}
 use Rattle.sound.proofs.Meaning.{looks}
-use Rattle.sound.proofs.Parts.{is_open, is_closed_lem}
+use Rattle.sound.proofs.Parts.{is_open_lem, is_closed_lem}
 use Rattle.answer.proofs.Asked.{sound_in, asked_six, asked_still}
 use Rattle.rows_gone.proofs.Dropped.{remade_rebuild, live_id}
 use Rattle.rows_new.specs.Appends.{remade}
 use Rattle.ask_glue.specs.Questions.{ends_meet, edges_no}
 use Rattle.ask_glue.proofs.Glued.{Glues}
 
-edge_live_lem : (o : Option Figure) → is_edge o ≡ true → is_live_lem o ≡ true
-edge_live_lem none e = e
-edge_live_lem (some (vertex p)) e = refl
-edge_live_lem (some (open_edge a b bs)) e = refl
-edge_live_lem (some (closed_edge bs)) e = refl
-edge_live_lem (some (face ks)) e = refl
+edge_live : (o : Option Figure) → is_edge o ≡ true → is_live o ≡ true
+edge_live none e = e
+edge_live (some (vertex p)) e = refl
+edge_live (some (open_edge a b bs)) e = refl
+edge_live (some (closed_edge bs)) e = refl
+edge_live (some (face ks)) e = refl
 
 -- the first no to 4, 5 and 6
 abbrev first_no : Bool → Bool → Bool → ℕ
@@ -45,10 +45,10 @@ first_no q4 q5 q6 = cond q4 (cond q5 (cond q6 0 6) 5) 4
 -- by the kinds that the index has
 by_kinds : (oa ob : Option Figure) (same : Bool) (flag : ℕ) (m : Bool)
     → edges_no (kind_number oa) (kind_number ob) same flag m
-    ≡ first_no (is_edge oa && is_edge ob) (leb flag 1) (not same && ((is_closed oa && is_closed ob) || (is_open_lem oa && (is_open_lem ob && m))))
+    ≡ first_no (is_edge oa && is_edge ob) (leb flag 1) (not same && ((is_closed oa && is_closed ob) || (is_open oa && (is_open ob && m))))
 by_kinds oa ob same flag m =
     let by : Bool → Bool → Bool → Bool → ℕ = λ p1 p2 q1 q2. first_no ((p1 || p2) && (q1 || q2)) (leb flag 1) (not same && ((p2 && q2) || (p1 && (q1 && m)))) in
-    λ i. by (is_open oa i) (is_closed_lem oa i) (is_open ob i) (is_closed_lem ob i)
+    λ i. by (is_open_lem oa i) (is_closed_lem oa i) (is_open_lem ob i) (is_closed_lem ob i)
 
 module _ (d : Drawing) (z : Sizes d) (w : T (sound_drawing d)) (a b flag : ℕ) where
   module _ (ix : Index) (x : Indexes d ix) (ka kb : ℕ) (meet : Bool) (r : ℕ) (ea : ka ≡ index_value 4 d ix ix.kinds a)
@@ -103,11 +103,11 @@ module _ (d : Drawing) (z : Sizes d) (w : T (sound_drawing d)) (a b flag : ℕ) 
         go true true false ep eq et = absurd (let h = by true true false ep eq et in omega arith)
         go true true true ep eq et = record { bytes = bytes; four = ep; five = eq; six = et }
 
-    both_live : Passed (sheet_of d) (glue_edges a b flag) → (is_live_lem (cell_at (sheet_of d) a) ≡ true) × (is_live_lem (cell_at (sheet_of d) b) ≡ true)
+    both_live : Passed (sheet_of d) (glue_edges a b flag) → (is_live (cell_at (sheet_of d) a) ≡ true) × (is_live (cell_at (sheet_of d) b) ≡ true)
     unfolding question4
     both_live p =
         let t = both_true (is_edge (cell_at (sheet_of d) a)) (is_edge (cell_at (sheet_of d) b)) p.four in
-        (edge_live_lem (cell_at (sheet_of d) a) t.0, edge_live_lem (cell_at (sheet_of d) b) t.1)
+        (edge_live (cell_at (sheet_of d) a) t.0, edge_live (cell_at (sheet_of d) b) t.1)
 
     none_new : new_cells (sheet_of d) (glue_edges a b flag) ≡ 0
     unfolding new_cells
@@ -122,12 +122,12 @@ module _ (d : Drawing) (z : Sizes d) (w : T (sound_drawing d)) (a b flag : ℕ) 
     unfolding result glued_edges
     glued_is = remade_rebuild (others b) (rewired same_vertex (in_place_of b a (eqb flag 1))) (sheet_of d)
 
-    pub glues_edges : r ≡ 0 → Glues d (glue_edges a b flag) b (rewired same_vertex (in_place_of b a (eqb flag 1))) × (is_live_lem (cell_at (sheet_of d) a) ≡ true)
+    pub glues_edges : r ≡ 0 → Glues d (glue_edges a b flag) b (rewired same_vertex (in_place_of b a (eqb flag 1))) × (is_live (cell_at (sheet_of d) a) ≡ true)
     glues_edges e =
         let p = glue_passed e in
         let l = both_live p in
         (record { asked = asked_still d w (glue_edges a b flag) p none_new (sizes_fit_lem p); live = l.1; is = glued_is }, l.0)
 
   -- a live id's steps are numbers
-  pub step_small : (i : ℕ) → is_live_lem (cell_at (sheet_of d) i) ≡ true → i < 2147483648
+  pub step_small : (i : ℕ) → is_live (cell_at (sheet_of d) i) ≡ true → i < 2147483648
   step_small i l = let h = live_id (sheet_of d) (sound_in d w) i l in omega arith

@@ -5,7 +5,7 @@ use mathlib.Core.Bool.{Bool, true, false}
 use mathlib.Core.List.{List}
 use lib.Dec.{T}
 use lib.ListN.{length, take, set, replicate}
-use Rattle.complex.specs.Cells.{Figure, cell_at, is_live_lem}
+use Rattle.complex.specs.Cells.{Figure, cell_at, is_live}
 use Rattle.complex.specs.Edits.{reshape, others}
 use Rattle.complex.specs.Decode.{Command}
 use Rattle.complex.specs.Commands.{result}
@@ -33,7 +33,7 @@ look_asks r = (r.few, (r.id_rows, (r.value_rows, r.rising)))
 -- the command c passes all questions, the cell b goes, and f changes the others
 pub record Glues (d : Drawing) (c : Command) (b : ℕ) (f : ℕ → Figure → Figure) : Type 0 where
   pub asked : Asked d c 0
-  pub live : is_live_lem (cell_at (sheet_of d) b) ≡ true
+  pub live : is_live (cell_at (sheet_of d) b) ≡ true
   pub is : remade (others b) f (sheet_of d) ≡ result (sheet_of d) c
 
 module _ (d : Drawing) (z : Sizes d) (w : T (sound_drawing d)) (c : Command) (b : ℕ) (f : ℕ → Figure

@@ -6,7 +6,7 @@ use mathlib.Core.Bool.{Bool, true, false, not, ◌&&◌, cond}
 use mathlib.Core.Option.{Option, none, some}
 use lib.Dec.{T, eqb}
 use Rattle.complex.specs.Lists.{one}
-use Rattle.complex.specs.Cells.{Figure, vertex, open_edge, closed_edge, face, cell_at, is_vertex, is_live_lem}
+use Rattle.complex.specs.Cells.{Figure, vertex, open_edge, closed_edge, face, cell_at, is_vertex, is_live}
 use Rattle.complex.specs.Edits.{others, rewired}
 use Rattle.complex.specs.Glue.{renamed, glued_vertices}
 use Rattle.complex.specs.Decode.{glue_vertices}
@@ -31,12 +31,12 @@ use Rattle.rows_gone.proofs.Dropped.{remade_rebuild}
 use Rattle.ask_glue.proofs.Glued.{Glues}
 use Rattle.ask_glue.specs.Questions.{vertices_no}
 
-pub vertex_live_lem : (o : Option Figure) → is_vertex o ≡ true → is_live_lem o ≡ true
-vertex_live_lem none e = e
-vertex_live_lem (some (vertex p)) e = refl
-vertex_live_lem (some (open_edge a b bs)) e = refl
-vertex_live_lem (some (closed_edge bs)) e = refl
-vertex_live_lem (some (face ks)) e = refl
+pub vertex_live : (o : Option Figure) → is_vertex o ≡ true → is_live o ≡ true
+vertex_live none e = e
+vertex_live (some (vertex p)) e = refl
+vertex_live (some (open_edge a b bs)) e = refl
+vertex_live (some (closed_edge bs)) e = refl
+vertex_live (some (face ks)) e = refl
 
 module _ (d : Drawing) (z : Sizes d) (w : T (sound_drawing d)) where
   module _ (a b : ℕ) (ix : Index) (x : Indexes d ix) (r : ℕ)
@@ -110,6 +110,6 @@ module _ (d : Drawing) (z : Sizes d) (w : T (sound_drawing d)) where
       let p = glue_passed a b ix x r er e in
       record {
         asked = asked_still d w (glue_vertices a b) p.0 (none_new a b p.0) (sizes_fit_lem a b p.0);
-        live = vertex_live_lem (cell_at (sheet_of d) b) p.1;
+        live = vertex_live (cell_at (sheet_of d) b) p.1;
         is = glued_is a b p.0;
       }

@@ -4,7 +4,7 @@ use mathlib.Core.Path.{◌≡◌, refl, ap, sym, ◌∙◌}
 use mathlib.Core.Bool.{Bool, true, false, cond, false≢true}
 use mathlib.Core.List.{List}
 use mathlib.Core.Option.{Option, none, some}
-use Rattle.complex.specs.Cells.{Figure, vertex, open_edge, closed_edge, face, LiveCell, Sheet, cell_at, is_vertex, is_open_lem, is_closed, is_vertex_or_edge}
+use Rattle.complex.specs.Cells.{Figure, vertex, open_edge, closed_edge, face, LiveCell, Sheet, cell_at, is_vertex, is_open, is_closed, is_vertex_or_edge}
 use Rattle.complex.specs.Uses.{passages_at, ends_at, lone_use, uses_by, uses_of}
 use Rattle.complex.specs.Uncut.{Uncut, uncut_vertex, uncut_open, uncut_closed, uncut_figure, uncut_case, allowed}
 use Rattle.complex.proofs.Every.{Every}
@@ -39,7 +39,7 @@ own_uses s S e =
     every_more (Real (cell_at s) e) (Own e) (λ u r. r.5) (uses_of s.cells e)
     (uses_real (cell_at s) e s.cells (own_cells (cell_at s) 0 s.cells s.next S.rises (λ i t q. q)))
 
-figure_open : (cs : List LiveCell) (e : ℕ) (o : Option Figure) → is_open_lem o ≡ true → uncut_figure cs e o ≡ uncut_open (uses_of cs e)
+figure_open : (cs : List LiveCell) (e : ℕ) (o : Option Figure) → is_open o ≡ true → uncut_figure cs e o ≡ uncut_open (uses_of cs e)
 figure_open cs e none q = absurd (false≢true q)
 figure_open cs e (some (vertex p)) q = absurd (false≢true q)
 figure_open cs e (some (open_edge a b bs)) q = refl
@@ -54,7 +54,7 @@ figure_closed cs e (some (closed_edge bs)) q = refl
 figure_closed cs e (some (face ks)) q = absurd (false≢true q)
 
 module _ (s : Sheet) (e : ℕ) (g : is_vertex_or_edge (cell_at s e) ≡ true) (x : Said Uncut) where
-  pub open_told : is_open_lem (cell_at s e) ≡ true → x ≡ uncut_said (uncut_open (uses_of s.cells e)) → x ≡ uncut_asked s e
+  pub open_told : is_open (cell_at s e) ≡ true → x ≡ uncut_said (uncut_open (uses_of s.cells e)) → x ≡ uncut_asked s e
   unfolding uncut_case
   open_told k q = q ∙ asked_said s e g _ (figure_open s.cells e (cell_at s e) k)
 

@@ -7,7 +7,7 @@ use lib.Dec.{T, eqb}
 use lib.ListN.{length, take}
 use borrow.Author.Tests.{eq-eqb, ne_eqb}
 use Rattle.complex.specs.Lists.{total}
-use Rattle.complex.specs.Cells.{cell_at, is_vertex, is_open_lem, is_closed, is_edge, is_vertex_or_edge}
+use Rattle.complex.specs.Cells.{cell_at, is_vertex, is_open, is_closed, is_edge, is_vertex_or_edge}
 use Rattle.complex.specs.Uses.{lone_use, uses_of}
 use Rattle.complex.proofs.Bools.{or_none}
 use Rattle.store.specs.declared.Drawing.{Drawing}
@@ -30,7 +30,7 @@ use Rattle.ask_uncut_ends.specs.Cases.{vertex_says, ends_case}
 use Rattle.ask_uncut.specs.Cases.{edge_says, EdgeSays, open_case, closed_case}
 use Rattle.ask_uncut.proofs.Deciding.{open_case_lem, closed_case_lem}
 use Rattle.law_uncut.proofs.Held.{cycle_places}
-use Rattle.ask_uncut_turns.proofs.Meaning.{rows_in_lem, rowed_is}
+use Rattle.ask_uncut_turns.proofs.Meaning.{rows_in, rowed_is}
 use Rattle.ask_uncut_ends.proofs.Meaning.{vertex_total}
 use Rattle.ask_uncut_uses.proofs.Meaning.{uses_are}
 use Rattle.ask_uncut.specs.Decided.{uncut_asked}
@@ -47,8 +47,8 @@ module _ (d : Drawing) (z : Sizes d) (w : T (sound_drawing d)) (ix : Index) (x :
         (rowed_is d f ix x (looks d z ix x w), (z.cycles, (z.steps, (omega (arith, f.cycles), rw e f.steps))))
 
     pub vertex_found : is_vertex (cell_at (sheet_of d) v) ≡ true → (c : AtVertex)
-        → vertex_says c ≡ ends_case (turns_in (rows_in_lem d ix) true v (cycles_from (take m d.cycles) d.steps))
-        (turns_in (rows_in_lem d ix) false v (cycles_from (take m d.cycles) d.steps))
+        → vertex_says c ≡ ends_case (turns_in (rows_in d ix) true v (cycles_from (take m d.cycles) d.steps))
+        (turns_in (rows_in d ix) false v (cycles_from (take m d.cycles) d.steps))
         (total (lone_use v) (cycles_from (take m d.cycles) d.steps))
         (two_ends (ends_in v (take d.count ix.ids) (take d.count ix.kinds) (take d.count ix.starts) (take d.count ix.ends)))
         → vertex_says c ≡ uncut_asked (sheet_of d) v
@@ -66,17 +66,17 @@ module _ (d : Drawing) (z : Sizes d) (w : T (sound_drawing d)) (ix : Index) (x :
     or_true true = refl
     or_true false = refl
 
-    is_one : is_vertex_or_edge (cell_at (sheet_of d) e) ≡ true
-    is_one = ap (λ (b : Bool). is_vertex (cell_at (sheet_of d) e) || b) g ∙ or_true (is_vertex (cell_at (sheet_of d) e))
+    is_one_lem : is_vertex_or_edge (cell_at (sheet_of d) e) ≡ true
+    is_one_lem = ap (λ (b : Bool). is_vertex (cell_at (sheet_of d) e) || b) g ∙ or_true (is_vertex (cell_at (sheet_of d) e))
 
     pub edge_found : (closed : Bool) → is_closed (cell_at (sheet_of d) e) ≡ closed → (c : AtEdge) → EdgeSays c (cond closed (closed_case u) (open_case u))
         → edge_says e c ≡ uncut_asked (sheet_of d) e
     edge_found true k c q =
-        closed_told (sheet_of d) e is_one (edge_says e c) k
+        closed_told (sheet_of d) e is_one_lem (edge_says e c) k
         (q e ∙ ap (λ (y : Uses). closed_case y e) uses_is ∙ closed_case_lem e (uses_of (sheet_of d).cells e) (own_uses (sheet_of d) (sound_in d w) e))
     edge_found false k c q =
-        open_told (sheet_of d) e is_one (edge_says e c)
-        (sym (or_none (is_open_lem (cell_at (sheet_of d) e))) ∙ ap (λ (b : Bool). is_open_lem (cell_at (sheet_of d) e) || b) (sym k) ∙ g)
+        open_told (sheet_of d) e is_one_lem (edge_says e c)
+        (sym (or_none (is_open (cell_at (sheet_of d) e))) ∙ ap (λ (b : Bool). is_open (cell_at (sheet_of d) e) || b) (sym k) ∙ g)
         (q e ∙ ap (λ (y : Uses). open_case y e) uses_is ∙ open_case_lem e (uses_of (sheet_of d).cells e) (own_uses (sheet_of d) (sound_in d w) e))
 
 -- ---- the kind of the cell i, by its number k
@@ -87,7 +87,7 @@ edge_number (suc (suc zero)) n h = refl
 edge_number (suc (suc (suc k))) n h = absurd (omega (arith, h))
 
 module _ (d : Drawing) (ix : Index) (L : Looks d ix) (i k : ℕ) (e : k ≡ index_value 4 d ix ix.kinds i) where
-  open_is : eqb k 1 ≡ is_open_lem (cell_at (sheet_of d) i)
+  open_is : eqb k 1 ≡ is_open (cell_at (sheet_of d) i)
   open_is = ap (λ (n : ℕ). eqb n 1) e ∙ open_at L i
 
   pub closed_is : eqb k 2 ≡ is_closed (cell_at (sheet_of d) i)

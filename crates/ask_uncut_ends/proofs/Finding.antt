@@ -11,7 +11,7 @@ use Rattle.complex.specs.Lists.{cons_if}
 use Rattle.complex.specs.Cells.{Halfedge, along, against}
 use Rattle.sound.proofs.Testing.{left_cons, left_none}
 use Rattle.ask_uncut_ends.specs.declared.Ends.{Ends}
-use Rattle.ask_uncut_ends.specs.Ends.{edge_ends, row_ends_lem, ends_in, no_ends, one_end, two_ends}
+use Rattle.ask_uncut_ends.specs.Ends.{edge_ends, row_ends, ends_in, no_ends, one_end, two_ends}
 
 -- ---- one end more
 module _ (x : Ends) (h : Halfedge) where
@@ -60,7 +60,7 @@ if_count true false x y = omega arith
 if_count false true x y = omega arith
 if_count false false x y = omega arith
 
-pub row_count : (v i k s e : ℕ) → length (row_ends_lem v i k s e) ≤ 2
+pub row_count : (v i k s e : ℕ) → length (row_ends v i k s e) ≤ 2
 row_count v i k s e = go (eqb k 1)
   where
     go : (b : Bool) → length (cond b (cons_if (eqb s v) (along i) (cons_if (eqb e v) (against i) [])) []) ≤ 2
@@ -78,10 +78,10 @@ edge_both x v i s e a r f g =
     g ∙ ap (λ (y : Ends). foldl one_end y (cons_if (eqb e v) (against i) [])) f ∙ if_both (eqb s v) (eqb e v) (along i) (against i) x
 
 module _ (x : Ends) (v i k s e : ℕ) where
-  pub row_open : k ≡ 1 → (r : Ends) → r ≡ foldl one_end x (edge_ends v i s e) → r ≡ foldl one_end x (row_ends_lem v i k s e)
+  pub row_open : k ≡ 1 → (r : Ends) → r ≡ foldl one_end x (edge_ends v i s e) → r ≡ foldl one_end x (row_ends v i k s e)
   row_open h r g = g ∙ sym (ap (λ (b : Bool). foldl one_end x (cond b (edge_ends v i s e) [])) (eq-eqb k 1 h))
 
-  pub row_none : (k ≡ 1 → ⊥) → x ≡ foldl one_end x (row_ends_lem v i k s e)
+  pub row_none : (k ≡ 1 → ⊥) → x ≡ foldl one_end x (row_ends v i k s e)
   row_none h = sym (ap (λ (b : Bool). foldl one_end x (cond b (edge_ends v i s e) [])) (ne_eqb k 1 h))
 
 -- ---- the rows: the ends of the first i are in x
@@ -97,10 +97,10 @@ module _ (v n : ℕ) (is ks ss es : List ℕ) where
   ending_start = record { few = omega arith; rest = refl }
 
   module _ (hi : n ≤ length is) (hk : n ≤ length ks) (hs : n ≤ length ss) (he : n ≤ length es) where
-    pub ending_turn : (x y : Ends) (i : ℕ) → i < n → Ending x i → y ≡ foldl one_end x (row_ends_lem v (get_or is i 0) (get_or ks i 0) (get_or ss i 0) (get_or es i 0))
+    pub ending_turn : (x y : Ends) (i : ℕ) → i < n → Ending x i → y ≡ foldl one_end x (row_ends v (get_or is i 0) (get_or ks i 0) (get_or ss i 0) (get_or es i 0))
         → Ending y (i + 1)
     ending_turn x y i h t e =
-        let r = row_ends_lem v (get_or is i 0) (get_or ks i 0) (get_or ss i 0) (get_or es i 0) in
+        let r = row_ends v (get_or is i 0) (get_or ks i 0) (get_or ss i 0) (get_or es i 0) in
         let c = ap (λ (z : Ends). z.count) e ∙ ends_count x r in
         let w = row_count v (get_or is i 0) (get_or ks i 0) (get_or ss i 0) (get_or es i 0) in
         let q = t.few in

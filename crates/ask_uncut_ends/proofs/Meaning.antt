@@ -17,24 +17,24 @@ use Rattle.store.specs.Index.{Indexes, kind_of, shape_start, shape_end}
 use Rattle.rows_uses.proofs.Dealing.{uses_held}
 use Rattle.sound.specs.Looks.{Looks}
 use Rattle.sound.proofs.Meaning.{ids_are, kinds_are, starts_are, ends_are}
-use Rattle.sound.proofs.Parts.{id_row, kind_row_lem, start_row, end_row_lem}
+use Rattle.sound.proofs.Parts.{id_row, kind_row, start_row, end_row}
 use Rattle.law_uncut.specs.Said.{uncut_said}
 use Rattle.ask_uncut_turns.specs.Turns.{turns_back, turns_in}
-use Rattle.ask_uncut_turns.proofs.Meaning.{rows_in_lem, turns_are}
-use Rattle.ask_uncut_ends.specs.Ends.{row_ends_lem, ends_in, two_ends}
+use Rattle.ask_uncut_turns.proofs.Meaning.{rows_in, turns_are}
+use Rattle.ask_uncut_ends.specs.Ends.{row_ends, ends_in, two_ends}
 use Rattle.ask_uncut_ends.specs.Cases.{ends_case}
 use Rattle.ask_uncut_ends.proofs.Deciding.{vertex_case}
 
 -- the ends of a row are those of its cell
-row_ends : (v i : ℕ) (t : Figure) → row_ends_lem v i (kind_of (shape_of t)) (shape_start (shape_of t)) (shape_end (shape_of t)) ≡ figure_ends v i t
-row_ends v i (vertex p) = refl
-row_ends v i (open_edge a b bs) = refl
-row_ends v i (closed_edge bs) = refl
-row_ends v i (face ks) = refl
+row_ends_lem : (v i : ℕ) (t : Figure) → row_ends v i (kind_of (shape_of t)) (shape_start (shape_of t)) (shape_end (shape_of t)) ≡ figure_ends v i t
+row_ends_lem v i (vertex p) = refl
+row_ends_lem v i (open_edge a b bs) = refl
+row_ends_lem v i (closed_edge bs) = refl
+row_ends_lem v i (face ks) = refl
 
-rows_ends : (v : ℕ) (cs : List LiveCell) → ends_in v (id_row cs) (kind_row_lem cs) (start_row cs) (end_row_lem cs) ≡ ends_at cs v
+rows_ends : (v : ℕ) (cs : List LiveCell) → ends_in v (id_row cs) (kind_row cs) (start_row cs) (end_row cs) ≡ ends_at cs v
 rows_ends v [] = refl
-rows_ends v (c ∷ cs) = ap₂ ◌++◌ (row_ends v c.id c.figure) (rows_ends v cs)
+rows_ends v (c ∷ cs) = ap₂ ◌++◌ (row_ends_lem v c.id c.figure) (rows_ends v cs)
 
 -- the ends at v
 pub all_ends : (d : Drawing) → Sizes d → Fits d → (ix : Index) → Indexes d ix → (v : ℕ)
@@ -42,7 +42,7 @@ pub all_ends : (d : Drawing) → Sizes d → Fits d → (ix : Index) → Indexes
     ≡ ends_at (sheet_of d).cells v
 all_ends d z f ix x v =
     ap₂ (λ (a b : List ℕ). ends_in v a b (take d.count ix.starts) (take d.count ix.ends)) (ids_are d z f ix x) (kinds_are d z f ix x)
-    ∙ ap₂ (λ (a b : List ℕ). ends_in v (id_row (sheet_of d).cells) (kind_row_lem (sheet_of d).cells) a b) (starts_are d z f ix x) (ends_are d z f ix x)
+    ∙ ap₂ (λ (a b : List ℕ). ends_in v (id_row (sheet_of d).cells) (kind_row (sheet_of d).cells) a b) (starts_are d z f ix x) (ends_are d z f ix x)
     ∙ rows_ends v (sheet_of d).cells
 
 -- the lone cycles of v
@@ -52,8 +52,8 @@ lones_are d z f v = sym (uses_held d z f (lone_use v))
 
 -- the case of a vertex
 pub vertex_is : (d : Drawing) → Sizes d → Fits d → (ix : Index) → Indexes d ix → Looks d ix → (v : ℕ)
-    → ends_case (turns_in (rows_in_lem d ix) true v (cycles_from (take (cycle_total d) d.cycles) d.steps))
-    (turns_in (rows_in_lem d ix) false v (cycles_from (take (cycle_total d) d.cycles) d.steps))
+    → ends_case (turns_in (rows_in d ix) true v (cycles_from (take (cycle_total d) d.cycles) d.steps))
+    (turns_in (rows_in d ix) false v (cycles_from (take (cycle_total d) d.cycles) d.steps))
     (total (lone_use v) (cycles_from (take (cycle_total d) d.cycles) d.steps))
     (two_ends (ends_in v (take d.count ix.ids) (take d.count ix.kinds) (take d.count ix.starts) (take d.count ix.ends)))
     ≡ uncut_said (uncut_vertex (passages_at (sheet_of d).cells v) (uses_by (lone_use v) (sheet_of d).cells) (ends_at (sheet_of d).cells v))
@@ -68,8 +68,8 @@ vertex_is d z f ix x k v =
 
 -- the same, for a number of cycles that the code has
 pub vertex_total : (d : Drawing) → Sizes d → Fits d → (ix : Index) → Indexes d ix → Looks d ix → (v m : ℕ) → m ≡ cycle_total d
-    → ends_case (turns_in (rows_in_lem d ix) true v (cycles_from (take m d.cycles) d.steps))
-    (turns_in (rows_in_lem d ix) false v (cycles_from (take m d.cycles) d.steps))
+    → ends_case (turns_in (rows_in d ix) true v (cycles_from (take m d.cycles) d.steps))
+    (turns_in (rows_in d ix) false v (cycles_from (take m d.cycles) d.steps))
     (total (lone_use v) (cycles_from (take m d.cycles) d.steps))
     (two_ends (ends_in v (take d.count ix.ids) (take d.count ix.kinds) (take d.count ix.starts) (take d.count ix.ends)))
     ≡ uncut_said (uncut_vertex (passages_at (sheet_of d).cells v) (uses_by (lone_use v) (sheet_of d).cells) (ends_at (sheet_of d).cells v))

@@ -9,8 +9,8 @@ abbrev pub edge_ends : ℕ → ℕ → ℕ → ℕ → List Halfedge
 edge_ends v i s e = cons_if (eqb s v) (along i) (cons_if (eqb e v) (against i) [])
 
 -- the ends at v of a row
-abbrev pub row_ends_lem : ℕ → ℕ → ℕ → ℕ → ℕ → List Halfedge
-row_ends_lem v i k s e = cond (eqb k 1) (edge_ends v i s e) []
+abbrev pub row_ends : ℕ → ℕ → ℕ → ℕ → ℕ → List Halfedge
+row_ends v i k s e = cond (eqb k 1) (edge_ends v i s e) []
 
 -- the ends at v of the rows
 abbrev pub ends_in : ℕ → List ℕ → List ℕ → List ℕ → List ℕ → List Halfedge
@@ -18,7 +18,7 @@ ends_in v [] ks ss es = []
 ends_in v (i ∷ is) [] ss es = []
 ends_in v (i ∷ is) (k ∷ ks) [] es = []
 ends_in v (i ∷ is) (k ∷ ks) (s ∷ ss) [] = []
-ends_in v (i ∷ is) (k ∷ ks) (s ∷ ss) (e ∷ es) = row_ends_lem v i k s e ++ ends_in v is ks ss es
+ends_in v (i ∷ is) (k ∷ ks) (s ∷ ss) (e ∷ es) = row_ends v i k s e ++ ends_in v is ks ss es
 
 abbrev pub no_ends : Ends
 no_ends = record { count = 0; one = 0; back1 = false; two = 0; back2 = false }

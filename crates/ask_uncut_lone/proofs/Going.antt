@@ -11,7 +11,7 @@ use lib.Seq.{get_or-take}
 use borrow.Author.Tests.{le-leb}
 use Rattle.coordinate.specs.declared.Position.{Position}
 use Rattle.complex.specs.Lists.{total, one, without}
-use Rattle.complex.specs.Cells.{Cycle, vertex, face, Sheet, cell_at, ids, is_face, is_live_lem}
+use Rattle.complex.specs.Cells.{Cycle, vertex, face, Sheet, cell_at, ids, is_face, is_live}
 use Rattle.complex.specs.Cells as cells
 use Rattle.complex.specs.Edits.{rebuild, neither, replaced}
 use Rattle.complex.specs.Sound.{ids_end, cells_most, cycles_most, steps_most, bends_most}
@@ -58,8 +58,8 @@ module _ (d : Drawing) (z : Sizes d) (w : T (sound_drawing d)) (v : ℕ) (e : un
       lone_parts (sheet_of d) v
       (subst (Holds (sheet_of d) v) e (uncut_holds (sheet_of d) (sound_in d w) v (truth (uncut_passed (sheet_of d) v lonely e refl).six)))
 
-  pub live : is_live_lem (cell_at (sheet_of d) v) ≡ true
-  live = ap is_live_lem parts.1
+  pub live : is_live (cell_at (sheet_of d) v) ≡ true
+  live = ap is_live parts.1
 
   module _ (ix : Index) (x : Indexes d ix) where
     -- ---- what the search asks
@@ -68,7 +68,7 @@ module _ (d : Drawing) (z : Sizes d) (w : T (sound_drawing d)) (v : ℕ) (e : un
       seeking =
           let k = summed d z (sound_fits d w) ix x in
           let s = k.cycle_sum in
-          let q = k.step_sum_lem in
+          let q = k.step_sum in
           let a = ap (λ (n : ℕ). width_sum (take n d.cycles)) em in
           let b = width_places (take (total (places_of 0) (take d.count ix.cycles)) d.cycles) in
           (z.cycles, (z.steps, (omega arith, omega arith)))
@@ -136,12 +136,12 @@ module _ (d : Drawing) (z : Sizes d) (w : T (sound_drawing d)) (v : ℕ) (e : un
           more = record { cells = 0; cycles = 0; steps = 0; bends = 0 };
           less = record { cells = 1; cycles = 1; steps = 1; bends = 0 };
           passed = uncut_passed (sheet_of d) v lonely e refl;
-          new_is_lem = uncut_new (sheet_of d) v lonely e;
+          new_is = uncut_new (sheet_of d) v lonely e;
           change_is = uncut_change_lem (sheet_of d) v lonely e;
           totals_are = refl;
           says =
               sym (ap₂ (λ (a b : Bool). cond a (cond b 0 8) 7) (le-leb (d.next + 0) ids_end (let n = next_in_lem d w in omega arith))
-              (fewer d.count _ _ _ (sound_fits d w).cells sums.cycle_sum sums.step_sum_lem sums.bend_sum));
+              (fewer d.count _ _ _ (sound_fits d w).cells sums.cycle_sum sums.step_sum sums.bend_sum));
         })
       where
         sums : Summed ix.bends ix.cycles d.count d.cycles

@@ -38,9 +38,9 @@ module _ (v : ℕ) where
       go true u ih = absurd (omega arith)
       go false u ih = ap (λ (l : List Cycle). k ∷ l) (ih (omega arith))
 
-  place_after : (ks r : List Cycle) → total (lone_use v) ks ≡ 0 → lone_place v (ks ++ r) ≡ length ks + lone_place v r
-  place_after [] r z = omega arith
-  place_after (k ∷ ks) r z = go (is_lone v k) (use_is k) (place_after ks r)
+  place_after_lem : (ks r : List Cycle) → total (lone_use v) ks ≡ 0 → lone_place v (ks ++ r) ≡ length ks + lone_place v r
+  place_after_lem [] r z = omega arith
+  place_after_lem (k ∷ ks) r z = go (is_lone v k) (use_is k) (place_after_lem ks r)
     where
       go : (b : Bool) → lone_use v k ≡ cond b 1 0 → (total (lone_use v) ks ≡ 0 → lone_place v (ks ++ r) ≡ length ks + lone_place v r)
           → cond b 0 (suc (lone_place v (ks ++ r))) ≡ suc (length ks) + lone_place v r
@@ -48,9 +48,9 @@ module _ (v : ℕ) where
       go false u ih = let e = ih (omega arith) in omega arith
 
   -- ---- cycles with one
-  place_in_lem : (ks r : List Cycle) → total (lone_use v) ks ≡ 1 → (lone_place v (ks ++ r) ≡ lone_place v ks) × (lone_place v ks < length ks)
-  place_in_lem [] r z = absurd (omega arith)
-  place_in_lem (k ∷ ks) r z = go (is_lone v k) (use_is k) (place_in_lem ks r)
+  place_in : (ks r : List Cycle) → total (lone_use v) ks ≡ 1 → (lone_place v (ks ++ r) ≡ lone_place v ks) × (lone_place v ks < length ks)
+  place_in [] r z = absurd (omega arith)
+  place_in (k ∷ ks) r z = go (is_lone v k) (use_is k) (place_in ks r)
     where
       go : (b : Bool) → lone_use v k ≡ cond b 1 0 → (total (lone_use v) ks ≡ 1 → (lone_place v (ks ++ r) ≡ lone_place v ks) × (lone_place v ks < length ks))
           → (cond b 0 (suc (lone_place v (ks ++ r))) ≡ cond b 0 (suc (lone_place v ks))) × (cond b 0 (suc (lone_place v ks)) < suc (length ks))
@@ -117,7 +117,7 @@ module _ (v : ℕ) where
     pub row_in : h.row < length cs
     pub above : lo < get_or (ids cs) h.row 0
     pub figure : lookup cs (get_or (ids cs) h.row 0) ≡ some (face cycles)
-    pub place_in : h.place < length cycles
+    pub place_in_lem : h.place < length cycles
     pub cells : (p : ℕ → Bool)
         → reshape (without_lone v) (keep_ids p cs) ≡ reshape (replaced (get_or (ids cs) h.row 0) (face (without (one h.place) 0 cycles))) (keep_ids p cs)
 
@@ -125,7 +125,7 @@ module _ (v : ℕ) where
   found_here : (lo i : ℕ) (ks : List Cycle) (cs : List LiveCell) (hi : ℕ) → T (rising lo (i ∷ ids cs) hi) → total (lone_use v) ks ≡ 1 → uses_by (lone_use v) cs ≡ 0
       → Found lo (record { id = i; figure = face ks } ∷ cs) (holding (length ks ∷ cycle_row cs) (lone_place v (ks ++ all_cycles cs)))
   found_here lo i ks cs hi r z w =
-      let q = place_in_lem ks (all_cycles cs) z in
+      let q = place_in ks (all_cycles cs) z in
       let b = parts (ltb lo i) (rising i (ids cs) hi) r in
       let l = ltb→lt lo i b.0 in
       let h : Held = record { row = 0; place = lone_place v ks } in
@@ -139,7 +139,7 @@ module _ (v : ℕ) where
         row_in = omega arith;
         above = l;
         figure = ap (λ (t : Bool). some_if t (face ks) (lookup cs i)) (eq-eqb i i refl);
-        place_in = q.1;
+        place_in_lem = q.1;
         cells = λ p.
             same_cell (without_lone v) (replaced i (face (without (one (lone_place v ks)) 0 ks))) p (record { id = i; figure = face ks }) cs
             (ap face (without_one ks z) ∙ ap (λ (t : Bool). cond t (face (without (one (lone_place v ks)) 0 ks)) (face ks)) (sym (eq-eqb i i refl)))
@@ -159,7 +159,7 @@ module _ (v : ℕ) where
         row_in = omega arith;
         above = omega arith;
         figure = ap (λ (t : Bool). some_if t c.figure (lookup cs f)) (ne_eqb c.id f (λ e. omega arith)) ∙ o.figure;
-        place_in = o.place_in;
+        place_in_lem = o.place_in_lem;
         cells = λ p.
             same_cell (without_lone v) (replaced f y) p c cs
             (quiet_figure c.id c.figure z ∙ ap (λ (t : Bool). cond t y c.figure) (sym (ne_eqb f c.id (λ e. omega arith))))
@@ -173,7 +173,7 @@ module _ (v : ℕ) where
       let n : suc h.row ≡ 1 + h.row = omega arith in
       let l : length ks + r - length ks ≡ r = omega arith in
       ap (λ (i : ℕ). record { row = i; place = h.place }) n ∙ ap (rows_on 1) (e ∙ ap (holding (cycle_row cs)) (sym l))
-      ∙ sym (ap (holding (length ks ∷ cycle_row cs)) (place_after ks (all_cycles cs) z)
+      ∙ sym (ap (holding (length ks ∷ cycle_row cs)) (place_after_lem ks (all_cycles cs) z)
       ∙ ap (λ (t : Bool). cond t (record { row = 0; place = length ks + r }) (rows_on 1 (holding (cycle_row cs) (length ks + r - length ks))))
       (le-ltb (length ks + r) (length ks) (omega arith)))
 

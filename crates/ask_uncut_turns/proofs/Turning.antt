@@ -22,9 +22,9 @@ use Rattle.sound.proofs.Walking.{room}
 use Rattle.ask_uncut_turns.specs.Turns.{side_in, leaves_in, turns_back, turns_at}
 
 -- ---- tests
-pub and_one : (b : Bool) → b && true ≡ b
-and_one true = refl
-and_one false = refl
+pub and_one_lem : (b : Bool) → b && true ≡ b
+and_one_lem true = refl
+and_one_lem false = refl
 
 pub and_none : (b : Bool) → b && false ≡ false
 and_none true = refl
@@ -90,7 +90,7 @@ module _ (h k : ℕ) where
 
 module _ (t : Rows) (whole : Bool) (v : ℕ) (q : Passage) where
   pub turns_then : turns_back whole q ≡ true → leaves_in t v q.leaves ≡ turns_at t whole v q
-  turns_then e = sym (ap (λ (b : Bool). leaves_in t v q.leaves && b) e ∙ and_one (leaves_in t v q.leaves))
+  turns_then e = sym (ap (λ (b : Bool). leaves_in t v q.leaves && b) e ∙ and_one_lem (leaves_in t v q.leaves))
 
   pub turns_not : turns_back whole q ≡ false → false ≡ turns_at t whole v q
   turns_not e = sym (ap (λ (b : Bool). leaves_in t v q.leaves && b) e ∙ and_none (leaves_in t v q.leaves))

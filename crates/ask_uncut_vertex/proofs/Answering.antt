@@ -9,9 +9,9 @@ use lib.Dec.{T, eqb, leb}
 use borrow.Author.Tests.{le-leb}
 use Rattle.coordinate.specs.declared.Position.{Position}
 use Rattle.complex.specs.Lists.{total}
-use Rattle.complex.specs.Cells.{open_edge, closed_edge, Sheet, cell_at, is_live_lem, bends_of, position_of}
+use Rattle.complex.specs.Cells.{open_edge, closed_edge, Sheet, cell_at, is_live, bends_of, position_of}
 use Rattle.complex.specs.Sound.{ids_end, cells_most, cycles_most, steps_most, bends_most, ceilings}
-use Rattle.complex.specs.Edits.{neither, none_of_lem, rewired, same_vertex, in_place_of, rebuild}
+use Rattle.complex.specs.Edits.{neither, none_of, rewired, same_vertex, in_place_of, rebuild}
 use Rattle.complex.specs.Uses.{step_use}
 use Rattle.complex.specs.Decode.{uncut}
 use Rattle.answer.specs.Sizes.{sized, more_less, changed_by, new_by_uncut, uncut_change}
@@ -45,7 +45,7 @@ use Rattle.answer.proofs.Asked.{sound_in, Asked, room, asked_of}
 use Rattle.ask_uncut_vertex.specs.declared.Side.{Side}
 use Rattle.ask_uncut_vertex.specs.Needs.{Pair, Triple, Looped, Merged, leaving, Sided, joint_runs, Joint}
 use Rattle.ask_uncut_vertex.proofs.Joining.{pair_bends, joined_back, joined_forth, joint_back, joint_forth}
-use Rattle.ask_uncut_vertex.proofs.Told.{AtLoop, AtJoint, loop_told, joint_told, vertex_live_lem, first_live, second_live, second_open, joint_real}
+use Rattle.ask_uncut_vertex.proofs.Told.{AtLoop, AtJoint, loop_told, joint_told, vertex_live, first_live, second_live, second_open, joint_real}
 
 -- ---- questions 7 and 8 of 0E in the case k
 pub asked : (d : Drawing) (z : Sizes d) (w : T (sound_drawing d)) (v : ℕ) (k : Uncut) → uncut_case (sheet_of d) v ≡ k → allowed k ≡ true
@@ -62,7 +62,7 @@ asked d z w v k h a ix x t more less et ec r er =
       more = more;
       less = less;
       passed = uncut_passed (sheet_of d) v k h a;
-      new_is_lem = uncut_new (sheet_of d) v k h;
+      new_is = uncut_new (sheet_of d) v k h;
       change_is = uncut_change_lem (sheet_of d) v k h ∙ ec;
       totals_are = et;
       says = er;
@@ -70,8 +70,8 @@ asked d z w v k h a ix x t more less et ec r er =
 
 -- ---- rows in an index
 module _ (d : Drawing) (z : Sizes d) (w : T (sound_drawing d)) (ix : Index) (x : Indexes d ix) where
-  pub paired : (i a j b : ℕ) → a ≡ row_of i (take d.count ix.ids) → is_live_lem (cell_at (sheet_of d) i) ≡ true → b ≡ row_of j (take d.count ix.ids)
-      → is_live_lem (cell_at (sheet_of d) j) ≡ true → Pair d i a j b
+  pub paired : (i a j b : ℕ) → a ≡ row_of i (take d.count ix.ids) → is_live (cell_at (sheet_of d) i) ≡ true → b ≡ row_of j (take d.count ix.ids)
+      → is_live (cell_at (sheet_of d) j) ≡ true → Pair d i a j b
   paired i a j b ea la eb lb =
       record {
         sound = w;
@@ -82,21 +82,21 @@ module _ (d : Drawing) (z : Sizes d) (w : T (sound_drawing d)) (ix : Index) (x :
       }
 
   -- the position of a vertex
-  pub placed : (v a : ℕ) → a ≡ row_of v (take d.count ix.ids) → is_live_lem (cell_at (sheet_of d) v) ≡ true → (p : Position)
+  pub placed : (v a : ℕ) → a ≡ row_of v (take d.count ix.ids) → is_live (cell_at (sheet_of d) v) ≡ true → (p : Position)
       → p ≡ vertex_place (get_or d.cells a no_cell).shape → position_of (cell_at (sheet_of d) v) ≡ p
   placed v a ea l p ep = sym (ep ∙ vertex_place_lem d z w v a (row_among d z w ix x v a ea l) l)
 
   -- where the bends of a cell begin, and how many they are
-  began : (e row : ℕ) → row ≡ row_of e (take d.count ix.ids) → is_live_lem (cell_at (sheet_of d) e) ≡ true → (first : ℕ)
+  began : (e row : ℕ) → row ≡ row_of e (take d.count ix.ids) → is_live (cell_at (sheet_of d) e) ≡ true → (first : ℕ)
       → first ≡ total (places_of 0) (take row ix.bends) → first ≡ bend_sum (take row d.cells)
   began e row er l first ef = ef ∙ own_base d z w ix x e row er l
 
-  counted : (e row : ℕ) → row ≡ row_of e (take d.count ix.ids) → is_live_lem (cell_at (sheet_of d) e) ≡ true → (m : ℕ) → m ≡ get_or ix.bends row 0
+  counted : (e row : ℕ) → row ≡ row_of e (take d.count ix.ids) → is_live (cell_at (sheet_of d) e) ≡ true → (m : ℕ) → m ≡ get_or ix.bends row 0
       → m ≡ length (figure_bends (figure_at (sheet_of d) row))
   counted e row er l m em = em ∙ own_count d z w ix x e row er l ∙ ap length (sym (pair_bends d z e row e row (paired e row e row er l er l)))
 
   -- an edge as it leaves a vertex
-  pub sided : (e row : ℕ) → row ≡ row_of e (take d.count ix.ids) → is_live_lem (cell_at (sheet_of d) e) ≡ true → (back : Bool) (far first m : ℕ)
+  pub sided : (e row : ℕ) → row ≡ row_of e (take d.count ix.ids) → is_live (cell_at (sheet_of d) e) ≡ true → (back : Bool) (far first m : ℕ)
       → far ≡ cond back (get_or ix.starts row 0) (get_or ix.ends row 0) → first ≡ total (places_of 0) (take row ix.bends) → m ≡ get_or ix.bends row 0
       → Sided d e back (record { row = row; far = far; first = first; count = m })
   sided e row er l back far first m ef eb em =
@@ -142,7 +142,7 @@ module _ (d : Drawing) (z : Sizes d) (w : T (sound_drawing d)) (v e : ℕ) (h : 
       → (first m : ℕ) → first ≡ total (places_of 0) (take b ix.bends) → m ≡ get_or ix.bends b 0 → Looped d v a e b p first m
   looped_needs r k y ix x a b ea eb p ep first m ef em =
       let s = sheet_of d in
-      let lv = loop_live.vertex_live in
+      let lv = loop_live.vertex_live_lem in
       let le = loop_live.edge_live in
       let q = placed d z w ix x v a ea lv p ep in
       let f = rewired same_vertex (in_place_of e s.next false) in
@@ -162,7 +162,7 @@ module _ (d : Drawing) (z : Sizes d) (w : T (sound_drawing d)) (v e : ℕ) (h : 
 edge_made : (d : Drawing) → Sizes d → (v a x y : ℕ) (p : Position) → position_of (cell_at (sheet_of d) v) ≡ p → (back1 back2 : Bool) (s t : Side)
     → Triple d v a x s.row y t.row → Sided d x back1 s → Sided d y back2 t
     → (start end : ℕ) → start ≡ cond back1 s.far t.far → end ≡ cond back1 t.far s.far → (r : Runs) → r ≡ joint_runs p s back1 t back2
-    → rebuild (none_of_lem v x y) (rewired same_vertex (in_one x y (sheet_of d).next)) (open_edge start end (runs_of d.bends r) ∷ []) (sheet_of d)
+    → rebuild (none_of v x y) (rewired same_vertex (in_one x y (sheet_of d).next)) (open_edge start end (runs_of d.bends r) ∷ []) (sheet_of d)
     ≡ uncut_result (sheet_of d) v (joint (leaving x back1) (leaving y back2))
 edge_made d z v a x y p q true back2 s t w es et start end e1 e2 r er =
     joint_back (sheet_of d) v (leaving x true) (leaving y back2) p q start end (runs_of d.bends r) refl (e1 ∙ es.far) (e2 ∙ et.far)
@@ -184,14 +184,14 @@ module _ (d : Drawing) (z : Sizes d) (ix : Index) (v x : ℕ) (back1 : Bool) (y 
   joint_live : AtJoint (sheet_of d) v (leaving x back1) (leaving y back2)
   joint_live = joint_told (sheet_of d) (sound_in d c.sound) v (leaving x back1) (leaving y back2) c.holds
 
-  pub at_first : is_live_lem (cell_at (sheet_of d) x) ≡ true
-  at_first = first_live (sheet_of d) (sound_in d c.sound) v (leaving x back1) (leaving y back2) joint_live
+  pub at_first_lem : is_live (cell_at (sheet_of d) x) ≡ true
+  at_first_lem = first_live (sheet_of d) (sound_in d c.sound) v (leaving x back1) (leaving y back2) joint_live
 
-  pub at_second : is_live_lem (cell_at (sheet_of d) y) ≡ true
-  at_second = second_live (sheet_of d) (sound_in d c.sound) v (leaving x back1) (leaving y back2) joint_live
+  pub at_second_lem : is_live (cell_at (sheet_of d) y) ≡ true
+  at_second_lem = second_live (sheet_of d) (sound_in d c.sound) v (leaving x back1) (leaving y back2) joint_live
 
-  at_vertex : is_live_lem (cell_at (sheet_of d) v) ≡ true
-  at_vertex = vertex_live_lem (sheet_of d) (sound_in d c.sound) v (leaving x back1) (leaving y back2) joint_live
+  at_vertex : is_live (cell_at (sheet_of d) v) ≡ true
+  at_vertex = vertex_live (sheet_of d) (sound_in d c.sound) v (leaving x back1) (leaving y back2) joint_live
 
   module _ (a : ℕ) (ea : a ≡ row_of v (take d.count ix.ids)) (p : Position) (ep : p ≡ vertex_place (get_or d.cells a no_cell).shape) (s t : Side)
       (es : Sided d x back1 s) (et : Sided d y back2 t)
@@ -212,7 +212,7 @@ module _ (d : Drawing) (z : Sizes d) (ix : Index) (v x : ℕ) (back1 : Bool) (y 
           third_in = et.row_in;
         }
 
-    pub joint_made : rebuild (none_of_lem v x y) (rewired same_vertex (in_one x y (sheet_of d).next)) (open_edge start end (runs_of d.bends r) ∷ []) (sheet_of d)
+    pub joint_made : rebuild (none_of v x y) (rewired same_vertex (in_one x y (sheet_of d).next)) (open_edge start end (runs_of d.bends r) ∷ []) (sheet_of d)
         ≡ uncut_result (sheet_of d) v (joint (leaving x back1) (leaving y back2))
     joint_made = edge_made d z v a x y p (placed d z c.sound ix c.indexes v a ea at_vertex p ep) back1 back2 s t triple es et start end e1 e2 r er
 
@@ -224,8 +224,8 @@ module _ (d : Drawing) (z : Sizes d) (ix : Index) (v x : ℕ) (back1 : Bool) (y 
         let hy = leaving y back2 in
         record {
           triple = triple;
-          small = omega (arith, live_id u S x at_first);
-          small2 = omega (arith, live_id u S y at_second);
+          small = omega (arith, live_id u S x at_first_lem);
+          small2 = omega (arith, live_id u S y at_second_lem);
           real = joint_real u S v hx hy joint_live c.ids_suffice c.sizes_hold;
           range = subst InRange (sym er) (runs_range p s t back1 back2 (side_range d z c.sound x back1 s es) (side_range d z c.sound y back2 t et));
           room =
@@ -245,7 +245,7 @@ module _ (d : Drawing) (z : Sizes d) (w : T (sound_drawing d)) (v x : ℕ) (back
       let hy = leaving y back2 in
       let m = joint_told (sheet_of d) (sound_in d w) v hx hy h in
       let steps = total (step_use y) (cycles_from (take t.cycles d.cycles) d.steps) in
-      let few = (summed d z (sound_fits d w) ix i).step_sum_lem in
+      let few = (summed d z (sound_fits d w) ix i).step_sum in
       let sum = ap (λ (u : Totals). u.steps) et in
       asked d z w v (joint hx hy) h refl ix i t (record { cells = 0; cycles = 0; steps = 0; bends = 1 })
       (record { cells = 2; cycles = 0; steps = steps; bends = 0 }) et
@@ -255,7 +255,7 @@ module _ (d : Drawing) (z : Sizes d) (w : T (sound_drawing d)) (v x : ℕ) (back
   pub joint_meets : (r : ℕ) → Asked d (uncut v) r → r ≡ 0 → (ix : Index) → Indexes d ix → Joint d ix v x back1 y back2
   joint_meets r k e ix i =
       let s = sheet_of d in
-      let f = room d z w (uncut v) r k e (none_of_lem v x y) (rewired same_vertex (in_one x y s.next))
+      let f = room d z w (uncut v) r k e (none_of v x y) (rewired same_vertex (in_one x y s.next))
       (joined (cell_at s) (position_of (cell_at s v)) (leaving x back1) (leaving y back2) ∷ [])
       (uncut_result_lem s v (joint (leaving x back1) (leaving y back2)) h) in
       record { sound = w; indexes = i; holds = h; ids_suffice = f.ids; sizes_hold = f.sizes }

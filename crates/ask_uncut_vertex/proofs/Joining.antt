@@ -9,7 +9,7 @@ use lib.ListN.{length, take}
 use lib.Dec.{T}
 use Rattle.coordinate.specs.declared.Position.{Position}
 use Rattle.complex.specs.Cells.{Halfedge, Figure, vertex, open_edge, closed_edge, face, Sheet, cell_at, bends_of, start_of, end_of, head_of, position_of, ids, origin}
-use Rattle.complex.specs.Edits.{neither, none_of_lem, rewired, same_vertex, in_place_of, rebuild}
+use Rattle.complex.specs.Edits.{neither, none_of, rewired, same_vertex, in_place_of, rebuild}
 use Rattle.complex.specs.Sound.{sound}
 use Rattle.complex.specs.Uncut.{loop, joint, in_one, bends_along, uncut_result}
 use Rattle.store.specs.declared.Drawing.{Drawing}
@@ -122,7 +122,7 @@ joined_forth d z v a x b y c t p back fx mx fy my ex hx ey hy =
 -- the edge of both is that of the definitions
 module _ (s : Sheet) (v : ℕ) (x y : Halfedge) (p : Position) (e : position_of (cell_at s v) ≡ p) (start end : ℕ) (bs : List Position) where
   abbrev made : Figure → Sheet
-  made t = rebuild (none_of_lem v x.edge y.edge) (rewired same_vertex (in_one x.edge y.edge s.next)) (t ∷ []) s
+  made t = rebuild (none_of v x.edge y.edge) (rewired same_vertex (in_one x.edge y.edge s.next)) (t ∷ []) s
 
   open_is : (a b : ℕ) (cs : List Position) → start ≡ a → end ≡ b → bs ≡ cs → open_edge start end bs ≡ open_edge a b cs
   open_is a b cs f g h = λ i. open_edge (f i) (g i) (h i)

@@ -3,7 +3,7 @@ use Rattle.std.specs.Prelude.{ℕ, ◌<◌, ◌≡◌, Bool, true, false, not, [
 use Rattle.coordinate.specs.declared.Position.{Position}
 use Rattle.complex.specs.Cells.{Halfedge, open_edge, closed_edge, cell_at, bends_of, position_of, head_of, ids}
 use Rattle.complex.specs.Sound.{ids_end, ceilings}
-use Rattle.complex.specs.Edits.{neither, none_of_lem, rewired, same_vertex, in_place_of, reshape}
+use Rattle.complex.specs.Edits.{neither, none_of, rewired, same_vertex, in_place_of, reshape}
 use Rattle.complex.specs.Uncut.{joint, in_one, uncut_case, uncut_result}
 use Rattle.number.specs.Readers.{spread}
 use Rattle.store.specs.Sheet.{all_real}
@@ -42,7 +42,7 @@ pub record Merged (d : Drawing) (v a x b y c start end : ℕ) (r : Runs) : Type 
   pub small2 : y < 2147483648
   pub real : all_real (spread entry_cycles (reshape (rewired same_vertex (in_one x y (sheet_of d).next)) (sheet_of d).cells)) ≡ true
   pub range : InRange r
-  pub room : RoomIn (remade (none_of_lem v x y) (rewired same_vertex (in_one x y (sheet_of d).next)) (sheet_of d))
+  pub room : RoomIn (remade (none_of v x y) (rewired same_vertex (in_one x y (sheet_of d).next)) (sheet_of d))
       (open_edge start end (runs_of d.bends r) ∷ [])
 
 -- ---- an edge as it leaves a vertex

@@ -9,7 +9,7 @@ use borrow.Author.Tests.{ltb-true, le-leb, lt-leb}
 use lib.Dec.{T, leb, ltb}
 use lib.ListN.{length, take, drop, replicate, length-map}
 use Rattle.complex.specs.Lists.{total, rising}
-use Rattle.complex.specs.Cells.{Figure, vertex, open_edge, closed_edge, face, LiveCell, Sheet, cell_at, ids, is_face, is_live_lem, is_vertex_or_edge, bends_of, origin}
+use Rattle.complex.specs.Cells.{Figure, vertex, open_edge, closed_edge, face, LiveCell, Sheet, cell_at, ids, is_face, is_live, is_vertex_or_edge, bends_of, origin}
 use Rattle.complex.specs.Sound.{ids_end, bends_most, bends_in, ceilings}
 use Rattle.complex.specs.Edits.{reshape, every_id}
 use Rattle.complex.specs.Decode.{unglue}
@@ -131,7 +131,7 @@ edge_uses Ring s i (some (face ks)) h = absurd h
 edge_uses Lone s i o h = absurd h
 
 -- ---- copies of a row
-plain_live : (o : Option Figure) → T (is_vertex_or_edge o) → is_live_lem o ≡ true
+plain_live : (o : Option Figure) → T (is_vertex_or_edge o) → is_live o ≡ true
 plain_live none k = absurd k
 plain_live (some t) k = refl
 

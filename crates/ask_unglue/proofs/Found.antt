@@ -21,11 +21,11 @@ use Rattle.store.specs.Index.{Indexes}
 use Rattle.store.specs.Sizes.{Sizes}
 use Rattle.store.specs.Places.{entry_cycles, figure_cycles}
 use Rattle.store.specs.View.{sheet_of, cycles_from, cycle_total}
-use Rattle.store.proofs.Stands.{used_cycles_lem}
+use Rattle.store.proofs.Stands.{used_cycles}
 use Rattle.sound.specs.Soundness.{sound_drawing}
 use Rattle.sound.proofs.Meaning.{sound_fits}
 use Rattle.rows_groups.specs.Search.{Links, LinksReady, Marked, Numbered, Sorting}
-use Rattle.rows_links.specs.Links.{place_at_lem, turns_of, link_kept, left_places, right_places, LinksPut}
+use Rattle.rows_links.specs.Links.{place_at, turns_of, link_kept, left_places, right_places, LinksPut}
 use Rattle.rows_ends.specs.Ends.{EndMarks}
 use Rattle.ask_unglue.specs.Places.{GroupedEnds, Fresh}
 use Rattle.rows_groups.proofs.Search.{sorting_start}
@@ -53,12 +53,12 @@ all_in (c ∷ cs) = ap (λ (l : List Cycle). l ++ all_cycles cs) (figure_in_lem 
 
 pub fresh : Fresh (replicate 512 false) (replicate 512 0)
 fresh =
-    record { marks = length-replicate 512 false; numbers = length-replicate {A = ℕ} 512 0; unmarked = none_of 512 false; unnumbered = none_of {A = ℕ} 512 0 }
+    record { marks = length-replicate 512 false; numbers = length-replicate {A = ℕ} 512 0; unmarked = none_of_lem 512 false; unnumbered = none_of_lem {A = ℕ} 512 0 }
   where
-    none_of : {A : Type 0} (n : ℕ) (a : A) (p : ℕ) → get_or (replicate n a) p a ≡ a
-    none_of zero a p = refl
-    none_of (suc n) a zero = refl
-    none_of (suc n) a (suc p) = none_of n a p
+    none_of_lem : {A : Type 0} (n : ℕ) (a : A) (p : ℕ) → get_or (replicate n a) p a ≡ a
+    none_of_lem zero a p = refl
+    none_of_lem (suc n) a zero = refl
+    none_of_lem (suc n) a (suc p) = none_of_lem n a p
 
 pub vertex_parts : (cs : List LiveCell) (v : ℕ) (o : Option Figure) → T (is_vertex o) → length (groups cs v) + uses_by (lone_use v) cs ≡ parts cs v o
 vertex_parts cs v none t = absurd t
@@ -96,7 +96,7 @@ module _ (d : Drawing) (z : Sizes d) (w : T (sound_drawing d)) (ix : Index) (x :
   kept : filter (link_kept (take d.count ix.ids) at) (turns_of (cycles_from (take n d.cycles) d.steps)) ≡ passages_at (sheet_of d).cells v
   kept =
       ap (λ (ks : List Cycle). filter (link_kept (take d.count ix.ids) at) (turns_of ks))
-      (ap (λ (k : ℕ). cycles_from (take k d.cycles) d.steps) en ∙ sym (used_cycles_lem d z (sound_fits d w)) ∙ sym (all_in (sheet_of d).cells))
+      (ap (λ (k : ℕ). cycles_from (take k d.cycles) d.steps) en ∙ sym (used_cycles d z (sound_fits d w)) ∙ sym (all_in (sheet_of d).cells))
       ∙ kept_are d z w ix x v at M at_v.0 at_v.1
 
   many : m ≡ length (passages_at (sheet_of d).cells v)
@@ -132,8 +132,8 @@ module _ (d : Drawing) (z : Sizes d) (w : T (sound_drawing d)) (ix : Index) (x :
   links_ready G e u =
       let is = take d.count ix.ids in
       let ts = passages_at (sheet_of d).cells v in
-      let hx = take_full m xs (ap length lefts ∙ length-map ts (λ (p : Passage). place_at_lem is p.arrives) ∙ sym many) in
-      let hy = take_full m ys (ap length rights ∙ length-map ts (λ (p : Passage). place_at_lem is p.leaves) ∙ sym many) in (
+      let hx = take_full m xs (ap length lefts ∙ length-map ts (λ (p : Passage). place_at is p.arrives) ∙ sym many) in
+      let hy = take_full m ys (ap length rights ∙ length-map ts (λ (p : Passage). place_at is p.leaves) ∙ sym many) in (
         record {
           links = subst (λ (k : ℕ). Links k xs ys m) (size ∙ sym e) (links_in d z w ix x v at M at_v.0 at_v.1 m xs ys many lefts rights hx hy);
           marks = omega arith;

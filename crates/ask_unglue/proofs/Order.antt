@@ -10,18 +10,18 @@ use borrow.Author.Tests.{eq-eqb, ne_eqb}
 use lib.Dec.{T, eqb, ltb, ltb→lt}
 use lib.ListN.{length}
 use Rattle.complex.specs.Lists.{cons_if, rising}
-use Rattle.complex.specs.Cells.{Halfedge, Figure, vertex, open_edge, closed_edge, face, LiveCell, ids, along, against, same, some_if, lookup, is_open_lem, tail_of}
+use Rattle.complex.specs.Cells.{Halfedge, Figure, vertex, open_edge, closed_edge, face, LiveCell, ids, along, against, same, some_if, lookup, is_open, tail_of}
 use Rattle.complex.specs.Uses.{figure_ends, ends_at, is_in}
 use Rattle.complex.proofs.Bools.{truth, true_of, both, pair, cases}
 use Rattle.complex.proofs.Keep.{same_eq}
 use Rattle.complex.proofs.Groups.{in_append}
 use Rattle.complex.proofs.EndGroups.{place_of}
 use Rattle.store.specs.Index.{row_of}
-use Rattle.rows_links.specs.Links.{place_at_lem}
+use Rattle.rows_links.specs.Links.{place_at}
 use Rattle.ask_unglue.specs.Places.{is_end}
 
 -- ---- the ends of one edge
-figure_edge : (v i : ℕ) (t : Figure) (h : Halfedge) → T (is_in (figure_ends v i t) h) → (h.edge ≡ i) × T (is_open_lem (some t)) × T (eqb (tail_of (λ j. some t) h) v)
+figure_edge : (v i : ℕ) (t : Figure) (h : Halfedge) → T (is_in (figure_ends v i t) h) → (h.edge ≡ i) × T (is_open (some t)) × T (eqb (tail_of (λ j. some t) h) v)
 figure_edge v i (vertex p) h m = absurd m
 figure_edge v i (open_edge a b bs) h m = go (eqb a v) (eqb b v) refl refl m
   where
@@ -65,12 +65,12 @@ listed lo (c ∷ cs) hi v h t m =
     elim (cases (is_in (figure_ends v c.id c.figure) h) (is_in (ends_at cs v) h)
     (subst T (in_append same (figure_ends v c.id c.figure) (ends_at cs v) h) m)) [
       | inl k ↦ let f = figure_edge v c.id c.figure h k in (
-        subst (λ (y : Bool). T (is_open_lem (some_if y c.figure (lookup cs h.edge)) && eqb (tail_of (λ j. some_if y c.figure (lookup cs h.edge)) h) v))
-            (sym (eq-eqb c.id h.edge (sym f.0))) (pair (is_open_lem (some c.figure)) (eqb (tail_of (λ j. some c.figure) h) v) f.1 f.2),
+        subst (λ (y : Bool). T (is_open (some_if y c.figure (lookup cs h.edge)) && eqb (tail_of (λ j. some_if y c.figure (lookup cs h.edge)) h) v))
+            (sym (eq-eqb c.id h.edge (sym f.0))) (pair (is_open (some c.figure)) (eqb (tail_of (λ j. some c.figure) h) v) f.1 f.2),
         let e = f.0 in omega arith,
       )
       | inr k ↦ let r = listed c.id cs hi v h b.1 k in (
-        subst (λ (y : Bool). T (is_open_lem (some_if y c.figure (lookup cs h.edge)) && eqb (tail_of (λ j. some_if y c.figure (lookup cs h.edge)) h) v))
+        subst (λ (y : Bool). T (is_open (some_if y c.figure (lookup cs h.edge)) && eqb (tail_of (λ j. some_if y c.figure (lookup cs h.edge)) h) v))
             (sym (ne_eqb c.id h.edge (λ e. let n = r.1 in omega arith))) r.0,
         let n = r.1 in omega arith,
       )
@@ -95,9 +95,9 @@ place_right (a ∷ xs) ys x e = go (same x a) e (place_right xs ys x)
     go true e r = absurd (subst T e tt)
     go false e r = let h = r e in omega arith
 
-place_in_lem : (xs : List Halfedge) (x : Halfedge) → T (is_in xs x) → place_of xs x < length xs
-place_in_lem [] x t = absurd t
-place_in_lem (a ∷ xs) x t = go (same x a) t (place_in_lem xs x)
+place_in : (xs : List Halfedge) (x : Halfedge) → T (is_in xs x) → place_of xs x < length xs
+place_in [] x t = absurd t
+place_in (a ∷ xs) x t = go (same x a) t (place_in xs x)
   where
     go : (b : Bool) → T (b || is_in xs x) → (T (is_in xs x) → place_of xs x < length xs) → cond b 0 (suc (place_of xs x)) < suc (length xs)
     go true t r = omega arith
@@ -137,16 +137,16 @@ figure_order v i (open_edge a b bs) x y m n l = go (eqb a v) (eqb b v) m n l
           | inl s ↦ let p = ap side (same_eq x (along i) (truth u)) in let q = ap side (same_eq y (against i) s) in omega arith
           | inr z ↦ absurd z
         ]
-        at false false u w m n l = let p = place_in_lem (against i ∷ []) x m in let q = place_in_lem (against i ∷ []) y n in absurd (omega arith)
-    go true false m n l = let p = place_in_lem (along i ∷ []) x m in let q = place_in_lem (along i ∷ []) y n in absurd (omega arith)
-    go false true m n l = let p = place_in_lem (against i ∷ []) x m in let q = place_in_lem (against i ∷ []) y n in absurd (omega arith)
+        at false false u w m n l = let p = place_in (against i ∷ []) x m in let q = place_in (against i ∷ []) y n in absurd (omega arith)
+    go true false m n l = let p = place_in (along i ∷ []) x m in let q = place_in (along i ∷ []) y n in absurd (omega arith)
+    go false true m n l = let p = place_in (against i ∷ []) x m in let q = place_in (against i ∷ []) y n in absurd (omega arith)
     go false false m n l = absurd m
 figure_order v i (closed_edge bs) x y m n l = absurd m
 figure_order v i (face ks) x y m n l = absurd m
 
 pub in_order : (lo : ℕ) (cs : List LiveCell) (hi v : ℕ) (x y : Halfedge) → T (rising lo (ids cs) hi) → T (is_in (ends_at cs v) x) → T (is_in (ends_at cs v) y)
     → place_of (ends_at cs v) x < place_of (ends_at cs v) y
-    → place_at_lem (ids cs) x < place_at_lem (ids cs) y
+    → place_at (ids cs) x < place_at (ids cs) y
 in_order lo [] hi v x y t m n l = absurd m
 in_order lo (c ∷ cs) hi v x y t m n l =
     let b = both (ltb lo c.id) (rising c.id (ids cs) hi) t in
@@ -164,9 +164,9 @@ in_order lo (c ∷ cs) hi v x y t m n l =
 
     go : T (rising c.id (ids cs) hi)
         → (T (rising c.id (ids cs) hi) → T (is_in (ends_at cs v) x) → T (is_in (ends_at cs v) y) → place_of (ends_at cs v) x < place_of (ends_at cs v) y
-        → place_at_lem (ids cs) x < place_at_lem (ids cs) y)
+        → place_at (ids cs) x < place_at (ids cs) y)
         → (e f : Bool) → is_in (figure_ends v c.id c.figure) x ≡ e → is_in (figure_ends v c.id c.figure) y ≡ f
-        → place_at_lem (c.id ∷ ids cs) x < place_at_lem (c.id ∷ ids cs) y
+        → place_at (c.id ∷ ids cs) x < place_at (c.id ∷ ids cs) y
     go r rec true true u w =
         let a = near c.id x.edge (ids cs) (figure_edge v c.id c.figure x (truth u)).0 in
         let b = near c.id y.edge (ids cs) (figure_edge v c.id c.figure y (truth w)).0 in
@@ -182,7 +182,7 @@ in_order lo (c ∷ cs) hi v x y t m n l =
     go r rec false true u w =
         let p = place_right (figure_ends v c.id c.figure) (ends_at cs v) x u in
         let q = place_left (figure_ends v c.id c.figure) (ends_at cs v) y (truth w) in
-        let o = place_in_lem (figure_ends v c.id c.figure) y (truth w) in
+        let o = place_in (figure_ends v c.id c.figure) y (truth w) in
         absurd (omega arith)
     go r rec false false u w =
         let a = far c.id x.edge (ids cs) (listed c.id cs hi v x r (later x m u)).1 in

@@ -13,14 +13,14 @@ use lib.ListN.{length, take, get_or, length-map, get_or-map, get_or-eq_default}
 use lib.Seq.{get_or-take, length-take-le}
 use Rattle.coordinate.specs.declared.Position.{Position}
 use Rattle.complex.specs.Lists.{filter, cons_if, rising}
-use Rattle.complex.specs.Cells.{Halfedge, Figure, vertex, open_edge, closed_edge, face, is_vertex, LiveCell, Sheet, along, against, lookup, cell_at, ids, is_open_lem}
+use Rattle.complex.specs.Cells.{Halfedge, Figure, vertex, open_edge, closed_edge, face, is_vertex, LiveCell, Sheet, along, against, lookup, cell_at, ids, is_open}
 use Rattle.complex.specs.Cells.{start_of, end_of, tail_of}
 use Rattle.complex.specs.Uses.{lone_use, on_uses, ends_at, Passage, passages_at, all_cycles, is_in, groups, group_of, Together}
 use Rattle.complex.specs.Groups.{linked, itself, back, chain}
 use Rattle.complex.proofs.Bools.{truth, true_of, both}
 use Rattle.complex.proofs.Keep.{Sound, sound_parts}
 use Rattle.complex.proofs.UnglueVertex.{end_in, open_at}
-use Rattle.complex.proofs.Groups.{group_at_lem}
+use Rattle.complex.proofs.Groups.{group_at}
 use Rattle.complex.proofs.EndGroups.{first_at, together_same, same_together, in_some, in_own, in_only, members_end, none_empty, first_earliest, by_first}
 use Rattle.store.specs.declared.Drawing.{Drawing}
 use Rattle.store.specs.declared.Index.{Index}
@@ -41,7 +41,7 @@ use Rattle.sound.specs.Soundness.{sound_drawing}
 use Rattle.sound.specs.Looks.{index_value, Looks}
 use Rattle.sound.proofs.Meaning as meaning
 use Rattle.rows_groups.specs.Search.{Links, SameAlong, Marked, Classes, Numbered}
-use Rattle.rows_links.specs.Links.{place_at_lem, turns_of, link_kept, left_places, right_places}
+use Rattle.rows_links.specs.Links.{place_at, turns_of, link_kept, left_places, right_places}
 use Rattle.ask_unglue.specs.Places.{is_end, GroupedEnds}
 use Rattle.rows_ends.specs.Ends.{EndMarks, end_after as newOf, NewEnds}
 use Rattle.ask_unglue.proofs.Order.{listed, in_order}
@@ -70,7 +70,7 @@ at_row x (y ∷ l) h = go (eqb y x) refl h (at_row x l)
 abbrev pub half_at : List ℕ → ℕ → Halfedge
 half_at is p = record { edge = get_or is (p / 2) 0; backward = eqb (p % 2) 1 }
 
-half_place : (is : List ℕ) (h : Halfedge) → row_of h.edge is < length is → half_at is (place_at_lem is h) ≡ h
+half_place : (is : List ℕ) (h : Halfedge) → row_of h.edge is < length is → half_at is (place_at is h) ≡ h
 half_place is h l = go h.backward
   where
     r : ℕ
@@ -84,7 +84,7 @@ half_place is h l = go h.backward
         ap₂ (λ (k : ℕ) (b : Bool). record { edge = get_or is k 0; backward = b }) (omega arith) (ne_eqb ((row_of h.edge is * 2 + 0) % 2) 1 (λ e. omega arith))
         ∙ ap (λ (k : ℕ). record { edge = k; backward = false }) (at_row h.edge is l)
 
-place_half : (is : List ℕ) → Rising is → (p : ℕ) → p / 2 < length is → place_at_lem is (half_at is p) ≡ p
+place_half : (is : List ℕ) → Rising is → (p : ℕ) → p / 2 < length is → place_at is (half_at is p) ≡ p
 place_half is r p h = ap (λ (k : ℕ). k * 2 + cond (eqb (p % 2) 1) 1 0) (row_at is r (p / 2) h) ∙ go (eqb (p % 2) 1) refl
   where
     go : (b : Bool) → eqb (p % 2) 1 ≡ b → p / 2 * 2 + cond b 1 0 ≡ p
@@ -128,12 +128,12 @@ module _ {A : Type 0} where
       go false true e f h r = absurd (true≢false (sym (h x (Memᴰ.head refl)) ∙ e))
       go false false e f h r = r h k
 
-own_lt : (gs : List (List Halfedge)) (x : Halfedge) → group_of gs x < length gs → T (is_in (group_at_lem gs (group_of gs x)) x)
+own_lt : (gs : List (List Halfedge)) (x : Halfedge) → group_of gs x < length gs → T (is_in (group_at gs (group_of gs x)) x)
 own_lt [] x h = absurd (omega arith)
 own_lt (g ∷ gs) x h = go (is_in g x) refl h (own_lt gs x)
   where
-    go : (b : Bool) → is_in g x ≡ b → cond b 0 (suc (group_of gs x)) < suc (length gs) → (group_of gs x < length gs → T (is_in (group_at_lem gs (group_of gs x)) x))
-        → T (is_in (group_at_lem (g ∷ gs) (cond b 0 (suc (group_of gs x)))) x)
+    go : (b : Bool) → is_in g x ≡ b → cond b 0 (suc (group_of gs x)) < suc (length gs) → (group_of gs x < length gs → T (is_in (group_at gs (group_of gs x)) x))
+        → T (is_in (group_at (g ∷ gs) (cond b 0 (suc (group_of gs x)))) x)
     go true e h r = truth e
     go false e h r = r (omega arith)
 
@@ -174,14 +174,14 @@ module _ (d : Drawing) (z : Sizes d) (w : T (sound_drawing d)) (ix : Index) (x :
 
   -- the mark at the place of a halfedge says if it is an end at v
   mark_side : (e : ℕ) (b : Bool) → get_or at (row_of e (take d.count ix.ids) * 2 + cond b 1 0)
-      false ≡ (is_open_lem (lookup (sheet_of d).cells e) && eqb (cond b (end_of (lookup (sheet_of d).cells e)) (start_of (lookup (sheet_of d).cells e))) v)
+      false ≡ (is_open (lookup (sheet_of d).cells e) && eqb (cond b (end_of (lookup (sheet_of d).cells e)) (start_of (lookup (sheet_of d).cells e))) v)
   mark_side e b = go (ltb (row_of e is) d.count) refl
     where
-      kind : row_of e is < d.count → eqb (get_or ix.kinds (row_of e is) 0) 1 ≡ is_open_lem (lookup cs e)
+      kind : row_of e is < d.count → eqb (get_or ix.kinds (row_of e is) 0) 1 ≡ is_open (lookup cs e)
       kind h = ap (λ (k : ℕ). eqb k 1) (value_in ix.kinds x.sizes.1 e 4 h) ∙ meaning.open_at looks_in e
 
       in_row : row_of e is < d.count → (b : Bool) → get_or at (row_of e is * 2 + cond b 1 0)
-          false ≡ (is_open_lem (lookup cs e) && eqb (cond b (end_of (lookup cs e)) (start_of (lookup cs e))) v)
+          false ≡ (is_open (lookup cs e) && eqb (cond b (end_of (lookup cs e)) (start_of (lookup cs e))) v)
       in_row h true = M.end (row_of e is) h ∙ ap₂ (λ (o : Bool) (k : ℕ). o && eqb k v) (kind h) (value_in ix.ends x.sizes.3 e 0 h ∙ looks_in.ends e)
       in_row h false =
           ap (λ (k : ℕ). get_or at k false) (plain (row_of e is * 2)) ∙ M.start (row_of e is) h
@@ -191,7 +191,7 @@ module _ (d : Drawing) (z : Sizes d) (w : T (sound_drawing d)) (ix : Index) (x :
           plain n = omega arith
 
       go : (t : Bool) → ltb (row_of e is) d.count ≡ t → get_or at (row_of e is * 2 + cond b 1 0)
-          false ≡ (is_open_lem (lookup cs e) && eqb (cond b (end_of (lookup cs e)) (start_of (lookup cs e))) v)
+          false ≡ (is_open (lookup cs e) && eqb (cond b (end_of (lookup cs e)) (start_of (lookup cs e))) v)
       go true q = in_row (ltb-true (row_of e is) d.count q) b
       go false q =
           let l = ltb-false (row_of e is) d.count q in
@@ -202,7 +202,7 @@ module _ (d : Drawing) (z : Sizes d) (w : T (sound_drawing d)) (ix : Index) (x :
           ∙ sym (ap (λ (o : Bool). o && eqb (cond b (end_of (lookup cs e)) (start_of (lookup cs e))) v)
           (sym (meaning.open_at looks_in e) ∙ ap (λ (k : ℕ). eqb k 1) t))
 
-  pub mark_is : (h : Halfedge) → get_or at (place_at_lem (take d.count ix.ids) h) false ≡ is_end (sheet_of d).cells v h
+  pub mark_is : (h : Halfedge) → get_or at (place_at (take d.count ix.ids) h) false ≡ is_end (sheet_of d).cells v h
   mark_is h = mark_side h.edge h.backward
 
   sound_in : Sound (sheet_of d)
@@ -211,7 +211,7 @@ module _ (d : Drawing) (z : Sizes d) (w : T (sound_drawing d)) (ix : Index) (x :
   -- ends are listed, and what is listed is an end
   end_listed : (h : Halfedge) → T (is_end (sheet_of d).cells v h) → T (is_in (ends_at (sheet_of d).cells v) h)
   end_listed h t =
-      let b = both (is_open_lem (lookup cs h.edge)) (eqb (tail_of (lookup cs) h) v) t in
+      let b = both (is_open (lookup cs h.edge)) (eqb (tail_of (lookup cs) h) v) t in
       let o = open_at (lookup cs) h.edge b.0 in
       end_in cs v h o.0 o.1 o.2 o.3 (ap (λ (f : Option Figure). cond h.backward (end_of f) (start_of f)) (sym o.3)
       ∙ eqb-true (tail_of (lookup cs) h) v (true_of (eqb (tail_of (lookup cs) h) v) b.1))
@@ -219,22 +219,22 @@ module _ (d : Drawing) (z : Sizes d) (w : T (sound_drawing d)) (ix : Index) (x :
   listed_end : (h : Halfedge) → T (is_in (ends_at (sheet_of d).cells v) h) → T (is_end (sheet_of d).cells v h)
   listed_end h m = (listed 0 cs (sheet_of d).next v h sound_in.rises m).0
 
-  end_row : (h : Halfedge) → T (is_end (sheet_of d).cells v h) → row_of h.edge (take d.count ix.ids) < d.count
-  end_row h t = go (ltb (row_of h.edge is) d.count) refl
+  end_row_lem : (h : Halfedge) → T (is_end (sheet_of d).cells v h) → row_of h.edge (take d.count ix.ids) < d.count
+  end_row_lem h t = go (ltb (row_of h.edge is) d.count) refl
     where
       go : (b : Bool) → ltb (row_of h.edge is) d.count ≡ b → row_of h.edge is < d.count
       go true q = ltb-true (row_of h.edge is) d.count q
       go false q =
           let l = ltb-false (row_of h.edge is) d.count q in
-          absurd (true≢false (sym (mark_is h ∙ true_of (is_end cs v h) t) ∙ M.rest (place_at_lem is h) (omega arith)))
+          absurd (true≢false (sym (mark_is h ∙ true_of (is_end cs v h) t) ∙ M.rest (place_at is h) (omega arith)))
 
-  half_of : (h : Halfedge) → T (is_end (sheet_of d).cells v h) → half_at (take d.count ix.ids) (place_at_lem (take d.count ix.ids) h) ≡ h
-  half_of h t = let r = end_row h t in let l = rows_length in half_place is h (omega arith)
+  half_of : (h : Halfedge) → T (is_end (sheet_of d).cells v h) → half_at (take d.count ix.ids) (place_at (take d.count ix.ids) h) ≡ h
+  half_of h t = let r = end_row_lem h t in let l = rows_length in half_place is h (omega arith)
 
-  place_of_lem : (p : ℕ) → Marked at p → place_at_lem (take d.count ix.ids) (half_at (take d.count ix.ids) p) ≡ p
+  place_of_lem : (p : ℕ) → Marked at p → place_at (take d.count ix.ids) (half_at (take d.count ix.ids) p) ≡ p
   place_of_lem p m = go (ltb (p / 2) d.count) refl
     where
-      go : (b : Bool) → ltb (p / 2) d.count ≡ b → place_at_lem is (half_at is p) ≡ p
+      go : (b : Bool) → ltb (p / 2) d.count ≡ b → place_at is (half_at is p) ≡ p
       go true q = let l = ltb-true (p / 2) d.count q in let r = rows_length in place_half is looks_in.rising p (omega arith)
       go false q = let l = ltb-false (p / 2) d.count q in absurd (true≢false (sym m ∙ M.rest p (omega arith)))
 
@@ -263,16 +263,16 @@ module _ (d : Drawing) (z : Sizes d) (w : T (sound_drawing d)) (ix : Index) (x :
         narrow (link_kept is at) (λ (u : Passage). is_end cs v u.leaves) (turns_of (all_cycles cs))
         (λ t m. ap₂ ◌&&◌ (mark_is t.arrives ∙ true_of (is_end cs v t.arrives) (arrives_end t m))
         (mark_is t.leaves ∙ true_of (is_end cs v t.leaves) (leaves_end t m)))
-        (λ t k. subst T (mark_is t.leaves) (both (get_or at (place_at_lem is t.arrives) false) (get_or at (place_at_lem is t.leaves) false) k).1)
+        (λ t k. subst T (mark_is t.leaves) (both (get_or at (place_at is t.arrives) false) (get_or at (place_at is t.leaves) false) k).1)
 
     -- the class of a place is the group of its end
     abbrev pub label : ℕ → ℕ
     label p = group_of (groups (sheet_of d).cells v) (half_at (take d.count ix.ids) p)
 
-    label_of : (h : Halfedge) → T (is_end (sheet_of d).cells v h) → label (place_at_lem (take d.count ix.ids) h) ≡ group_of (groups (sheet_of d).cells v) h
+    label_of : (h : Halfedge) → T (is_end (sheet_of d).cells v h) → label (place_at (take d.count ix.ids) h) ≡ group_of (groups (sheet_of d).cells v) h
     label_of h t = ap (group_of gs) (half_of h t)
 
-    end_marked : (h : Halfedge) → T (is_end (sheet_of d).cells v h) → Marked at (place_at_lem (take d.count ix.ids) h)
+    end_marked : (h : Halfedge) → T (is_end (sheet_of d).cells v h) → Marked at (place_at (take d.count ix.ids) h)
     end_marked h t = mark_is h ∙ true_of (is_end cs v h) t
 
     module _ (m : ℕ) (xs ys : List ℕ) (em : m ≡ length (passages_at (sheet_of d).cells v))
@@ -281,11 +281,11 @@ module _ (d : Drawing) (z : Sizes d) (w : T (sound_drawing d)) (ix : Index) (x :
       abbrev blank : Passage
       blank = record { arrives = along 0; leaves = along 0 }
 
-      left_at : (i : ℕ) → i < m → get_or xs i 0 ≡ place_at_lem is (get_or ts i blank).arrives
-      left_at = mapped_at (λ (t : Passage). place_at_lem is t.arrives) m xs ts blank em ex
+      left_at : (i : ℕ) → i < m → get_or xs i 0 ≡ place_at is (get_or ts i blank).arrives
+      left_at = mapped_at (λ (t : Passage). place_at is t.arrives) m xs ts blank em ex
 
-      right_at_lem : (i : ℕ) → i < m → get_or ys i 0 ≡ place_at_lem is (get_or ts i blank).leaves
-      right_at_lem = mapped_at (λ (t : Passage). place_at_lem is t.leaves) m ys ts blank em ey
+      right_at_lem : (i : ℕ) → i < m → get_or ys i 0 ≡ place_at is (get_or ts i blank).leaves
+      right_at_lem = mapped_at (λ (t : Passage). place_at is t.leaves) m ys ts blank em ey
 
       member : (i : ℕ) → i < m → Memᴰ (get_or ts i blank) ts
       member i l = mem_at ts i blank (omega arith)
@@ -296,10 +296,10 @@ module _ (d : Drawing) (z : Sizes d) (w : T (sound_drawing d)) (ix : Index) (x :
             lefts = hx;
             rights = hy;
             left =
-                λ i l. let e = left_at i l in let r = in_range at (place_at_lem is (get_or ts i blank).arrives)
+                λ i l. let e = left_at i l in let r = in_range at (place_at is (get_or ts i blank).arrives)
                 (end_marked (get_or ts i blank).arrives (arrives_end (get_or ts i blank) (member i l))) in omega arith;
             right =
-                λ i l. let e = right_at_lem i l in let r = in_range at (place_at_lem is (get_or ts i blank).leaves)
+                λ i l. let e = right_at_lem i l in let r = in_range at (place_at is (get_or ts i blank).leaves)
                 (end_marked (get_or ts i blank).leaves (leaves_end (get_or ts i blank) (member i l))) in omega arith;
           }
 
@@ -310,9 +310,9 @@ module _ (d : Drawing) (z : Sizes d) (w : T (sound_drawing d)) (ix : Index) (x :
           ∙ sym (label_of t.leaves (leaves_end t (member i l))) ∙ ap label (sym (right_at_lem i l))
 
       follow : (H : ℕ → ℕ) → SameAlong xs ys m H → {x y : Halfedge} → Together (passages_at (sheet_of d).cells v) x y
-          → H (place_at_lem (take d.count ix.ids) x) ≡ H (place_at_lem (take d.count ix.ids) y)
+          → H (place_at (take d.count ix.ids) x) ≡ H (place_at (take d.count ix.ids) y)
       follow H a (linked t k) =
-          at_mem (λ (u : Passage). H (place_at_lem is u.arrives) ≡ H (place_at_lem is u.leaves)) ts blank
+          at_mem (λ (u : Passage). H (place_at is u.arrives) ≡ H (place_at is u.leaves)) ts blank
           (λ i l. let n : i < m = omega arith in ap H (sym (left_at i n)) ∙ a i n ∙ ap H (right_at_lem i n)) k
       follow H a (itself x) = refl
       follow H a (back h) = sym (follow H a h)
@@ -342,9 +342,9 @@ module _ (d : Drawing) (z : Sizes d) (w : T (sound_drawing d)) (ix : Index) (x :
               let e = first_earliest (sheet_of d) sound_in v (label p) h (in_own (sheet_of d) sound_in v h n) in
               let o = in_order 0 cs (sheet_of d).next v f h sound_in.rises fm n (omega arith) in
               let i = rows_are in (
-                place_at_lem is f,
+                place_at is f,
                 end_marked f (listed_end f fm),
-                subst (λ (j : ℕ). place_at_lem is f < j) (place_of_lem p mp) (subst (λ (r : List ℕ). place_at_lem r f < place_at_lem r h) (sym i) o),
+                subst (λ (j : ℕ). place_at is f < j) (place_of_lem p mp) (subst (λ (r : List ℕ). place_at r f < place_at r h) (sym i) o),
                 label_of f (listed_end f fm)
                     ∙ sym (in_only (sheet_of d) sound_in v f k u),
               )
@@ -354,11 +354,11 @@ module _ (d : Drawing) (z : Sizes d) (w : T (sound_drawing d)) (ix : Index) (x :
 
       -- ---- what the search found
       module _ (g : ℕ) (G : List ℕ) (N : Numbered at xs ys m label (length at) g G) where
-        pub group_at : (h : Halfedge) → T (is_end (sheet_of d).cells v h)
-            → get_or G (place_at_lem (take d.count ix.ids) h) 0 ≡ suc (group_of (groups (sheet_of d).cells v) h)
-        group_at h t =
+        pub group_at_lem : (h : Halfedge) → T (is_end (sheet_of d).cells v h)
+            → get_or G (place_at (take d.count ix.ids) h) 0 ≡ suc (group_of (groups (sheet_of d).cells v) h)
+        group_at_lem h t =
             let e = end_marked h t in
-            N.label (place_at_lem is h) (N.done (place_at_lem is h) (in_range at (place_at_lem is h) e) e) ∙ ap suc (label_of h t)
+            N.label (place_at is h) (N.done (place_at is h) (in_range at (place_at is h) e) e) ∙ ap suc (label_of h t)
 
         pub groups_counted : g ≡ length (groups (sheet_of d).cells v)
         groups_counted = go (ltb g (length gs)) (ltb (length gs) g) refl refl
@@ -368,9 +368,9 @@ module _ (d : Drawing) (z : Sizes d) (w : T (sound_drawing d)) (ix : Index) (x :
                 let f = first_at gs g in
                 let n = none_empty (sheet_of d) sound_in v g (ltb-true g (length gs) u) in
                 let t = listed_end f (members_end (sheet_of d) sound_in v f g n) in
-                let e = group_at f t in
+                let e = group_at_lem f t in
                 let k = in_only (sheet_of d) sound_in v f g n in
-                let o = N.most (place_at_lem is f) in
+                let o = N.most (place_at is f) in
                 absurd (omega arith)
             go false true u w =
                 let f = N.found (length gs) (ltb-true (length gs) g w) in
@@ -381,7 +381,7 @@ module _ (d : Drawing) (z : Sizes d) (w : T (sound_drawing d)) (ix : Index) (x :
             go false false u w = let a = ltb-false g (length gs) u in let b = ltb-false (length gs) g w in omega arith
 
         pub grouped : GroupedEnds d ix v g at G
-        grouped = record { marks = M; number = group_at; count = groups_counted; most = N.most }
+        grouped = record { marks = M; number = group_at_lem; count = groups_counted; most = N.most }
 
 -- ---- the new ends
 less : (n : ℕ) → suc n - 1 ≡ n
@@ -400,8 +400,8 @@ module _ (d : Drawing) (z : Sizes d) (w : T (sound_drawing d)) (ix : Index) (x :
   abbrev groups_of : List (List Halfedge)
   groups_of = groups (sheet_of d).cells v
 
-  end_new : (h : Halfedge) (a p : ℕ) → is_open_lem (lookup (sheet_of d).cells h.edge) ≡ true → tail_of (lookup (sheet_of d).cells) h ≡ a
-      → p ≡ place_at_lem (take d.count ix.ids) h
+  end_new : (h : Halfedge) (a p : ℕ) → is_open (lookup (sheet_of d).cells h.edge) ≡ true → tail_of (lookup (sheet_of d).cells) h ≡ a
+      → p ≡ place_at (take d.count ix.ids) h
       → newOf (get_or at p false) (get_or G p 0) a v d.next ≡ new_end v d.next (groups (sheet_of d).cells v) a h
   end_new h a p o e q =
       let is = take d.count ix.ids in
@@ -447,9 +447,9 @@ module _ (d : Drawing) (z : Sizes d) (w : T (sound_drawing d)) (ix : Index) (x :
               let e0 : get_or ix.ends j 0 ≡ b = ap (λ (n : ℕ). get_or ix.ends n 0) rj
               ∙ value_in d z w ix x v at R.marks ix.ends x.sizes.3 i 0 (omega arith) ∙ (meaning.looks d z ix x w).ends i ∙ ap end_of look in (
                 A.changed j k ∙ ap (λ (n : ℕ). newOf (get_or at (j * 2 + 0) false) (get_or G (j * 2 + 0) 0) n v d.next) s0
-                    ∙ end_new (along i) a (j * 2 + 0) (ap is_open_lem look) (ap start_of look) (ap (λ (n : ℕ). n * 2 + 0) rj),
+                    ∙ end_new (along i) a (j * 2 + 0) (ap is_open look) (ap start_of look) (ap (λ (n : ℕ). n * 2 + 0) rj),
                 B.changed j k ∙ ap (λ (n : ℕ). newOf (get_or at (j * 2 + 1) false) (get_or G (j * 2 + 1) 0) n v d.next) e0
-                    ∙ end_new (against i) b (j * 2 + 1) (ap is_open_lem look) (ap end_of look) (ap (λ (n : ℕ). n * 2 + 1) rj),
+                    ∙ end_new (against i) b (j * 2 + 1) (ap is_open look) (ap end_of look) (ap (λ (n : ℕ). n * 2 + 1) rj),
               )
 
   -- ---- then the lone cycles

@@ -2,7 +2,7 @@
 use Rattle.std.specs.Prelude.{ℕ, ◌-◌, ◌≤◌, Bool, false, T}
 use Rattle.std.proofs.Math.Option.{Option}
 use Rattle.complex.specs.Lists.{rising}
-use Rattle.complex.specs.Cells.{Figure, Sheet, cell_at, ids, is_open_lem, is_closed, is_vertex_or_edge}
+use Rattle.complex.specs.Cells.{Figure, Sheet, cell_at, ids, is_open, is_closed, is_vertex_or_edge}
 use Rattle.complex.specs.Unglue.{copies}
 use Rattle.answer.specs.Sizes.{sizes_of, changed_by, unglue_change}
 use Rattle.store.specs.declared.Drawing.{Drawing}
@@ -14,7 +14,7 @@ use Rattle.rows_uses.specs.declared.Use.TheVariants.{Step, Ring, Lone}
 
 -- the edges whose steps or whose cycles get copies
 abbrev pub has_uses : Use → Option Figure → Bool
-has_uses Step o = is_open_lem o
+has_uses Step o = is_open o
 has_uses Ring o = is_closed o
 has_uses Lone o = false
 

@@ -15,8 +15,8 @@ use Rattle.number.proofs.Laws.{lt_or_le, read_left, not_done, done_one}
 use Rattle.number.proofs.Counted.{Each, each_all, counted_back, counted_from}
 use Rattle.coordinate.specs.declared.Position.{Position}
 use Rattle.coordinate.specs.Bounds.{within}
-use Rattle.coordinate.specs.Positions.{FloatFits, coordinate_in, position_at_lem, read_position, position_bytes}
-use Rattle.coordinate.proofs.Laws.{position_at, position_short, read_position_lem, position_read}
+use Rattle.coordinate.specs.Positions.{FloatFits, coordinate_in, position_at, read_position, position_bytes}
+use Rattle.coordinate.proofs.Laws.{position_at_lem, position_short, read_position_lem, position_read}
 use Rattle.bends.specs.Bends.{read_bends, bend_bytes, listed, bend_list_in, positions_at}
 
 pub positions_length : (s : List ℕ) (at n : ℕ) → length (positions_at s at n) ≡ n
@@ -46,8 +46,8 @@ pub positions_long : (s : List ℕ) (at n : ℕ) → at + 16 * n ≤ length s �
 positions_long s at zero h = let e : at ≡ at + 16 * 0 = omega arith in ap (λ (k : ℕ). got [] (drop k s)) e
 positions_long s at (suc n) h =
     let e : at + 16 + 16 * n ≡ at + 16 * suc n = omega arith in
-    ap (after n) (position_at s at (omega arith))
-    ∙ ap (before (position_at_lem s at)) (positions_long s (at + 16) n (omega arith))
+    ap (after n) (position_at_lem s at (omega arith))
+    ∙ ap (before (position_at s at)) (positions_long s (at + 16) n (omega arith))
     ∙ ap (λ (k : ℕ). got (positions_at s at (suc n)) (drop k s)) e
 
 pub positions_short : (s : List ℕ) (at n : ℕ) → at ≤ length s → length s < at + 16 * n → times read_position n (drop at s) ≡ bad
@@ -55,7 +55,7 @@ positions_short s at zero l h = absurd (omega arith)
 positions_short s at (suc n) l h =
     ⊎_elim
     (λ k. ap (after n) (position_short s at k))
-    (λ k. ap (after n) (position_at s at k) ∙ ap (before (position_at_lem s at)) (positions_short s (at + 16) n k (omega arith)))
+    (λ k. ap (after n) (position_at_lem s at k) ∙ ap (before (position_at s at)) (positions_short s (at + 16) n k (omega arith)))
     (lt_or_le (length s) (at + 16))
 
 -- ---- a bend list, by its count and the place after that

@@ -4,7 +4,7 @@ use Rattle.number.specs.Readers.{Read, got, bad}
 use Rattle.number.specs.Said.{Said, done, no}
 use Rattle.number.specs.Numbers.{counted, counted_bytes}
 use Rattle.coordinate.specs.declared.Position.{Position}
-use Rattle.coordinate.specs.Positions.{read_position, position_bytes, position_at_lem}
+use Rattle.coordinate.specs.Positions.{read_position, position_bytes, position_at}
 use Rattle.bends.specs.declared.BendList.{BendList}
 use Rattle.bends.specs.declared.BendList.TheVariants.{Listed, Malformed}
 
@@ -31,4 +31,4 @@ bend_list_in s = listed (length s) (read_bends s)
 -- n positions, one after another from a place on
 abbrev pub positions_at : List ℕ → ℕ → ℕ → List Position
 positions_at s at zero = []
-positions_at s at (suc n) = position_at_lem s at ∷ positions_at s (at + 16) n
+positions_at s at (suc n) = position_at s at ∷ positions_at s (at + 16) n

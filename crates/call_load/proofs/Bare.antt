@@ -182,9 +182,9 @@ module _ (keep : Bool) (q : Read (List LiveCell)) (b : List Float → List Float
   pub bare_no : r ≡ Refused → CellsOver q
   bare_no e = subst (RowsTold keep q b xs ys) e t
 
-pub rows_in : (keep : Bool) (s : List ℕ) (next n at : ℕ) → CountsIn s next n at → (b : List Float → List Float → ℕ → Arrays) (xs ys : List Float) (g : Bool)
+pub rows_in_lem : (keep : Bool) (s : List ℕ) (next n at : ℕ) → CountsIn s next n at → (b : List Float → List Float → ℕ → Arrays) (xs ys : List Float) (g : Bool)
     → RowsHeld keep (times read_cell n (drop at s)) b xs ys g → RowsIn keep s (λ (us vs : List Float). b us vs next) xs ys g
-rows_in keep s next n at C b xs ys g H =
+rows_in_lem keep s next n at C b xs ys g H =
     record {
       bx = H.bx;
       by = H.by;

@@ -10,7 +10,7 @@ use lib.Seq.{paste, take-paste, length-paste, take-length, take_all}
 use Rattle.number.specs.Readers.{got, times}
 use Rattle.number.specs.Numbers.{read_number}
 use Rattle.coordinate.specs.declared.Position.{Position}
-use Rattle.coordinate.specs.Positions.{position_at_lem}
+use Rattle.coordinate.specs.Positions.{position_at}
 use Rattle.bends.specs.Bends.{positions_at}
 use Rattle.bends.proofs.Laws.{positions_length}
 use Rattle.complex.specs.Decode.{read_cycle}
@@ -79,7 +79,7 @@ bends_after_lem xs ys u b bs xs' ys' lx ly h lb B =
 pub record Rowed (s : List ℕ) (at n p : ℕ) (a : Arrays) (used : Used) : Type 0 where
   pub spots : List ℕ
   pub filled : Filled s at n a.count p (held_by a).cells a.cycles a.steps spots used
-  pub bends : take used.bends (positions_in a.bx a.by) ≡ map (position_at_lem s) (take used.bends spots)
+  pub bends : take used.bends (positions_in a.bx a.by) ≡ map (position_at s) (take used.bends spots)
   pub rows : normal a ≡ true
   pub long : Lengths a
 
@@ -169,16 +169,16 @@ module _ (s : List ℕ) (at n p : ℕ) (a : Arrays) (used : Used) (R : Rowed s a
         let more : used'.bends ≡ u + b = P.filled.same_bends in
         let left : take (u + b) (positions_in xs' ys') ≡ take u (positions_in a.bx a.by) ++ bs =
         bends_after_lem a.bx a.by u b bs xs' ys' l.bx l.by P.room lb B in
-        let right : map (position_at_lem s) (take (u + b) spots') ≡ map (position_at_lem s) (take u R.spots) ++ bs =
-        ap (λ (k : ℕ). map (position_at_lem s) (take (u + k) spots')) (sym ls) ∙ ap (map (position_at_lem s)) A.front
-        ∙ map_append (position_at_lem s) (take u R.spots) sp
-        ∙ ap (λ (y : List Position). map (position_at_lem s) (take u R.spots) ++ y) (spots_positions s first b) in
+        let right : map (position_at s) (take (u + b) spots') ≡ map (position_at s) (take u R.spots) ++ bs =
+        ap (λ (k : ℕ). map (position_at s) (take (u + k) spots')) (sym ls) ∙ ap (map (position_at s)) A.front
+        ∙ map_append (position_at s) (take u R.spots) sp
+        ∙ ap (λ (y : List Position). map (position_at s) (take u R.spots) ++ y) (spots_positions s first b) in
         record {
           spots = spots';
           filled = subst (λ (cs : List Cell). Filled s at n (a.count + 1) next cs counts' steps' spots' used')
               (sym (ap (λ (d : Drawing). d.cells) (shape_held a' l' g x))) Q;
           bends = ap (λ (k : ℕ). take k (positions_in xs' ys')) more ∙ left ∙ ap (λ (y : List Position). y ++ bs) R.bends ∙ sym right
-              ∙ ap (λ (k : ℕ). map (position_at_lem s) (take k spots')) (sym more);
+              ∙ ap (λ (k : ℕ). map (position_at s) (take k spots')) (sym more);
           rows = shape_normal a' l' g R.rows x;
           long =
               record {

@@ -14,7 +14,7 @@ use Rattle.coordinate.specs.declared.Position.{Position}
 use Rattle.coordinate.specs.Bounds.{within}
 use Rattle.complex.specs.Lists.{all, is_empty, rising, one}
 use Rattle.complex.specs.Cells.{Halfedge, Cycle, lone, path, Figure, vertex, open_edge, closed_edge, face, LiveCell, Sheet, Look, some_if, lookup, ids}
-use Rattle.complex.specs.Cells.{is_vertex, is_open_lem, is_closed, is_face, start_of, end_of, tail_of, head_of, cell_at}
+use Rattle.complex.specs.Cells.{is_vertex, is_open, is_closed, is_face, start_of, end_of, tail_of, head_of, cell_at}
 use Rattle.complex.specs.Sound.{ids_end, Walk, cycle_ok, figure_ok, ceilings, sound, joins}
 use Rattle.complex.specs.Decode.{Command, create, move, glue_vertices}
 use Rattle.complex.specs.Edits.{numbered, rebuild, every_id, as_it_is, replaced, rewired_cycle, rewired, same_vertex, others}
@@ -32,7 +32,7 @@ use Rattle.complex.proofs.Keep.{cycle_kept}
 abbrev pub Alike : Option Figure → Option Figure → Type 0
 Alike none o = Unit {0}
 Alike (some (vertex p)) o = T (is_vertex o)
-Alike (some (open_edge a b bs)) o = T (is_open_lem o) × (a ≡ start_of o) × (b ≡ end_of o)
+Alike (some (open_edge a b bs)) o = T (is_open o) × (a ≡ start_of o) × (b ≡ end_of o)
 Alike (some (closed_edge bs)) o = T (is_closed o)
 Alike (some (face ks)) o = Unit {0}
 
@@ -49,7 +49,7 @@ vertex_of (some (open_edge u w bs)) o' a t = absurd t
 vertex_of (some (closed_edge bs)) o' a t = absurd t
 vertex_of (some (face ks)) o' a t = absurd t
 
-pub open_of : (o o' : Option Figure) → Alike o o' → T (is_open_lem o) → T (is_open_lem o') × (start_of o ≡ start_of o') × (end_of o ≡ end_of o')
+pub open_of : (o o' : Option Figure) → Alike o o' → T (is_open o) → T (is_open o') × (start_of o ≡ start_of o') × (end_of o ≡ end_of o')
 open_of none o' a t = absurd t
 open_of (some (vertex p)) o' a t = absurd t
 open_of (some (open_edge u w bs)) o' a t = a
@@ -191,7 +191,7 @@ module _ (a b : ℕ) (s : Sheet) (S : Sound s) (va : T (is_vertex (cell_at s a))
   not_vertex : (e : ℕ) → (o : Option Figure) → cell_at s e ≡ o → (T (is_vertex o) → ⊥) → e ≡ b → ⊥
   not_vertex e o q n z = n (subst (λ (x : Option Figure). T (is_vertex x)) (ap (cell_at s) (sym z) ∙ q) vb)
 
-  glued_walk : (h : Halfedge) → T (is_open_lem (cell_at s h.edge)) → Walk glued (renamed a b (tail_of (cell_at s) h)) (one h) (renamed a b (head_of (cell_at s) h))
+  glued_walk : (h : Halfedge) → T (is_open (cell_at s h.edge)) → Walk glued (renamed a b (tail_of (cell_at s) h)) (one h) (renamed a b (head_of (cell_at s) h))
   glued_walk h t = go (cell_at s h.edge) refl t
     where
       ends : (u w : ℕ) (bs : List Position) (y : Bool) → h.backward ≡ y → cell_at s h.edge ≡ some (open_edge u w bs)
@@ -200,7 +200,7 @@ module _ (a b : ℕ) (s : Sheet) (S : Sound s) (va : T (is_vertex (cell_at s a))
       ends u w bs true y e g = rw (y, e, g) (tt, refl, refl)
       ends u w bs false y e g = rw (y, e, g) (tt, refl, refl)
 
-      go : (o : Option Figure) → cell_at s h.edge ≡ o → T (is_open_lem o)
+      go : (o : Option Figure) → cell_at s h.edge ≡ o → T (is_open o)
           → Walk glued (renamed a b (tail_of (cell_at s) h)) (one h) (renamed a b (head_of (cell_at s) h))
       go none e k = absurd k
       go (some (vertex p)) e k = absurd k

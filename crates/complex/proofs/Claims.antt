@@ -10,7 +10,7 @@ use lib.ListN.{length, length-append, length-map}
 use lib.Dec.{T, eqb, ltb}
 use borrow.Author.Tests.{eq-eqb, ne_eqb, eqb-false}
 use Rattle.complex.specs.Lists.{all, filter, cons_if, rising}
-use Rattle.complex.specs.Cells.{Figure, LiveCell, Sheet, empty, some_if, lookup, cell_at, ids, is_live_lem}
+use Rattle.complex.specs.Cells.{Figure, LiveCell, Sheet, empty, some_if, lookup, cell_at, ids, is_live}
 use Rattle.complex.specs.Sound.{sound}
 use Rattle.complex.specs.Edits.{keep_ids, reshape, numbered, rebuild}
 use Rattle.number.specs.Readers.{got}
@@ -61,14 +61,14 @@ lookup_below n [] i h = refl
 lookup_below n (x ∷ xs) i h = rw (ne_eqb n i (λ e. omega arith)) (lookup_below (suc n) xs i (omega arith))
 
 -- and every one from it on, as many as there are
-live_new : (n : ℕ) (new : List Figure) (i : ℕ) → n ≤ i → i < n + length new → T (is_live_lem (lookup (numbered n new) i))
+live_new : (n : ℕ) (new : List Figure) (i : ℕ) → n ≤ i → i < n + length new → T (is_live (lookup (numbered n new) i))
 live_new n [] i h l = absurd (omega arith)
 live_new n (x ∷ xs) i h l = elim (either (eqb n i)) [
   | inl e ↦ rw e tt
   | inr e ↦ let z = eqb-false n i e in rw e (live_new (suc n) xs i (omega arith) (omega arith))
 ]
 
-live_else : (o u : Option Figure) → T (is_live_lem u) → T (is_live_lem (or_else o u))
+live_else : (o u : Option Figure) → T (is_live u) → T (is_live (or_else o u))
 live_else none u l = l
 live_else (some x) u l = tt
 
@@ -81,7 +81,7 @@ follows p f new s =
           (live_else (changed (f i) (cond (p i) (cell_at s i) none)) (lookup (numbered s.next new) i) (live_new s.next new i h l));
     }
   where
-    go : (i : ℕ) (b : Bool) (o : Option Figure) → T (is_live_lem (or_else (changed (f i) (cond b o none)) none)) → T (is_live_lem o)
+    go : (i : ℕ) (b : Bool) (o : Option Figure) → T (is_live (or_else (changed (f i) (cond b o none)) none)) → T (is_live o)
     go i true none l = l
     go i true (some x) l = tt
     go i false o l = absurd l
@@ -149,24 +149,24 @@ again =
 
 -- ---- the removed
 -- every cell is live where it stands
-live_in : (cs ds : List LiveCell) → ((i : ℕ) → T (is_live_lem (lookup ds i)) → T (is_live_lem (lookup cs i))) → T (all (λ (c : LiveCell). is_live_lem (lookup cs c.id)) ds)
+live_in : (cs ds : List LiveCell) → ((i : ℕ) → T (is_live (lookup ds i)) → T (is_live (lookup cs i))) → T (all (λ (c : LiveCell). is_live (lookup cs c.id)) ds)
 live_in cs [] h = tt
 live_in cs (d ∷ ds) h =
-    pair (is_live_lem (lookup cs d.id)) _ (h d.id (rw (eq-eqb d.id d.id refl) tt)) (live_in cs ds (λ i l. h i (more i (eqb d.id i) l)))
+    pair (is_live (lookup cs d.id)) _ (h d.id (rw (eq-eqb d.id d.id refl) tt)) (live_in cs ds (λ i l. h i (more i (eqb d.id i) l)))
   where
-    more : (i : ℕ) (y : Bool) → T (is_live_lem (lookup ds i)) → T (is_live_lem (some_if y d.figure (lookup ds i)))
+    more : (i : ℕ) (y : Bool) → T (is_live (lookup ds i)) → T (is_live (some_if y d.figure (lookup ds i)))
     more i true l = tt
     more i false l = l
 
-pub all_live : (cs : List LiveCell) → T (all (λ (c : LiveCell). is_live_lem (lookup cs c.id)) cs)
+pub all_live : (cs : List LiveCell) → T (all (λ (c : LiveCell). is_live (lookup cs c.id)) cs)
 all_live cs = live_in cs cs (λ i l. l)
 
-removed_none : (cs ds : List LiveCell) → T (all (λ (c : LiveCell). is_live_lem (lookup cs c.id)) ds)
-    → filter (λ (c : LiveCell). not (is_live_lem (lookup cs c.id))) ds ≡ []
+removed_none : (cs ds : List LiveCell) → T (all (λ (c : LiveCell). is_live (lookup cs c.id)) ds)
+    → filter (λ (c : LiveCell). not (is_live (lookup cs c.id))) ds ≡ []
 removed_none cs [] h = refl
 removed_none cs (d ∷ ds) h =
-    let b = both (is_live_lem (lookup cs d.id)) (all (λ (c : LiveCell). is_live_lem (lookup cs c.id)) ds) h in
-    rw (true_of (is_live_lem (lookup cs d.id)) b.0) (removed_none cs ds b.1)
+    let b = both (is_live (lookup cs d.id)) (all (λ (c : LiveCell). is_live (lookup cs c.id)) ds) h in
+    rw (true_of (is_live (lookup cs d.id)) b.0) (removed_none cs ds b.1)
 
 pub removed_count : (s : Sheet) (b : List ℕ) → renumbering s b ≡ false → (command s b).removed ≡ length (removed_from s (command s b).sheet)
 unfolding renewed
@@ -179,22 +179,22 @@ removed_count s b n = elim (answered s b) [
 -- ---- of the cells of a rebuild: those that went and those that are there are those that were and the new ones
 module _ (p : ℕ → Bool) (f : ℕ → Figure → Figure) (new : List Figure) (s : Sheet) where
   abbrev gone : LiveCell → Bool
-  gone c = not (is_live_lem (cell_at (rebuild p f new s) c.id))
+  gone c = not (is_live (cell_at (rebuild p f new s) c.id))
 
-  live_after : (i : ℕ) → i < s.next → T (is_live_lem (cell_at s i)) → is_live_lem (cell_at (rebuild p f new s) i) ≡ p i
-  live_after i h l = ap is_live_lem (lookup_rebuild p f new s i) ∙ rw (lookup_below s.next new i h) (go (p i) (cell_at s i) l)
+  live_after : (i : ℕ) → i < s.next → T (is_live (cell_at s i)) → is_live (cell_at (rebuild p f new s) i) ≡ p i
+  live_after i h l = ap is_live (lookup_rebuild p f new s i) ∙ rw (lookup_below s.next new i h) (go (p i) (cell_at s i) l)
     where
-      go : (b : Bool) (o : Option Figure) → T (is_live_lem o) → is_live_lem (or_else (changed (f i) (cond b o none)) none) ≡ b
+      go : (b : Bool) (o : Option Figure) → T (is_live o) → is_live (or_else (changed (f i) (cond b o none)) none) ≡ b
       go b none l = absurd l
       go true (some x) l = refl
       go false (some x) l = refl
 
-  split_cells : (lo : ℕ) (cs : List LiveCell) → T (rising lo (ids cs) s.next) → T (all (λ (c : LiveCell). is_live_lem (cell_at s c.id)) cs)
+  split_cells : (lo : ℕ) (cs : List LiveCell) → T (rising lo (ids cs) s.next) → T (all (λ (c : LiveCell). is_live (cell_at s c.id)) cs)
       → length (filter gone cs) + length (keep_ids p cs) ≡ length cs
   split_cells lo [] r a = refl
   split_cells lo (c ∷ cs) r a =
       let b = both (ltb lo c.id) (rising c.id (ids cs) s.next) r in
-      let l = both (is_live_lem (cell_at s c.id)) (all (λ (d : LiveCell). is_live_lem (cell_at s d.id)) cs) a in
+      let l = both (is_live (cell_at s c.id)) (all (λ (d : LiveCell). is_live (cell_at s d.id)) cs) a in
       let e = live_after c.id (rising_lt c.id (ids cs) s.next b.1) l.0 in
       go (p c.id) (ap not e) (split_cells c.id cs b.1 l.1)
     where

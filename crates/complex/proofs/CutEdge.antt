@@ -14,7 +14,7 @@ use Rattle.coordinate.specs.declared.Position.{Position}
 use Rattle.coordinate.specs.Bounds.{within, in_bounds, middle}
 use Rattle.complex.specs.Lists.{all, is_empty, one, total}
 use Rattle.complex.specs.Cells.{Halfedge, Cycle, lone, path, Figure, vertex, open_edge, closed_edge, face, LiveCell, Sheet, origin, Look, lookup, is_vertex}
-use Rattle.complex.specs.Cells.{is_open_lem, is_closed, is_edge, start_of, end_of, bends_of, position_of, along, against, same, tail_of, head_of, cell_at}
+use Rattle.complex.specs.Cells.{is_open, is_closed, is_edge, start_of, end_of, bends_of, position_of, along, against, same, tail_of, head_of, cell_at}
 use Rattle.complex.specs.Sound.{Walk, ids_end, cycle_ok, figure_ok, ceilings, joins}
 use Rattle.complex.specs.Decode.{Command, cut_edge}
 use Rattle.complex.specs.Edits.{numbered, rebuild, rewired, same_vertex, others, in_place_of}
@@ -129,7 +129,7 @@ module _ (s : Sheet) (S : Sound s) (e q a b : ℕ) (bs : List Position) (at : ce
   two true = (rw at_b tt, ap end_of (sym at_b), (rw at_a tt, ap start_of at_b ∙ ap end_of (sym at_a), ap start_of at_a))
   two false = (rw at_a tt, ap start_of (sym at_a), (rw at_b tt, ap end_of at_a ∙ ap start_of (sym at_b), ap end_of at_b))
 
-  here_walk : (h : Halfedge) → h.edge ≡ e → T (is_open_lem (cell_at s e)) → Walk look' (tail_of (cell_at s) h) (σ h) (head_of (cell_at s) h)
+  here_walk : (h : Halfedge) → h.edge ≡ e → T (is_open (cell_at s e)) → Walk look' (tail_of (cell_at s) h) (σ h) (head_of (cell_at s) h)
   here_walk h z o =
       let c : cell_at s h.edge ≡ some (open_edge a b bs) = ap (cell_at s) z ∙ at in
       let t : tail_of (cell_at s) h ≡ cond h.backward b a = ap (λ (x : Option Figure). cond h.backward (end_of x) (start_of x)) c in
@@ -230,8 +230,8 @@ module _ (s : Sheet) (S : Sound s) (e q : ℕ) (bs : List Position) (at : cell_a
   here-ringᶜ : (h : Halfedge) (hs : List Halfedge) → h.edge ≡ e → T (is_closed (cell_at s e)) → T (all (same h) hs) → T (joins lookᶜ (spread σᶜ (h ∷ hs)))
   here-ringᶜ h hs z c t = round_joins lookᶜ (spread σᶜ (h ∷ hs)) tt (w, walk_append lookᶜ w (σᶜ h) w (spread σᶜ hs) w (loop_step_lem h z) (loops h z hs t))
 
-  here-walkᶜ : (h : Halfedge) → h.edge ≡ e → T (is_open_lem (cell_at s e)) → Walk lookᶜ (tail_of (cell_at s) h) (σᶜ h) (head_of (cell_at s) h)
-  here-walkᶜ h z o = absurd (subst (λ (x : Option Figure). T (is_open_lem x)) at o)
+  here-walkᶜ : (h : Halfedge) → h.edge ≡ e → T (is_open (cell_at s e)) → Walk lookᶜ (tail_of (cell_at s) h) (σᶜ h) (head_of (cell_at s) h)
+  here-walkᶜ h z o = absurd (subst (λ (x : Option Figure). T (is_open x)) at o)
 
   new-okᶜ : T (all (figure_ok lookᶜ) newᶜ)
   new-okᶜ =

@@ -13,8 +13,8 @@ use Rattle.number.specs.Readers.{spread}
 use Rattle.coordinate.specs.declared.Position.{Position}
 use Rattle.coordinate.specs.Bounds.{within}
 use Rattle.complex.specs.Lists.{all, any, holds}
-use Rattle.complex.specs.Cells.{Halfedge, Cycle, lone, path, Figure, vertex, open_edge, closed_edge, face, LiveCell, Sheet, Look, lookup, is_vertex, is_open_lem}
-use Rattle.complex.specs.Cells.{is_closed, is_live_lem, start_of, end_of, same, tail_of, head_of, cell_at}
+use Rattle.complex.specs.Cells.{Halfedge, Cycle, lone, path, Figure, vertex, open_edge, closed_edge, face, LiveCell, Sheet, Look, lookup, is_vertex, is_open}
+use Rattle.complex.specs.Cells.{is_closed, is_live, start_of, end_of, same, tail_of, head_of, cell_at}
 use Rattle.complex.specs.Boundary.{ends_of, boundary_at, rests, cycle_boundary, boundary, bounds, bounds_at, RestsOn, holding, through}
 use Rattle.complex.specs.Sound.{ids_end, leads, joins, cycle_ok, figure_ok, ceilings}
 use Rattle.complex.specs.Decode.{Command, delete}
@@ -66,9 +66,9 @@ module _ (look look' : Look) where
   leads_frame u (h ∷ hs) w a t =
       let q = a h.edge (holds_first h.edge (ends_of (look h.edge) ++ cycle_boundary look (path hs))) in
       let r = agree_right (h.edge ∷ ends_of (look h.edge)) (cycle_boundary look (path hs)) a in
-      let b = both (is_open_lem (look h.edge)) (eqb u (tail_of look h) && leads look (head_of look h) hs w) t in
+      let b = both (is_open (look h.edge)) (eqb u (tail_of look h) && leads look (head_of look h) hs w) t in
       let d = both (eqb u (tail_of look h)) (leads look (head_of look h) hs w) b.1 in
-      rw q (pair (is_open_lem (look h.edge)) _ b.0 (pair (eqb u (tail_of look h)) _ d.0 (leads_frame (head_of look h) hs w r d.1)))
+      rw q (pair (is_open (look h.edge)) _ b.0 (pair (eqb u (tail_of look h)) _ d.0 (leads_frame (head_of look h) hs w r d.1)))
 
   joins_frame : (hs : List Halfedge) → Agree (cycle_boundary look (path hs)) → T (joins look hs) → T (joins look' hs)
   joins_frame [] a t = t
@@ -129,7 +129,7 @@ module _ (s : Sheet) (S : Sound s) where
       go (some (face ks)) q t = absurd t
 
   -- of an edge: its boundary is its ends
-  edge_bounds : (y : ℕ) (o : Option Figure) → (T (is_open_lem o) ⊎ T (is_closed o)) → T (bounds_at (cell_at s) y o) → T (holds y (ends_of o))
+  edge_bounds : (y : ℕ) (o : Option Figure) → (T (is_open o) ⊎ T (is_closed o)) → T (bounds_at (cell_at s) y o) → T (holds y (ends_of o))
   edge_bounds y none k t = absurd t
   edge_bounds y (some (vertex p)) k t = absurd t
   edge_bounds y (some (open_edge a b bs)) k t = t
@@ -138,12 +138,12 @@ module _ (s : Sheet) (S : Sound s) where
 
   abbrev pub Edges : List Halfedge → Type 0
   Edges [] = Unit {0}
-  Edges (h ∷ hs) = (T (is_open_lem (cell_at s h.edge)) ⊎ T (is_closed (cell_at s h.edge))) × Edges hs
+  Edges (h ∷ hs) = (T (is_open (cell_at s h.edge)) ⊎ T (is_closed (cell_at s h.edge))) × Edges hs
 
   leads_edges : (u : ℕ) (hs : List Halfedge) (w : ℕ) → T (leads (cell_at s) u hs w) → Edges hs
   leads_edges u [] w t = tt
   leads_edges u (h ∷ hs) w t =
-      let b = both (is_open_lem (cell_at s h.edge)) (eqb u (tail_of (cell_at s) h) && leads (cell_at s) (head_of (cell_at s) h) hs w) t in
+      let b = both (is_open (cell_at s h.edge)) (eqb u (tail_of (cell_at s) h) && leads (cell_at s) (head_of (cell_at s) h) hs w) t in
       let d = both (eqb u (tail_of (cell_at s) h)) (leads (cell_at s) (head_of (cell_at s) h) hs w) b.1 in
       (inl b.0, leads_edges (head_of (cell_at s) h) hs w d.1)
 
@@ -284,7 +284,7 @@ module _ (s : Sheet) (S : Sound s) (i : ℕ) where
               (or_right (eqb i j) (rests (cell_at s) (length s.cells) i j)
               (bounds_rests s i j (subst (λ (o : Option Figure). T (bounds_at (cell_at s) i o)) (sym e) (held (truth q))))))
 
-  pub deleted_took : T (is_live_lem (cell_at s i)) → Took s (deleted s i) i
+  pub deleted_took : T (is_live (cell_at s i)) → Took s (deleted s i) i
   unfolding deleted
   deleted_took l j = (λ h. gone h.0 h.1 (goes s i j) refl, λ h. took h)
     where
@@ -295,19 +295,19 @@ module _ (s : Sheet) (S : Sound s) (i : ℕ) where
       ]
       gone a d false q =
           let e : Look' stay as_it_is [] s j ≡ cell_at s j = left_at j ∙ rw q in
-          absurd (d (subst (λ (o : Option Figure). T (is_live_lem o)) (sym e) a))
+          absurd (d (subst (λ (o : Option Figure). T (is_live o)) (sym e) a))
 
       dead : T (goes s i j) → live (rebuild stay as_it_is [] s) j → ⊥
       dead g a =
           let e : Look' stay as_it_is [] s j ≡ none = left_at j ∙ rw (true_of (goes s i j) g) in
-          subst (λ (o : Option Figure). T (is_live_lem o)) e a
+          subst (λ (o : Option Figure). T (is_live o)) e a
 
-      bounded_live : (o : Option Figure) → T (bounds_at (cell_at s) i o) → T (is_live_lem o)
+      bounded_live : (o : Option Figure) → T (bounds_at (cell_at s) i o) → T (is_live o)
       bounded_live none t = t
       bounded_live (some u) t = tt
 
       took : (j ≡ i) ⊎ RestsOn (cell_at s) i j → live s j × (live (rebuild stay as_it_is [] s) j → ⊥)
-      took (inl e) = (subst (λ (x : ℕ). T (is_live_lem (cell_at s x))) (sym e) l, dead (or_left (eqb i j) (rests (cell_at s) (length s.cells) i j) (equal (sym e))))
+      took (inl e) = (subst (λ (x : ℕ). T (is_live (cell_at s x))) (sym e) l, dead (or_left (eqb i j) (rests (cell_at s) (length s.cells) i j) (equal (sym e))))
       took (inr r) = let b = rests_bounds s S i j r in
           (bounded_live (cell_at s j) b, dead (or_right (eqb i j) (rests (cell_at s) (length s.cells) i j) (bounds_rests s i j b)))
 

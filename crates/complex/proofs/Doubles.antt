@@ -106,12 +106,12 @@ bends_at (some (open_edge a b bs)) t = t
 bends_at (some (closed_edge bs)) t = t
 bends_at (some (face ks)) t = tt
 
-place_at : (o : Option Figure) → DoubleAt o → T (double (position_of o))
-place_at none t = origin_double
-place_at (some (vertex p)) t = t
-place_at (some (open_edge a b bs)) t = origin_double
-place_at (some (closed_edge bs)) t = origin_double
-place_at (some (face ks)) t = origin_double
+place_at_lem : (o : Option Figure) → DoubleAt o → T (double (position_of o))
+place_at_lem none t = origin_double
+place_at_lem (some (vertex p)) t = t
+place_at_lem (some (open_edge a b bs)) t = origin_double
+place_at_lem (some (closed_edge bs)) t = origin_double
+place_at_lem (some (face ks)) t = origin_double
 
 copies_at : (n : ℕ) (o : Option Figure) → DoubleAt o → T (all figure_double (copies n o))
 copies_at n none t = tt
@@ -210,11 +210,11 @@ module _ (s : Sheet) (S : T (doubles s)) where
       let bs = bends_of (cell_at s e) in
       let x = closed_edge (p ∷ bs) in
       rebuild_doubles _ _ (one x) s (double_rewired _ _)
-      (single_double x (pair (double p) (all double bs) (place_at (cell_at s i) (double_at s i S)) (bends_at (cell_at s e) (double_at s e S)))) S
+      (single_double x (pair (double p) (all double bs) (place_at_lem (cell_at s i) (double_at s i S)) (bends_at (cell_at s e) (double_at s e S)))) S
   uncut_kept i (joint h k) =
       let p = position_of (cell_at s i) in
       let x = joined (cell_at s) p h k in
-      rebuild_doubles _ _ (one x) s (double_rewired _ _) (single_double x (joined_double p h k (place_at (cell_at s i) (double_at s i S)))) S
+      rebuild_doubles _ _ (one x) s (double_rewired _ _) (single_double x (joined_double p h k (place_at_lem (cell_at s i) (double_at s i S)))) S
   uncut_kept i (two_faces u w) = rebuild_doubles _ _ [] s (replaced_steady _ _ tt) tt S
   uncut_kept i (one_cycle u w) = rebuild_doubles _ _ [] s (replaced_steady _ _ tt) tt S
   uncut_kept i (rings u w) = rebuild_doubles _ _ [] s (replaced_steady _ _ tt) tt S

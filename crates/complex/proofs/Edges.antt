@@ -14,7 +14,7 @@ use Rattle.coordinate.specs.declared.Position.{Position}
 use Rattle.coordinate.specs.Bounds.{within, in_bounds, middle}
 use Rattle.complex.specs.Lists.{all, is_empty, one}
 use Rattle.complex.specs.Cells.{Halfedge, Cycle, lone, path, Figure, vertex, open_edge, closed_edge, face, LiveCell, Sheet, origin, Look, some_if, lookup}
-use Rattle.complex.specs.Cells.{is_vertex, is_open_lem, is_closed, is_edge, start_of, end_of, bends_of, position_of, along, against, same, tail_of, head_of, cell_at}
+use Rattle.complex.specs.Cells.{is_vertex, is_open, is_closed, is_edge, start_of, end_of, bends_of, position_of, along, against, same, tail_of, head_of, cell_at}
 use Rattle.complex.specs.Sound.{Walk, ids_end, cycle_ok, figure_ok, ceilings, joins, over}
 use Rattle.complex.specs.Decode.{Command, glue_edges, cut_edge}
 use Rattle.complex.specs.Edits.{numbered, rebuild, rewired, same_vertex, others, in_place_of}
@@ -37,9 +37,9 @@ alike_rewired σ i (open_edge a b bs) = (tt, refl, refl)
 alike_rewired σ i (closed_edge bs) = tt
 alike_rewired σ i (face ks) = tt
 
-pub edge_of : (o : Option Figure) → (T (is_open_lem o) ⊎ T (is_closed o)) → T (is_edge o)
-edge_of o (inl a) = or_left (is_open_lem o) (is_closed o) a
-edge_of o (inr a) = or_right (is_open_lem o) (is_closed o) a
+pub edge_of : (o : Option Figure) → (T (is_open o) ⊎ T (is_closed o)) → T (is_edge o)
+edge_of o (inl a) = or_left (is_open o) (is_closed o) a
+edge_of o (inr a) = or_right (is_open o) (is_closed o) a
 
 pub edge_no_vertex : (o : Option Figure) → T (is_edge o) → T (is_vertex o) → ⊥
 edge_no_vertex none e v = v
@@ -64,21 +64,21 @@ module _ (s : Sheet) (S : Sound s) (e : ℕ) (E : T (is_edge (cell_at s e))) (σ
   pub left_vertex : (v : ℕ) → T (is_vertex (cell_at s v)) → T (is_vertex (swapped v))
   left_vertex v t = vertex_of (cell_at s v) (swapped v) (left_alike v (λ q. edge_no_vertex (cell_at s e) E (subst (λ (i : ℕ). T (is_vertex (cell_at s i))) q t))) t
 
-  pub left_walk : (h : Halfedge) → (h.edge ≡ e → ⊥) → T (is_open_lem (cell_at s h.edge)) → Walk swapped (tail_of (cell_at s) h) (one h) (head_of (cell_at s) h)
+  pub left_walk : (h : Halfedge) → (h.edge ≡ e → ⊥) → T (is_open (cell_at s h.edge)) → Walk swapped (tail_of (cell_at s) h) (one h) (head_of (cell_at s) h)
   left_walk h n t =
       let o = open_of (cell_at s h.edge) (swapped h.edge) (left_alike h.edge n) t in
       (o.0, (λ i. cond h.backward (o.2 i) (o.1 i)), (λ i. cond h.backward (sym o.1 i) (sym o.2 i)))
 
   -- open edges carried, closed edges carried
   module _ (stay : (h : Halfedge) → eqb e h.edge ≡ false → σ h ≡ one h) (some-σ : (h : Halfedge) → Some (σ h))
-      (here_walk : (h : Halfedge) → h.edge ≡ e → T (is_open_lem (cell_at s e)) → Walk swapped (tail_of (cell_at s) h) (σ h) (head_of (cell_at s) h))
+      (here_walk : (h : Halfedge) → h.edge ≡ e → T (is_open (cell_at s e)) → Walk swapped (tail_of (cell_at s) h) (σ h) (head_of (cell_at s) h))
       (here_ring : (h : Halfedge) (hs : List Halfedge) → h.edge ≡ e → T (is_closed (cell_at s e)) → T (all (same h) hs)
       → T (joins swapped (spread σ (h ∷ hs)))) where
-    walks : (h : Halfedge) → T (is_open_lem (cell_at s h.edge)) → Walk swapped (tail_of (cell_at s) h) (σ h) (head_of (cell_at s) h)
+    walks : (h : Halfedge) → T (is_open (cell_at s h.edge)) → Walk swapped (tail_of (cell_at s) h) (σ h) (head_of (cell_at s) h)
     walks h t = go (eqb e h.edge) refl
       where
         go : (b : Bool) → eqb e h.edge ≡ b → Walk swapped (tail_of (cell_at s) h) (σ h) (head_of (cell_at s) h)
-        go true q = let z = sym (eqb-true e h.edge q) in here_walk h z (subst (λ (i : ℕ). T (is_open_lem (cell_at s i))) z t)
+        go true q = let z = sym (eqb-true e h.edge q) in here_walk h z (subst (λ (i : ℕ). T (is_open (cell_at s i))) z t)
         go false q = rw (stay h q) (left_walk h (λ z. eqb-false e h.edge q (sym z)) t)
 
     rings : (hs : List Halfedge) → Ring (cell_at s) hs → T (joins swapped (spread σ hs))
@@ -138,13 +138,13 @@ module _ (a b flag : ℕ) (s : Sheet) (S : Sound s) (q : Passes s (glue_edges a 
   apart₈ = not_of (eqb a b) (both (not (eqb a b)) (may_glue (cell_at s a) (cell_at s b) flag) q.six).0
 
   rule : (T (is_closed (cell_at s a)) × T (is_closed (cell_at s b)))
-      ⊎ (T (is_open_lem (cell_at s a)) × T (is_open_lem (cell_at s b))
+      ⊎ (T (is_open (cell_at s a)) × T (is_open (cell_at s b))
       × T (cond (eqb flag 0) (eqb (start_of (cell_at s a)) (start_of (cell_at s b)) && eqb (end_of (cell_at s a)) (end_of (cell_at s b)))
       (eqb (start_of (cell_at s a)) (end_of (cell_at s b)) && eqb (end_of (cell_at s a)) (start_of (cell_at s b)))))
   unfolding question6
   rule = elim (cases (is_closed (cell_at s a) && is_closed (cell_at s b)) _ (both (not (eqb a b)) (may_glue (cell_at s a) (cell_at s b) flag) q.six).1) [
     | inl c ↦ inl (both (is_closed (cell_at s a)) (is_closed (cell_at s b)) c)
-    | inr o ↦ let x = both (is_open_lem (cell_at s a)) _ o in let y = both (is_open_lem (cell_at s b)) _ x.1 in inr (x.0, y.0, y.1)
+    | inr o ↦ let x = both (is_open (cell_at s a)) _ o in let y = both (is_open (cell_at s b)) _ x.1 in inr (x.0, y.0, y.1)
   ]
 
   abbrev look₈ : Look
@@ -154,7 +154,7 @@ module _ (a b flag : ℕ) (s : Sheet) (S : Sound s) (q : Passes s (glue_edges a 
   a_alike = left_alike s S b edges.1 σ₈ [] a (eqb-false a b apart₈)
 
   -- the ends of a and b agree along the direction that a step of b gets
-  ends_agree : T (is_open_lem (cell_at s b)) → (bw : Bool)
+  ends_agree : T (is_open (cell_at s b)) → (bw : Bool)
       → (cond bw (end_of (cell_at s b)) (start_of (cell_at s b)) ≡ cond (cond (eqb flag 1) (not bw) bw) (end_of (cell_at s a)) (start_of (cell_at s a)))
       × (cond bw (start_of (cell_at s b)) (end_of (cell_at s b)) ≡ cond (cond (eqb flag 1) (not bw) bw) (start_of (cell_at s a)) (end_of (cell_at s a)))
   ends_agree o bw = elim rule [
@@ -178,11 +178,11 @@ module _ (a b flag : ℕ) (s : Sheet) (S : Sound s) (q : Passes s (glue_edges a 
           (sym (eqb→eq (end_of (cell_at s a)) (start_of (cell_at s b)) x.1), sym (eqb→eq (start_of (cell_at s a)) (end_of (cell_at s b)) x.0))
       go (suc (suc n)) l t bw = absurd (omega arith)
 
-  here-walk₈ : (h : Halfedge) → h.edge ≡ b → T (is_open_lem (cell_at s b)) → Walk look₈ (tail_of (cell_at s) h) (σ₈ h) (head_of (cell_at s) h)
+  here-walk₈ : (h : Halfedge) → h.edge ≡ b → T (is_open (cell_at s b)) → Walk look₈ (tail_of (cell_at s) h) (σ₈ h) (head_of (cell_at s) h)
   here-walk₈ h z o =
       let d = cond (eqb flag 1) (not h.backward) h.backward in
       let g = ends_agree o h.backward in
-      let oa : T (is_open_lem (cell_at s a)) = elim rule [ inl c ↦ absurd (apart (cell_at s b) c.1 o) | inr r ↦ r.0 ] in
+      let oa : T (is_open (cell_at s a)) = elim rule [ inl c ↦ absurd (apart (cell_at s b) c.1 o) | inr r ↦ r.0 ] in
       let k = open_of (cell_at s a) (look₈ a) a_alike oa in
       let t : tail_of (cell_at s) h ≡ cond h.backward (end_of (cell_at s b)) (start_of (cell_at s b)) =
       ap (λ (i : ℕ). cond h.backward (end_of (cell_at s i)) (start_of (cell_at s i))) z in
@@ -210,18 +210,18 @@ module _ (a b flag : ℕ) (s : Sheet) (S : Sound s) (q : Passes s (glue_edges a 
 
       go : (x y : Option Figure) → cell_at s a ≡ x → cell_at s b ≡ y
           → over gain (rebuild (others b) (rewired same_vertex σ₈) [] s).cells + over loss s.cells + 0 ≡ over gain s.cells
-          + over loss (rebuild (others b) (rewired same_vertex σ₈) [] s).cells + cond (is_open_lem (cell_at s a)) 1 0
+          + over loss (rebuild (others b) (rewired same_vertex σ₈) [] s).cells + cond (is_open (cell_at s a)) 1 0
       go x none d e = absurd (subst (λ (o : Option Figure). T (is_edge o)) e edges.1)
       go x (some (vertex p)) d e = absurd (subst (λ (o : Option Figure). T (is_edge o)) e edges.1)
       go x (some (open_edge u w bs)) d e =
-          let o : T (is_open_lem (cell_at s a)) = elim rule [ inl c ↦ absurd (subst (λ (z : Option Figure). T (is_closed z)) e c.1) | inr r ↦ r.0 ] in
+          let o : T (is_open (cell_at s a)) = elim rule [ inl c ↦ absurd (subst (λ (z : Option Figure). T (is_closed z)) e c.1) | inr r ↦ r.0 ] in
           let m = sums gain (gain_rewired same_vertex σ₈) (open_edge u w bs) e in
           let n = sums loss (loss_rewired same_vertex σ₈) (open_edge u w bs) e in
-          rw (true_of (is_open_lem (cell_at s a)) o) (omega arith)
+          rw (true_of (is_open (cell_at s a)) o) (omega arith)
       go x (some (closed_edge bs)) d e =
-          let c : T (is_closed (cell_at s a)) = elim rule [ inl r ↦ r.0 | inr r ↦ absurd (subst (λ (z : Option Figure). T (is_open_lem z)) e r.1) ] in
+          let c : T (is_closed (cell_at s a)) = elim rule [ inl r ↦ r.0 | inr r ↦ absurd (subst (λ (z : Option Figure). T (is_open z)) e r.1) ] in
           let m = sums gain (gain_rewired same_vertex σ₈) (closed_edge bs) e in
           let n = sums loss (loss_rewired same_vertex σ₈) (closed_edge bs) e in
-          let f : is_open_lem (cell_at s a) ≡ false = elim (either (is_open_lem (cell_at s a))) [ inl t ↦ absurd (apart (cell_at s a) c (truth t)) | inr t ↦ t ] in
+          let f : is_open (cell_at s a) ≡ false = elim (either (is_open (cell_at s a))) [ inl t ↦ absurd (apart (cell_at s a) c (truth t)) | inr t ↦ t ] in
           rw f (omega arith)
       go x (some (face ks)) d e = absurd (subst (λ (o : Option Figure). T (is_edge o)) e edges.1)

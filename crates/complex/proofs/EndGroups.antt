@@ -17,7 +17,7 @@ use Rattle.complex.proofs.Bools.{both}
 use Rattle.complex.proofs.Keep.{Sound}
 use Rattle.complex.proofs.Groups
 use Rattle.complex.proofs.Sums.{total_append}
-use Rattle.complex.proofs.Groups.{hit, count, group_at_lem}
+use Rattle.complex.proofs.Groups.{hit, count, group_at}
 use Rattle.complex.proofs.UnglueVertex.{halfedges, turns_inside}
 
 -- an edge's own ends
@@ -89,22 +89,22 @@ module _ (s : Sheet) (S : Sound s) (v : ℕ) where
   pub in_some : (x : Halfedge) → T (is_in (ends_at s.cells v) x) → group_of (groups s.cells v) x < length (groups s.cells v)
   in_some x t = Groups.in_some same arrival departure ends turns x t
 
-  pub in_own : (x : Halfedge) → T (is_in (ends_at s.cells v) x) → T (is_in (group_at_lem (groups s.cells v) (group_of (groups s.cells v) x)) x)
+  pub in_own : (x : Halfedge) → T (is_in (ends_at s.cells v) x) → T (is_in (group_at (groups s.cells v) (group_of (groups s.cells v) x)) x)
   in_own x t = Groups.in_own same arrival departure ends turns x t
 
-  pub in_only : (x : Halfedge) (i : ℕ) → T (is_in (group_at_lem (groups s.cells v) i) x) → i ≡ group_of (groups s.cells v) x
+  pub in_only : (x : Halfedge) (i : ℕ) → T (is_in (group_at (groups s.cells v) i) x) → i ≡ group_of (groups s.cells v) x
   in_only x i t = Groups.in_only same arrival departure ends turns halfedges once x i t
 
   -- no group has another member
-  pub members_end : (x : Halfedge) (i : ℕ) → T (is_in (group_at_lem (groups s.cells v) i) x) → T (is_in (ends_at s.cells v) x)
+  pub members_end : (x : Halfedge) (i : ℕ) → T (is_in (group_at (groups s.cells v) i) x) → T (is_in (ends_at s.cells v) x)
   members_end x i t = Groups.members_in same arrival departure ends turns x i t
 
   -- no group is empty: its first member is in it
-  pub none_empty : (i : ℕ) → i < length (groups s.cells v) → T (is_in (group_at_lem (groups s.cells v) i) (first_at (groups s.cells v) i))
+  pub none_empty : (i : ℕ) → i < length (groups s.cells v) → T (is_in (group_at (groups s.cells v) i) (first_at (groups s.cells v) i))
   none_empty i l = Groups.none_empty same arrival departure ends turns halfedges once (along 0) i l
 
   -- of a group's members the first stands earliest among the ends
-  pub first_earliest : (i : ℕ) (x : Halfedge) → T (is_in (group_at_lem (groups s.cells v) i) x)
+  pub first_earliest : (i : ℕ) (x : Halfedge) → T (is_in (group_at (groups s.cells v) i) x)
       → place_of (ends_at s.cells v) (first_at (groups s.cells v) i) ≤ place_of (ends_at s.cells v) x
   first_earliest i x t = Groups.first_earliest same arrival departure ends turns halfedges once (along 0) i x t
 

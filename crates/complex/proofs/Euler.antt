@@ -13,7 +13,7 @@ use borrow.Author.Tests.{eq-eqb, ne_eqb, eqb-true, eqb-false, ltb-true, ltb-fals
 use Rattle.coordinate.specs.declared.Position.{Position}
 use Rattle.complex.specs.Lists.{all, cons_if, filter, total, holds, rising, places, one, without, chosen}
 use Rattle.complex.specs.Cells.{Halfedge, Cycle, lone, path, Figure, vertex, open_edge, closed_edge, face, LiveCell, Sheet, Look, some_if, lookup, ids}
-use Rattle.complex.specs.Cells.{is_vertex, is_open_lem, is_closed, is_face, cycles_of, steps_of, along, against, cell_at}
+use Rattle.complex.specs.Cells.{is_vertex, is_open, is_closed, is_face, cycles_of, steps_of, along, against, cell_at}
 use Rattle.complex.specs.Sound.{over}
 use Rattle.complex.specs.Euler.{euler}
 use Rattle.complex.specs.Decode.{Command, create, move, delete, cut_face_open}

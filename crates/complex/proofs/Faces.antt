@@ -14,7 +14,7 @@ use Rattle.coordinate.specs.declared.Position.{Position}
 use Rattle.coordinate.specs.Bounds.{within}
 use Rattle.complex.specs.Lists.{all, is_empty, cons_if, total, holds, rising, places, one, rotated, without, chosen}
 use Rattle.complex.specs.Cells.{Halfedge, Cycle, lone, path, Figure, vertex, open_edge, closed_edge, face, LiveCell, Sheet, Look, some_if, lookup, ids}
-use Rattle.complex.specs.Cells.{is_vertex, is_open_lem, is_closed, is_face, start_of, end_of, cycles_of, steps_of, along, against, same, tail_of, head_of, cell_at}
+use Rattle.complex.specs.Cells.{is_vertex, is_open, is_closed, is_face, start_of, end_of, cycles_of, steps_of, along, against, same, tail_of, head_of, cell_at}
 use Rattle.complex.specs.Sound.{Walk, ids_end, cycle_ok, figure_ok, ceilings, joins, over}
 use Rattle.complex.specs.Decode.{Command, move, glue_vertices, cut_face_vertex, cut_face_open, cut_face_closed}
 use Rattle.complex.specs.Edits.{keep_ids, reshape, rebuild, every_id, as_it_is, replaced, rewired, others}
@@ -140,11 +140,11 @@ module _ (s : Sheet) (S : Sound s) (f : ℕ) (is_f : T (is_face (cell_at s f))) 
   pub refaced_keeps : Keeps (cell_at s) refaced
   refaced_keeps = replaced_keeps f (face ks') new s S (λ t q. face_serves (cell_at s f) is_f t q ks')
 
-  pub cycles_ok_lem : T (all (cycle_ok (cell_at s)) (cycles_of (cell_at s f)))
-  cycles_ok_lem = S.figures f (face (cycles_of (cell_at s f))) (is_face_lem s f is_f)
+  pub cycles_ok : T (all (cycle_ok (cell_at s)) (cycles_of (cell_at s f)))
+  cycles_ok = S.figures f (face (cycles_of (cell_at s f))) (is_face_lem s f is_f)
 
-  pub cycles_ok'_lem : T (all (cycle_ok refaced) (cycles_of (cell_at s f)))
-  cycles_ok'_lem = all_more (cycle_ok (cell_at s)) (cycle_ok refaced) (cycle_kept (cell_at s) refaced refaced_keeps) (cycles_of (cell_at s f)) cycles_ok_lem
+  pub cycles_ok' : T (all (cycle_ok refaced) (cycles_of (cell_at s f)))
+  cycles_ok' = all_more (cycle_ok (cell_at s)) (cycle_ok refaced) (cycle_kept (cell_at s) refaced refaced_keeps) (cycles_of (cell_at s f)) cycles_ok
 
   pub refaced_sound : T (leb (rebuild every_id (replaced f (face ks')) new s).next ids_end) → T (ceilings (rebuild every_id (replaced f (face ks')) new s).cells)
       → T (all (cycle_ok refaced) ks') → T (all (figure_ok refaced) new) → Sound (rebuild every_id (replaced f (face ks')) new s)
@@ -168,7 +168,7 @@ dot_sound f p s S q =
     let look' = Look' every_id (replaced f (face ks')) (vertex p ∷ []) s in
     let v : T (is_vertex (look' s.next)) = rw (first_new f ks' (vertex p) [] s S) tt in
     refaced_sound s S f q.four ks' (vertex p ∷ []) q.seven q.eight
-    (all_append (cycle_ok look') ks (one (lone s.next)) (cycles_ok'_lem s S f q.four ks' (vertex p ∷ [])) (pair (is_vertex (look' s.next)) true v tt))
+    (all_append (cycle_ok look') ks (one (lone s.next)) (cycles_ok' s S f q.four ks' (vertex p ∷ [])) (pair (is_vertex (look' s.next)) true v tt))
     q.three
 
 pub dot_balanced : (f : ℕ) (p : Position) (s : Sheet) → Sound s → Passes s (cut_face_vertex f p) → Balanced s (cut_face_vertex f p)
@@ -212,7 +212,7 @@ module _ (f : ℕ) (bs : List Position) (ms : List ℕ) (s : Sheet) (S : Sound s
   unfolding result face_cut_round
   round_sound =
       let look' = Look' every_id (replaced f (face rks')) rnew s in
-      let old = cycles_ok'_lem s S f is_f rks' rnew in
+      let old = cycles_ok' s S f is_f rks' rnew in
       refaced_sound s S f is_f rks' rnew q.seven q.eight
       (all_append (cycle_ok look') (without ms 0 rks) (one (path (one (along s.next)))) (all_without (cycle_ok look') ms 0 rks old)
       (pair (joins look' (one (along s.next))) true (ring (along s.next) refl) tt))
@@ -241,7 +241,7 @@ corner_round look (lone v) n c h = nothing n
     nothing zero = refl
     nothing (suc n) = refl
 corner_round look (path hs) n c h =
-    let x = both (ltb n (length hs)) (is_open_lem (look (get_or hs n no_step).edge)) h in
+    let x = both (ltb n (length hs)) (is_open (look (get_or hs n no_step).edge)) h in
     let l = ltb→lt n (length hs) x.0 in
     elim (joins_cases look hs c) [
       | inl w ↦ go l (round_rotated look n hs w.1)
@@ -295,10 +295,10 @@ module _ (f c1 s1 c2 s2 : ℕ) (bs : List Position) (ms : List ℕ) (s : Sheet) 
   bbends = q.three
 
   ok1 : T (cycle_ok (cell_at s) k1)
-  ok1 = all_get_d (cycle_ok (cell_at s)) bks c1 no_cycle (cycles_ok_lem s S f bis_f bks' bnew) corners.0
+  ok1 = all_get_d (cycle_ok (cell_at s)) bks c1 no_cycle (cycles_ok s S f bis_f bks' bnew) corners.0
 
   ok2 : T (cycle_ok (cell_at s) k2)
-  ok2 = all_get_d (cycle_ok (cell_at s)) bks c2 no_cycle (cycles_ok_lem s S f bis_f bks' bnew) corners.1
+  ok2 = all_get_d (cycle_ok (cell_at s)) bks c2 no_cycle (cycles_ok s S f bis_f bks' bnew) corners.1
 
   bridge_walk : T (joins blook joined_path)
   bridge_walk =
@@ -308,7 +308,7 @@ module _ (f c1 s1 c2 s2 : ℕ) (bs : List Position) (ms : List ℕ) (s : Sheet) 
       let e : blook s.next ≡ some (open_edge u w bs) = first_new f bks' (open_edge u w bs) [] s S in
       let a = walk_kept (cell_at s) blook K u (rotated s1 (steps_of k1)) u (corner_round (cell_at s) k1 s1 ok1 corners.2) in
       let b = walk_kept (cell_at s) blook K w (rotated s2 (steps_of k2)) w (corner_round (cell_at s) k2 s2 ok2 corners.3) in
-      let o : T (is_open_lem (blook s.next)) = rw e tt in
+      let o : T (is_open (blook s.next)) = rw e tt in
       let back : Walk blook w (one (against s.next)) u = (o, ap end_of (sym e), ap start_of e) in
       let tail : Walk blook w (rotated s2 (steps_of k2) ++ one (against s.next)) u =
       walk_append blook w (rotated s2 (steps_of k2)) w (one (against s.next)) u b back in
@@ -332,7 +332,7 @@ module _ (f c1 s1 c2 s2 : ℕ) (bs : List Position) (ms : List ℕ) (s : Sheet) 
       let w = corner (cell_at s) k2 s2 in
       rw cut_two (refaced_sound s S f bis_f bks' bnew (rw cut_two at q.seven) (rw cut_two at q.eight)
       (all_without (cycle_ok blook) (one c2) 0 (set bks c1 (path joined_path))
-      (all_set (cycle_ok blook) bks c1 (path joined_path) (cycles_ok'_lem s S f bis_f bks' bnew) bridge_walk))
+      (all_set (cycle_ok blook) bks c1 (path joined_path) (cycles_ok' s S f bis_f bks' bnew) bridge_walk))
       (pair (is_vertex (blook u) && (is_vertex (blook w) && all within bs)) true
       (pair (is_vertex (blook u)) (is_vertex (blook w) && all within bs) (K.vertices u (corner_vertex_lem s S k1 s1 ok1 corners.2))
       (pair (is_vertex (blook w)) (all within bs) (K.vertices w (corner_vertex_lem s S k2 s2 ok2 corners.3)) bbends)) tt))

@@ -18,8 +18,8 @@ use Rattle.coordinate.specs.Bounds.{within}
 use Rattle.coordinate.specs.Positions.{FloatFits}
 use Rattle.complex.specs.Lists.{all, total, rising}
 use Rattle.complex.specs.Cells.{Halfedge, Cycle, lone, path, Figure, vertex, open_edge, closed_edge, face, LiveCell, Sheet, empty, Look, lookup, ids}
-use Rattle.complex.specs.Cells.{is_vertex, is_open_lem, is_closed, same, head_of}
-use Rattle.complex.specs.Sound.{ids_end, Walk, joins, cycle_ok, figure_ok, cells_most, cycles_most, steps_most, bends_most, step_count_lem, cycles_in, steps_in}
+use Rattle.complex.specs.Cells.{is_vertex, is_open, is_closed, same, head_of}
+use Rattle.complex.specs.Sound.{ids_end, Walk, joins, cycle_ok, figure_ok, cells_most, cycles_most, steps_most, bends_most, step_count, cycles_in, steps_in}
 use Rattle.complex.specs.Sound.{bends_in, over, figures_ok, sound, double, figure_double, doubles}
 use Rattle.complex.specs.File.{file_of, read_sheet, ReadAnswer, judged, read_file}
 use Rattle.complex.specs.Demands.{are_bytes, OneFile}
@@ -52,7 +52,7 @@ module _ (look : Look) (live : (i : ℕ) → (look i ≡ none → ⊥) → i < i
 
   walk_held : (u : ℕ) (hs : List Halfedge) (w : ℕ) → Walk look u hs w → Each StepHeld hs
   walk_held u [] w k = tt
-  walk_held u (h ∷ hs) w k = (step_held h (named is_open_lem (λ z. z) h.edge k.0), walk_held (head_of look h) hs w k.2)
+  walk_held u (h ∷ hs) w k = (step_held h (named is_open (λ z. z) h.edge k.0), walk_held (head_of look h) hs w k.2)
 
   ring_held : (h : Halfedge) → StepHeld h → (hs : List Halfedge) → T (all (same h) hs) → Each StepHeld hs
   ring_held h l [] t = tt
@@ -66,11 +66,11 @@ module _ (look : Look) (live : (i : ℕ) → (look i ≡ none → ⊥) → i < i
     | inr r ↦ let l = step_held h (named is_closed (λ z. z) h.edge r.0) in (omega arith, (l, ring_held h l hs r.1))
   ]
 
-  cycle_held : (k : Cycle) → T (cycle_ok look k) → step_count_lem k ≤ steps_most → CycleHeld k
+  cycle_held : (k : Cycle) → T (cycle_ok look k) → step_count k ≤ steps_most → CycleHeld k
   cycle_held (lone v) t l = let b = named is_vertex (λ z. z) v t in omega arith
   cycle_held (path hs) t l = let p = path_held hs t in (p.0, omega arith, p.1)
 
-  cycles_held : (ks : List Cycle) → T (all (cycle_ok look) ks) → total step_count_lem ks ≤ steps_most → Each CycleHeld ks
+  cycles_held : (ks : List Cycle) → T (all (cycle_ok look) ks) → total step_count ks ≤ steps_most → Each CycleHeld ks
   cycles_held [] t l = tt
   cycles_held (k ∷ ks) t l = let b = both (cycle_ok look k) (all (cycle_ok look) ks) t in (cycle_held k b.0 (omega arith), cycles_held ks b.1 (omega arith))
 
@@ -104,7 +104,7 @@ sheet_read : (s : Sheet) → T (sound s) → T (doubles s) → read_sheet (file_
 sheet_read s t d =
     let S = sound_parts s t in
     let cs = s.cells in
-    let n = leb→le s.next ids_end S.in_ids_lem in
+    let n = leb→le s.next ids_end S.in_ids in
     let a = both (leb (length cs) cells_most) (leb (over cycles_in cs) cycles_most && (leb (over steps_in cs) steps_most && leb (over bends_in cs) bends_most))
     S.fits in
     let b = both (leb (over cycles_in cs) cycles_most) (leb (over steps_in cs) steps_most && leb (over bends_in cs) bends_most) a.1 in
@@ -116,8 +116,8 @@ sheet_read s t d =
     (leb→le (over bends_in cs) bends_most c.1)) []
 
 -- ---- what an answer says
-abbrev read_as_lem : Sheet → ReadAnswer
-read_as_lem s = record { number = 0; sheet = s }
+abbrev read_as : Sheet → ReadAnswer
+read_as s = record { number = 0; sheet = s }
 
 abbrev unread : ReadAnswer
 unread = record { number = 10; sheet = empty }
@@ -131,7 +131,7 @@ accepted bad e = absurd (omega arith)
 accepted (got s (b ∷ t)) e = absurd (omega arith)
 accepted (got s []) e = go (sound s) (λ t. t) e
   where
-    go : (b : Bool) → (T b → T (sound s)) → (cond b (read_as_lem s) unread).number ≡ 0 → Accepted (got s []) (cond b (read_as_lem s) unread)
+    go : (b : Bool) → (T b → T (sound s)) → (cond b (read_as s) unread).number ≡ 0 → Accepted (got s []) (cond b (read_as s) unread)
     go true f z = record { read = refl; fine = f tt }
     go false f z = absurd (omega arith)
 
@@ -140,7 +140,7 @@ denied bad n = refl
 denied (got s (b ∷ t)) n = refl
 denied (got s []) n = go (sound s) n
   where
-    go : (b : Bool) → ((cond b (read_as_lem s) unread).number ≡ 0 → ⊥) → cond b (read_as_lem s) unread ≡ unread
+    go : (b : Bool) → ((cond b (read_as s) unread).number ≡ 0 → ⊥) → cond b (read_as s) unread ≡ unread
     go true z = absurd (z refl)
     go false z = refl
 
@@ -163,11 +163,11 @@ bytes_of [] t k = lit< tt
 bytes_of (b ∷ s) t zero = ltb→lt b 256 (both (ltb b 256) (are_bytes s) t).0
 bytes_of (b ∷ s) t (suc k) = bytes_of s (both (ltb b 256) (are_bytes s) t).1 k
 
-read_back : (s : Sheet) → T (sound s) → T (doubles s) → read_file (file_of s) ≡ read_as_lem s
+read_back : (s : Sheet) → T (sound s) → T (doubles s) → read_file (file_of s) ≡ read_as s
 unfolding read_file
 read_back s t d = ap judged (ap read_sheet (sym (append-nil (file_of s))) ∙ sheet_read s t d) ∙ rw (true_of (sound s) t)
 
-written_back : (bytes : List ℕ) (s : Sheet) → T (are_bytes bytes) → read_file bytes ≡ read_as_lem s → file_of s ≡ bytes
+written_back : (bytes : List ℕ) (s : Sheet) → T (are_bytes bytes) → read_file bytes ≡ read_as s → file_of s ≡ bytes
 unfolding read_file
 written_back bytes s B e =
     let a = accepted (read_sheet bytes) (ap (λ (r : ReadAnswer). r.number) e) in

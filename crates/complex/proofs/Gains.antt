@@ -9,7 +9,7 @@ use lib.ListN.{length}
 use lib.IntN.{ℤ, pos, negsuc, neg_ℤ, sub_ℕ, ◌+ℤ◌}
 use lib.Dec.{ltb}
 use borrow.Author.Tests.{ltb-true, ltb-false, lt-ltb, le-ltb}
-use Rattle.complex.specs.Cells.{Figure, vertex, open_edge, closed_edge, face, LiveCell, Sheet, is_open_lem, cell_at}
+use Rattle.complex.specs.Cells.{Figure, vertex, open_edge, closed_edge, face, LiveCell, Sheet, is_open, cell_at}
 use Rattle.complex.specs.Sound.{over}
 use Rattle.complex.specs.Euler.{cell_share, euler}
 use Rattle.complex.specs.Decode.{Command, create, move, delete, glue_vertices, glue_edges, unglue, cut_edge, cut_face_vertex, cut_face_open, cut_face_closed}
@@ -52,7 +52,7 @@ shift s (create x) = record { up = gain x; down = loss x }
 shift s (move v p) = record { up = 0; down = 0 }
 shift s (delete i) = record { up = over loss (going s i); down = over gain (going s i) }
 shift s (glue_vertices a b) = record { up = 0; down = 1 }
-shift s (glue_edges a b flag) = record { up = cond (is_open_lem (cell_at s a)) 1 0; down = 0 }
+shift s (glue_edges a b flag) = record { up = cond (is_open (cell_at s a)) 1 0; down = 0 }
 shift s (unglue i) = unglue_shift (parts s.cells i (cell_at s i) - 1) (cell_at s i)
 shift s (cut_edge e q) = record { up = 0; down = 0 }
 shift s (cut_face_vertex f p) = record { up = 0; down = 0 }
@@ -124,7 +124,7 @@ share_sub s (create x) = cell_sub x
 share_sub s (move v p) = refl
 share_sub s (delete i) = ap neg_ℤ (euler_sub (going s i)) ∙ neg_sub (over gain (going s i)) (over loss (going s i))
 share_sub s (glue_vertices a b) = refl
-share_sub s (glue_edges a b flag) = go (is_open_lem (cell_at s a))
+share_sub s (glue_edges a b flag) = go (is_open (cell_at s a))
   where
     go : (y : Bool) → cond y (pos 1) (pos 0) ≡ sub_ℕ (cond y 1 0) 0
     go true = refl

@@ -41,12 +41,12 @@ total_split u p (g ∷ gs) = go (p g) (total_split u p gs)
     go false h = simp total_append (omega arith)
 
 -- group i
-abbrev pub group_at_lem : {A : Type 0} → List (List A) → ℕ → List A
-group_at_lem gs i = get_or gs i []
+abbrev pub group_at : {A : Type 0} → List (List A) → ℕ → List A
+group_at gs i = get_or gs i []
 
 -- its first member, d if there is none
 abbrev pub first_at : {A : Type 0} → A → List (List A) → ℕ → A
-first_at d gs i = get_or (group_at_lem gs i) 0 d
+first_at d gs i = get_or (group_at gs i) 0 d
 
 module _ {A : Type 0} (same : A → A → Bool) where
   abbrev pub is_in : List A → A → Bool
@@ -184,23 +184,23 @@ module _ {A : Type 0} (same : A → A → Bool) where
         go false r = r
 
   -- ---- the groups by their places
-  in_flat : (gs : List (List A)) (i : ℕ) (x : A) → T (is_in (group_at_lem gs i) x) → T (is_in (flat gs) x)
+  in_flat : (gs : List (List A)) (i : ℕ) (x : A) → T (is_in (group_at gs i) x) → T (is_in (flat gs) x)
   in_flat [] i x t = absurd t
   in_flat (g ∷ gs) zero x t = in_left g (flat gs) x t
   in_flat (g ∷ gs) (suc i) x t = in_right g (flat gs) x (in_flat gs i x t)
 
-  own : (gs : List (List A)) (x : A) → Among gs x → T (is_in (group_at_lem gs (group_of gs x)) x)
+  own : (gs : List (List A)) (x : A) → Among gs x → T (is_in (group_at gs (group_of gs x)) x)
   own [] x a = absurd a
   own (g ∷ gs) x a = go (is_in g x) refl a (own gs x)
     where
-      go : (b : Bool) → is_in g x ≡ b → Among (g ∷ gs) x → (Among gs x → T (is_in (group_at_lem gs (group_of gs x)) x))
-          → T (is_in (group_at_lem (g ∷ gs) (cond b 0 (suc (group_of gs x)))) x)
+      go : (b : Bool) → is_in g x ≡ b → Among (g ∷ gs) x → (Among gs x → T (is_in (group_at gs (group_of gs x)) x))
+          → T (is_in (group_at (g ∷ gs) (cond b 0 (suc (group_of gs x)))) x)
       go true q a r = truth q
       go false q (inl t) r = absurd (subst T q t)
       go false q (inr c) r = r c
 
   -- a member that stands once is in no other group
-  only : (gs : List (List A)) (x : A) (i : ℕ) → count x (flat gs) ≤ 1 → T (is_in (group_at_lem gs i) x) → i ≡ group_of gs x
+  only : (gs : List (List A)) (x : A) (i : ℕ) → count x (flat gs) ≤ 1 → T (is_in (group_at gs i) x) → i ≡ group_of gs x
   only [] x i l t = absurd t
   only (g ∷ gs) x zero l t = rw (true_of (is_in g x) t)
   only (g ∷ gs) x (suc i) l t = let e = total_append (hit x) g (flat gs) in go (is_in g x) refl (only gs x i (omega arith) t)
@@ -214,7 +214,7 @@ module _ {A : Type 0} (same : A → A → Bool) where
       go false q r = ap suc r
 
   module _ (D : Decides same) (d : A) (k : A → ℕ) where
-    first_in_lem : (gs : List (List A)) (i : ℕ) → Sorted k gs → i < length gs → T (is_in (group_at_lem gs i) (first_at d gs i))
+    first_in_lem : (gs : List (List A)) (i : ℕ) → Sorted k gs → i < length gs → T (is_in (group_at gs i) (first_at d gs i))
     first_in_lem [] i h l = absurd (omega arith)
     first_in_lem (g ∷ gs) zero h l = go g h.0
       where
@@ -223,7 +223,7 @@ module _ {A : Type 0} (same : A → A → Bool) where
         go (x ∷ xs) l = or_left (same x x) (is_in xs x) (D.reflexive x)
     first_in_lem (g ∷ gs) (suc i) h l = first_in_lem gs i h.1 (omega arith)
 
-    earliest : (gs : List (List A)) (i : ℕ) (x : A) → Sorted k gs → T (is_in (group_at_lem gs i) x) → k (first_at d gs i) ≤ k x
+    earliest : (gs : List (List A)) (i : ℕ) (x : A) → Sorted k gs → T (is_in (group_at gs i) x) → k (first_at d gs i) ≤ k x
     earliest [] i x h t = absurd t
     earliest (g ∷ gs) zero x h t = go g h.0 t
       where
@@ -515,11 +515,11 @@ module _ {A : Type 0} (same : A → A → Bool) where
       pub in_some : (x : A) → T (is_in xs x) → group_of parts x < length parts
       in_some x t = among_group parts x (among x t)
 
-      pub in_own : (x : A) → T (is_in xs x) → T (is_in (group_at_lem parts (group_of parts x)) x)
+      pub in_own : (x : A) → T (is_in xs x) → T (is_in (group_at parts (group_of parts x)) x)
       in_own x t = own parts x (among x t)
 
       -- no group has another member
-      pub members_in : (x : A) (i : ℕ) → T (is_in (group_at_lem parts i) x) → T (is_in xs x)
+      pub members_in : (x : A) (i : ℕ) → T (is_in (group_at parts i) x) → T (is_in xs x)
       members_in x i t = in_more x (flat parts) xs (let a = counted x in omega arith) (in_flat parts i x t)
 
       -- elements are in one group exactly if they belong together
@@ -549,15 +549,15 @@ module _ {A : Type 0} (same : A → A → Bool) where
         sorted = sorted_all (place_of xs) ts (map one xs) (sorted_one D (place_of xs) 0 xs (λ x t. omega arith) once)
 
         -- it is in no other group
-        pub in_only : (x : A) (i : ℕ) → T (is_in (group_at_lem parts i) x) → i ≡ group_of parts x
+        pub in_only : (x : A) (i : ℕ) → T (is_in (group_at parts i) x) → i ≡ group_of parts x
         in_only x i t = only parts x i (let a = counted x in let b = once x in omega arith) t
 
         -- no group is empty: its first member is in it
-        pub none_empty : (d : A) (i : ℕ) → i < length parts → T (is_in (group_at_lem parts i) (first_at d parts i))
+        pub none_empty : (d : A) (i : ℕ) → i < length parts → T (is_in (group_at parts i) (first_at d parts i))
         none_empty d i l = first_in_lem D d (place_of xs) parts i sorted l
 
         -- of a group's members the first stands earliest among the elements
-        pub first_earliest : (d : A) (i : ℕ) (x : A) → T (is_in (group_at_lem parts i) x) → place_of xs (first_at d parts i) ≤ place_of xs x
+        pub first_earliest : (d : A) (i : ℕ) (x : A) → T (is_in (group_at parts i) x) → place_of xs (first_at d parts i) ≤ place_of xs x
         first_earliest d i x t = earliest D d (place_of xs) parts i x sorted t
 
         -- the groups are in the order of their first members

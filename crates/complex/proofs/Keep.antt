@@ -15,7 +15,7 @@ use Rattle.coordinate.specs.declared.Position.{Position}
 use Rattle.coordinate.specs.Bounds.{within}
 use Rattle.complex.specs.Lists.{all, is_empty, rising, one}
 use Rattle.complex.specs.Cells.{Halfedge, Cycle, lone, path, Figure, vertex, open_edge, closed_edge, face, LiveCell, Sheet, Look, some_if, lookup, ids}
-use Rattle.complex.specs.Cells.{is_vertex, is_open_lem, is_closed, start_of, end_of, same, tail_of, head_of}
+use Rattle.complex.specs.Cells.{is_vertex, is_open, is_closed, start_of, end_of, same, tail_of, head_of}
 use Rattle.complex.specs.Sound.{ids_end, Walk, cycle_ok, figure_ok, ceilings, figures_ok, sound, joins}
 use Rattle.complex.specs.Edits.{numbered, rebuild, rewired_cycle, rewired, same_vertex}
 use Rattle.complex.proofs.Bools.{truth, true_of, either, both, pair, cases, false_not, equal, all_map, all_more}
@@ -25,7 +25,7 @@ use Rattle.complex.proofs.Walks.{walk_append, walk_through, Round, Ring, Some, j
 -- ---- soundness, part by part, and of each id's shape
 pub record Sound (s : Sheet) : Type 0 where
   pub rises : T (rising 0 (ids s.cells) s.next)
-  pub in_ids_lem : T (leb s.next ids_end)
+  pub in_ids : T (leb s.next ids_end)
   pub fits : T (ceilings s.cells)
   pub figures : (i : ℕ) (t : Figure) → lookup s.cells i ≡ some t → T (figure_ok (lookup s.cells) t)
 
@@ -35,13 +35,13 @@ sound_parts s t =
     let a = both (rising 0 (ids s.cells) s.next) (leb s.next ids_end && (ceilings s.cells && figures_ok s.cells)) t in
     let b = both (leb s.next ids_end) (ceilings s.cells && figures_ok s.cells) a.1 in
     let c = both (ceilings s.cells) (figures_ok s.cells) b.1 in
-    record { rises = a.0; in_ids_lem = b.0; fits = c.0; figures = λ i u e. all_at (figure_ok (lookup s.cells)) s.cells i u c.1 e }
+    record { rises = a.0; in_ids = b.0; fits = c.0; figures = λ i u e. all_at (figure_ok (lookup s.cells)) s.cells i u c.1 e }
 
 pub parts_sound : (s : Sheet) → Sound s → T (sound s)
 unfolding sound
 parts_sound s p =
     pair (rising 0 (ids s.cells) s.next) (leb s.next ids_end && (ceilings s.cells && figures_ok s.cells)) p.rises
-    (pair (leb s.next ids_end) (ceilings s.cells && figures_ok s.cells) p.in_ids_lem
+    (pair (leb s.next ids_end) (ceilings s.cells && figures_ok s.cells) p.in_ids
     (pair (ceilings s.cells) (figures_ok s.cells) p.fits (all_from (figure_ok (lookup s.cells)) 0 s.cells s.next p.rises p.figures)))
 
 -- ---- a change keeps soundness if the figures that stay, and the new ones, are in order afterwards
@@ -65,7 +65,7 @@ module _ (p : ℕ → Bool) (f : ℕ → Figure → Figure) (new : List Figure) 
   rebuild_sound S seven eight old fresh =
       record {
         rises = rising_rebuild p f new s S.rises;
-        in_ids_lem = seven;
+        in_ids = seven;
         fits = eight;
         figures = λ i t e. go i t (p i) (lookup s.cells i) refl refl (sym
             (lookup_rebuild p f new s i) ∙ e);
@@ -118,7 +118,7 @@ module _ (look look' : Look) (σ : Halfedge → List Halfedge) where
 
 -- an open edge's steps become a walk
 pub round_carried : (look look' : Look) (r : ℕ → ℕ) (σ : Halfedge → List Halfedge)
-    → ((h : Halfedge) → T (is_open_lem (look h.edge)) → Walk look' (r (tail_of look h)) (σ h) (r (head_of look h)))
+    → ((h : Halfedge) → T (is_open (look h.edge)) → Walk look' (r (tail_of look h)) (σ h) (r (head_of look h)))
     → (hs : List Halfedge) → Some (spread σ hs) → Round look hs → T (joins look' (spread σ hs))
 round_carried look look' r σ f hs t w = round_joins look' (spread σ hs) t (r w.0, walk_through look look' r σ f w.0 hs w.0 w.1)
 
@@ -164,16 +164,16 @@ length_each σ each (h ∷ hs) = omega (arith, length-append (σ h) (spread σ h
 -- what is an open edge, a closed edge or a vertex stays one, an open edge with its ends
 pub record Keeps (look look' : Look) : Type 0 where
   pub vertices : (v : ℕ) → T (is_vertex (look v)) → T (is_vertex (look' v))
-  pub opens : (e : ℕ) → T (is_open_lem (look e)) → T (is_open_lem (look' e))
-  pub starts : (e : ℕ) → T (is_open_lem (look e)) → start_of (look e) ≡ start_of (look' e)
-  pub ends : (e : ℕ) → T (is_open_lem (look e)) → end_of (look e) ≡ end_of (look' e)
+  pub opens : (e : ℕ) → T (is_open (look e)) → T (is_open (look' e))
+  pub starts : (e : ℕ) → T (is_open (look e)) → start_of (look e) ≡ start_of (look' e)
+  pub ends : (e : ℕ) → T (is_open (look e)) → end_of (look e) ≡ end_of (look' e)
   pub closeds : (e : ℕ) → T (is_closed (look e)) → T (is_closed (look' e))
 
 module _ (look look' : Look) (K : Keeps look look') where
-  pub tail_kept : (h : Halfedge) → T (is_open_lem (look h.edge)) → tail_of look h ≡ tail_of look' h
+  pub tail_kept : (h : Halfedge) → T (is_open (look h.edge)) → tail_of look h ≡ tail_of look' h
   tail_kept h o = λ i. cond h.backward (K.ends h.edge o i) (K.starts h.edge o i)
 
-  pub head_kept : (h : Halfedge) → T (is_open_lem (look h.edge)) → head_of look h ≡ head_of look' h
+  pub head_kept : (h : Halfedge) → T (is_open (look h.edge)) → head_of look h ≡ head_of look' h
   head_kept h o = λ i. cond h.backward (K.starts h.edge o i) (K.ends h.edge o i)
 
   pub walk_kept : (u : ℕ) (hs : List Halfedge) (w : ℕ) → Walk look u hs w → Walk look' u hs w

@@ -220,7 +220,7 @@ module _ {A : Type 0} (same : A → A → Bool) (D : Decides same) {L : Type 0} 
           y : A
           y = first_at d fine (finer n)
 
-          in_fine : T (is_in same (Groups.group_at_lem fine (finer n)) y)
+          in_fine : T (is_in same (Groups.group_at fine (finer n)) y)
           in_fine = Groups.none_empty same from to xs us D once d (finer n) (below n l)
 
           before : place y ≤ place (first n)
@@ -232,7 +232,7 @@ module _ {A : Type 0} (same : A → A → Bool) (D : Decides same) {L : Type 0} 
               let t = Groups.same_together same from to xs us D y (first n) m (sym (Groups.in_only same from to xs us D once y (finer n) in_fine)) in
               let q = Groups.together_same same from to xs ts i (through same from to us ts e t) in
               let z = Groups.in_only same from to xs ts D once (first n) n (Groups.none_empty same from to xs ts D once d n l) in
-              let o = subst (λ (k : ℕ). T (is_in same (Groups.group_at_lem coarse k) y)) (q ∙ sym z) (Groups.in_own same from to xs ts y m) in
+              let o = subst (λ (k : ℕ). T (is_in same (Groups.group_at coarse k) y)) (q ∙ sym z) (Groups.in_own same from to xs ts y m) in
               Groups.first_earliest same from to xs ts D once d n y o
 
       rises : (n m : ℕ) → n < m → m < length coarse → finer n < finer m

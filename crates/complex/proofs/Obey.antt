@@ -10,7 +10,7 @@ use lib.IntN.{ℤ, pos, ◌+ℤ◌, +ℤ_idl, +ℤ_idr}
 use lib.Dec.{T, eqb, leb}
 use borrow.Author.Tests.{le-leb, lt-leb, eqb-true, eqb-false}
 use Rattle.number.specs.Readers.{Read, got, bad}
-use Rattle.complex.specs.Cells.{LiveCell, Sheet, empty, lookup, is_live_lem}
+use Rattle.complex.specs.Cells.{LiveCell, Sheet, empty, lookup, is_live}
 use Rattle.complex.specs.Boundary.{star}
 use Rattle.complex.specs.Sound.{ids_end, ceilings, sound}
 use Rattle.complex.specs.Euler.{euler}

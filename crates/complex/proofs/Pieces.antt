@@ -13,7 +13,7 @@ use Rattle.coordinate.specs.declared.Position.{Position}
 use Rattle.coordinate.specs.Bounds.{within}
 use Rattle.complex.specs.Lists.{all, holds, rising}
 use Rattle.complex.specs.Cells.{Halfedge, Cycle, lone, path, Figure, vertex, open_edge, closed_edge, face, LiveCell, Sheet, some_if, lookup}
-use Rattle.complex.specs.Cells.{cell_at, ids, is_vertex, is_open_lem, is_closed, is_live_lem, is_edge, is_vertex_or_edge}
+use Rattle.complex.specs.Cells.{cell_at, ids, is_vertex, is_open, is_closed, is_live, is_edge, is_vertex_or_edge}
 use Rattle.complex.specs.Boundary.{ends_of, cycle_boundary, boundary, bounds_at}
 use Rattle.complex.specs.Groups.{Together, linked}
 use Rattle.complex.specs.Sound.{cycle_ok, figure_ok, sound}
@@ -48,12 +48,12 @@ pub ids_once : (s : Sheet) → Sound s → (x : ℕ) → count eqb x (ids s.cell
 ids_once s S x = (rising_once 0 (ids s.cells) s.next x S.rises).0
 
 -- the ids are those of live cells
-pub in_ids : (cs : List LiveCell) (i : ℕ) → is_in eqb (ids cs) i ≡ is_live_lem (lookup cs i)
+pub in_ids : (cs : List LiveCell) (i : ℕ) → is_in eqb (ids cs) i ≡ is_live (lookup cs i)
 in_ids [] i = refl
 in_ids (c ∷ cs) i = go (eqb c.id i) refl (in_ids cs i)
   where
-    go : (y : Bool) → eqb c.id i ≡ y → is_in eqb (ids cs) i ≡ is_live_lem (lookup cs i)
-        → (eqb i c.id || is_in eqb (ids cs) i) ≡ is_live_lem (some_if y c.figure (lookup cs i))
+    go : (y : Bool) → eqb c.id i ≡ y → is_in eqb (ids cs) i ≡ is_live (lookup cs i)
+        → (eqb i c.id || is_in eqb (ids cs) i) ≡ is_live (some_if y c.figure (lookup cs i))
     go true q h = rw (eq-eqb i c.id (sym (eqb-true c.id i q)))
     go false q h = rw (ne_eqb i c.id (λ e. eqb-false c.id i q (sym e))) h
 
@@ -64,7 +64,7 @@ pub in_live : (s : Sheet) (i : ℕ) → T (is_in eqb (ids s.cells) i) → live s
 in_live s i t = subst T (in_ids s.cells i) t
 
 -- ---- what bounds a cell is a vertex or an edge
-low_live : (o : Option Figure) → T (is_vertex_or_edge o) → T (is_live_lem o)
+low_live : (o : Option Figure) → T (is_vertex_or_edge o) → T (is_live o)
 low_live none t = t
 low_live (some x) t = tt
 
@@ -75,10 +75,10 @@ module _ (s : Sheet) (S : Sound s) where
   of_vertex : (x : ℕ) → T (is_vertex (cell_at s x)) → Low x
   of_vertex x t = or_left (is_vertex (cell_at s x)) (is_edge (cell_at s x)) t
 
-  of_edge : (x : ℕ) → T (is_open_lem (cell_at s x)) ⊎ T (is_closed (cell_at s x)) → Low x
+  of_edge : (x : ℕ) → T (is_open (cell_at s x)) ⊎ T (is_closed (cell_at s x)) → Low x
   of_edge x t = or_right (is_vertex (cell_at s x)) (is_edge (cell_at s x)) (elim t [
-    | inl a ↦ or_left (is_open_lem (cell_at s x)) (is_closed (cell_at s x)) a
-    | inr b ↦ or_right (is_open_lem (cell_at s x)) (is_closed (cell_at s x)) b
+    | inl a ↦ or_left (is_open (cell_at s x)) (is_closed (cell_at s x)) a
+    | inr b ↦ or_right (is_open (cell_at s x)) (is_closed (cell_at s x)) b
   ])
 
   figure_ends_low : (a b : ℕ) (bs : List Position) → T (figure_ok (cell_at s) (open_edge a b bs)) → Every Low (a ∷ b ∷ [])
@@ -128,7 +128,7 @@ module _ (s : Sheet) (S : Sound s) where
   pub links_inside : Every (Inside eqb cell_of bound_of (ids s.cells)) (links s.cells)
   links_inside = each_link (Inside eqb cell_of bound_of (ids s.cells)) λ i t e.
       every_more Low (λ (j : ℕ). Inside eqb cell_of bound_of (ids s.cells) (link i j))
-      (λ j l. (live_in s i (subst (λ (o : Option Figure). T (is_live_lem o)) (sym e) tt), live_in s j (low_live (cell_at s j) l)))
+      (λ j l. (live_in s i (subst (λ (o : Option Figure). T (is_live o)) (sym e) tt), live_in s j (low_live (cell_at s j) l)))
       (boundary (cell_at s) t) (bounds_low t (S.figures i t e))
 
   -- what belongs together by them is linked

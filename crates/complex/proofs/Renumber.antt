@@ -12,7 +12,7 @@ use borrow.Author.Tests.{eq-eqb, ne_eqb, eqb-true, eqb-false}
 use Rattle.number.specs.Readers.{spread}
 use Rattle.complex.specs.Lists.{cons_if, filter, rising}
 use Rattle.complex.specs.Cells.{Halfedge, Cycle, lone, path, Figure, vertex, open_edge, closed_edge, face, LiveCell, Sheet}
-use Rattle.complex.specs.Cells.{some_if, lookup, cell_at, ids, is_live_lem}
+use Rattle.complex.specs.Cells.{some_if, lookup, cell_at, ids, is_live}
 use Rattle.complex.specs.Sound.{sound}
 use Rattle.complex.specs.Edits.{numbered, rewired_cycle, rewired}
 use Rattle.complex.specs.Renumber.{rank, renamed_step, renamed_figure, renumbered}
@@ -30,14 +30,14 @@ rank_within (c ∷ cs) i = go (eqb c.id i) (rank_within cs i).1
     go false l = (omega arith, omega arith)
 
 -- a live id's is no other id's
-pub rank_apart : (cs : List LiveCell) (i j : ℕ) → T (is_live_lem (lookup cs i)) → rank cs i ≡ rank cs j → i ≡ j
+pub rank_apart : (cs : List LiveCell) (i j : ℕ) → T (is_live (lookup cs i)) → rank cs i ≡ rank cs j → i ≡ j
 rank_apart [] i j t e = absurd t
 rank_apart (c ∷ cs) i j t e =
     go (eqb c.id i) (eqb c.id j) refl refl (rank_within cs i).0 (rank_within cs j).0 (λ u q. rank_apart cs i j u q) t e
   where
     go : (x y : Bool) → eqb c.id i ≡ x → eqb c.id j ≡ y → 0 < rank cs i → 0 < rank cs j
-        → (T (is_live_lem (lookup cs i)) → rank cs i ≡ rank cs j → i ≡ j)
-        → T (is_live_lem (some_if x c.figure (lookup cs i))) → cond x 1 (suc (rank cs i)) ≡ cond y 1 (suc (rank cs j)) → i ≡ j
+        → (T (is_live (lookup cs i)) → rank cs i ≡ rank cs j → i ≡ j)
+        → T (is_live (some_if x c.figure (lookup cs i))) → cond x 1 (suc (rank cs i)) ≡ cond y 1 (suc (rank cs j)) → i ≡ j
     go true true p q l m k t e = sym (eqb-true c.id i p) ∙ eqb-true c.id j q
     go true false p q l m k t e = absurd (omega arith)
     go false true p q l m k t e = absurd (omega arith)

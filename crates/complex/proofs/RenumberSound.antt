@@ -11,8 +11,8 @@ use lib.Dec.{T, leb, leb→le, le→leb}
 use Rattle.number.specs.Readers.{spread}
 use Rattle.complex.specs.Lists.{all, total, rising}
 use Rattle.complex.specs.Cells.{Halfedge, Cycle, lone, path, Figure, vertex, open_edge, closed_edge, face, LiveCell, Sheet, empty}
-use Rattle.complex.specs.Cells.{Look, lookup, cell_at, ids, is_vertex, is_open_lem, is_closed, start_of, end_of, tail_of, head_of}
-use Rattle.complex.specs.Sound.{ids_end, Walk, joins, figure_ok, cells_most, cycles_most, steps_most, bends_most, step_count_lem}
+use Rattle.complex.specs.Cells.{Look, lookup, cell_at, ids, is_vertex, is_open, is_closed, start_of, end_of, tail_of, head_of}
+use Rattle.complex.specs.Sound.{ids_end, Walk, joins, figure_ok, cells_most, cycles_most, steps_most, bends_most, step_count}
 use Rattle.complex.specs.Sound.{cycles_in, steps_in, bends_in, over, ceilings, sound, figure_double, doubles}
 use Rattle.complex.specs.Euler.{euler}
 use Rattle.complex.specs.Edits.{numbered, every_id, as_it_is, rewired_cycle, rewired}
@@ -36,12 +36,12 @@ module _ (look look' : Look) (r : ℕ → ℕ) (at : (i : ℕ) → look' (r i) �
   same_kind i (some (closed_edge bs)) = (refl, refl)
   same_kind i (some (face ks)) = (refl, refl)
 
-  renamed_walk : (h : Halfedge) → T (is_open_lem (look h.edge)) → Walk look' (r (tail_of look h)) (renamed_step r h) (r (head_of look h))
+  renamed_walk : (h : Halfedge) → T (is_open (look h.edge)) → Walk look' (r (tail_of look h)) (renamed_step r h) (r (head_of look h))
   renamed_walk h t = rw (at h.edge) (go (look h.edge) h.backward t)
     where
-      go : (o : Option Figure) (y : Bool) → T (is_open_lem o)
+      go : (o : Option Figure) (y : Bool) → T (is_open o)
           → let o' = changed (rewired r (renamed_step r) h.edge) o in
-          T (is_open_lem o')
+          T (is_open o')
           × (r (cond y (end_of o) (start_of o)) ≡ cond y (end_of o') (start_of o'))
           × (cond y (start_of o') (end_of o') ≡ r (cond y (start_of o) (end_of o)))
       go none y k = absurd k
@@ -86,7 +86,7 @@ module _ (r : ℕ → ℕ) (σ : Halfedge → List Halfedge) where
   double_rewired i (face ks) t = t
 
 module _ (r : ℕ → ℕ) where
-  counts_renamed : (ks : List Cycle) → total step_count_lem (map (rewired_cycle r (renamed_step r)) ks) ≡ total step_count_lem ks
+  counts_renamed : (ks : List Cycle) → total step_count (map (rewired_cycle r (renamed_step r)) ks) ≡ total step_count ks
   counts_renamed [] = refl
   counts_renamed (lone v ∷ ks) = ap (λ (n : ℕ). 1 + n) (counts_renamed ks)
   counts_renamed (path hs ∷ ks) = λ i. length_each (renamed_step r) (λ h. refl) hs i + counts_renamed ks i
@@ -142,7 +142,7 @@ unfolding renumbered
 renumber_sound s S =
     record {
       rises = subst (λ (n : ℕ). T (rising 0 (ids (numbered 1 new)) n)) next (rising_rebuild every_id as_it_is new empty tt);
-      in_ids_lem = le→leb (suc (length s.cells)) ids_end
+      in_ids = le→leb (suc (length s.cells)) ids_end
           (let l = leb→le (length s.cells) cells_most (both (leb (length s.cells) cells_most) _ S.fits).0 in omega arith);
       fits = subst T (sym (ceilings_renamed r 1 s.cells)) S.fits;
       figures = λ i x e. all_at (figure_ok look') (numbered 1 new) i x renamed e;
@@ -170,4 +170,4 @@ renumber_sound s S =
 pub renumber_late : (s : Sheet) → T (sound s) → first_no (of_result (renumbered s)) ≡ 0
 renumber_late s t =
     let S = renumber_sound s (sound_parts s t) in
-    rw (true_of (leb (renumbered s).next ids_end) S.in_ids_lem, true_of (ceilings (renumbered s).cells) S.fits)
+    rw (true_of (leb (renumbered s).next ids_end) S.in_ids, true_of (ceilings (renumbered s).cells) S.fits)

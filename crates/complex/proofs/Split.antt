@@ -13,7 +13,7 @@ use borrow.Author.Tests.{eq-eqb, eqb-true, eqb-false, le-leb, lt-leb, leb-true, 
 use Rattle.coordinate.specs.declared.Position.{Position}
 use Rattle.coordinate.specs.Bounds.{within}
 use Rattle.complex.specs.Lists.{all, is_empty, cons_if, holds, places, one, rotated, without, chosen, distance}
-use Rattle.complex.specs.Cells.{Halfedge, Cycle, lone, path, Figure, vertex, open_edge, closed_edge, face, LiveCell, Sheet, Look, lookup, is_vertex, is_open_lem}
+use Rattle.complex.specs.Cells.{Halfedge, Cycle, lone, path, Figure, vertex, open_edge, closed_edge, face, LiveCell, Sheet, Look, lookup, is_vertex, is_open}
 use Rattle.complex.specs.Cells.{is_closed, is_face, start_of, end_of, cycles_of, steps_of, along, against, same, tail_of, head_of, cell_at}
 use Rattle.complex.specs.Sound.{Walk, ids_end, cycle_ok, figure_ok, ceilings, joins}
 use Rattle.complex.specs.Decode.{Command, cut_face_open}
@@ -83,7 +83,7 @@ pub walk_begins : (look : Look) (u : ℕ) (hs : List Halfedge) (w n : ℕ) (d : 
     → u ≡ tail_of look (get_or hs n d)
 walk_begins look u hs w n d h k = (subst (λ (ks : List Halfedge). Walk look u ks w) (drop-cons hs n d h) k).1
 
-pub apart : (x : Option Figure) → T (is_closed x) → T (is_open_lem x) → ⊥
+pub apart : (x : Option Figure) → T (is_closed x) → T (is_open x) → ⊥
 apart none c o = c
 apart (some (vertex p)) c o = c
 apart (some (open_edge a b bs)) c o = c
@@ -92,11 +92,11 @@ apart (some (face ks)) c o = c
 
 -- ---- a cycle parted at two corners: the first path leads from corner to corner, the second back
 module _ (look : Look) where
-  pub ring_no_corner : (hs : List Halfedge) (n : ℕ) → Ring look hs → n < length hs → T (is_open_lem (look (get_or hs n no_step).edge)) → ⊥
+  pub ring_no_corner : (hs : List Halfedge) (n : ℕ) → Ring look hs → n < length hs → T (is_open (look (get_or hs n no_step).edge)) → ⊥
   ring_no_corner [] n r h o = r
   ring_no_corner (h₀ ∷ hs) zero r h o = apart (look h₀.edge) r.0 o
   ring_no_corner (h₀ ∷ hs) (suc n) r h o = apart (look h₀.edge) r.0
-      (subst (λ (k : Halfedge). T (is_open_lem (look k.edge))) (sym (same_eq h₀ (get_or hs n no_step) (all_get_d (same h₀) hs n no_step r.1 (omega arith)))) o)
+      (subst (λ (k : Halfedge). T (is_open (look k.edge))) (sym (same_eq h₀ (get_or hs n no_step) (all_get_d (same h₀) hs n no_step r.1 (omega arith)))) o)
 
   pub Parted : Cycle → ℕ → ℕ → Type 0
   Parted k s t = Walk look (corner look k s) (stretch s t (steps_of k)) (corner look k t) × Walk look (corner look k t) (remainder s t (steps_of k))
@@ -136,8 +136,8 @@ module _ (look : Look) where
       nothing' (suc d) zero = refl
       nothing' (suc d) (suc n) = refl
   parted (path hs) s t c a b =
-      let x = both (ltb s (length hs)) (is_open_lem (look (get_or hs s no_step).edge)) a in
-      let y = both (ltb t (length hs)) (is_open_lem (look (get_or hs t no_step).edge)) b in
+      let x = both (ltb s (length hs)) (is_open (look (get_or hs s no_step).edge)) a in
+      let y = both (ltb t (length hs)) (is_open (look (get_or hs t no_step).edge)) b in
       let hs< = ltb→lt s (length hs) x.0 in
       let ht< = ltb→lt t (length hs) y.0 in
       elim (joins_cases look hs c) [
@@ -146,11 +146,11 @@ module _ (look : Look) where
       ]
 
 -- ---- corners are vertices
-pub ends_vertices : (s : Sheet) → Sound s → (e : ℕ) → T (is_open_lem (cell_at s e))
+pub ends_vertices : (s : Sheet) → Sound s → (e : ℕ) → T (is_open (cell_at s e))
     → T (is_vertex (cell_at s (start_of (cell_at s e)))) × T (is_vertex (cell_at s (end_of (cell_at s e))))
 ends_vertices s S e t = go (cell_at s e) refl t
   where
-    go : (o : Option Figure) → cell_at s e ≡ o → T (is_open_lem o) → T (is_vertex (cell_at s (start_of o))) × T (is_vertex (cell_at s (end_of o)))
+    go : (o : Option Figure) → cell_at s e ≡ o → T (is_open o) → T (is_vertex (cell_at s (start_of o))) × T (is_vertex (cell_at s (end_of o)))
     go none q k = absurd k
     go (some (vertex p)) q k = absurd k
     go (some (open_edge a b bs)) q k =
@@ -163,7 +163,7 @@ pub corner_vertex_lem : (s : Sheet) → Sound s → (k : Cycle) (n : ℕ) → T 
     → T (is_vertex (cell_at s (corner (cell_at s) k n)))
 corner_vertex_lem s S (lone v) n c h = c
 corner_vertex_lem s S (path hs) n c h =
-    let o = (both (ltb n (length hs)) (is_open_lem (cell_at s (get_or hs n no_step).edge)) h).1 in
+    let o = (both (ltb n (length hs)) (is_open (cell_at s (get_or hs n no_step).edge)) h).1 in
     let v = ends_vertices s S (get_or hs n no_step).edge o in
     go (get_or hs n no_step).backward v.0 v.1
   where
@@ -178,7 +178,7 @@ some_last : (hs : List Halfedge) (h : Halfedge) → Some (hs ++ one h)
 some_last [] h = tt
 some_last (k ∷ hs) h = tt
 
-pub closed_by : (look : Look) (u : ℕ) (hs : List Halfedge) (w : ℕ) (h : Halfedge) → Walk look u hs w → T (is_open_lem (look h.edge)) → w ≡ tail_of look h
+pub closed_by : (look : Look) (u : ℕ) (hs : List Halfedge) (w : ℕ) (h : Halfedge) → Walk look u hs w → T (is_open (look h.edge)) → w ≡ tail_of look h
     → head_of look h ≡ u → T (joins look (hs ++ one h))
 closed_by look u hs w h k o a b = round_joins look (hs ++ one h) (some_last hs h) (u, walk_append look u hs w (one h) u k (o, a, b))
 

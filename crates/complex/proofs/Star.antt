@@ -10,7 +10,7 @@ use lib.ListN.{length, drop}
 use lib.Dec.{T, eqb, ltb, leb, ltb→lt}
 use borrow.Author.Tests.{le-leb, lt-leb, eq-eqb, ne_eqb, eqb-true, eqb-false}
 use Rattle.complex.specs.Lists.{cons_if, filter, holds, rising}
-use Rattle.complex.specs.Cells.{Figure, LiveCell, Sheet, some_if, lookup, cell_at, ids, is_live_lem}
+use Rattle.complex.specs.Cells.{Figure, LiveCell, Sheet, some_if, lookup, cell_at, ids, is_live}
 use Rattle.complex.specs.Boundary.{bounds, bounds_at, star}
 use Rattle.complex.specs.Sound.{sound}
 use Rattle.complex.specs.Calls.{star_call}
@@ -69,12 +69,12 @@ module _ (s : Sheet) (S : T (sound s)) (i : ℕ) where
   star_fits : live s i → (buffer : List ℕ) → length (star s.cells i) ≤ length buffer
       → star_call s i buffer ≡ record { number = 0; count = length (star s.cells i); buffer = star s.cells i ++ drop (length (star s.cells i)) buffer }
   unfolding star_call
-  star_fits l buffer h = rw (true_of (sound s) S, true_of (is_live_lem (cell_at s i)) l, le-leb (length (star s.cells i)) (length buffer) h)
+  star_fits l buffer h = rw (true_of (sound s) S, true_of (is_live (cell_at s i)) l, le-leb (length (star s.cells i)) (length buffer) h)
 
   star_short : live s i → (buffer : List ℕ) → length buffer < length (star s.cells i)
       → star_call s i buffer ≡ record { number = 9; count = length (star s.cells i); buffer = buffer }
   unfolding star_call
-  star_short l buffer h = rw (true_of (sound s) S, true_of (is_live_lem (cell_at s i)) l, lt-leb (length (star s.cells i)) (length buffer) h)
+  star_short l buffer h = rw (true_of (sound s) S, true_of (is_live (cell_at s i)) l, lt-leb (length (star s.cells i)) (length buffer) h)
 
   pub star_right : live s i → StarRight s i
   star_right l =

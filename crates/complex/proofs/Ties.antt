@@ -11,7 +11,7 @@ use Rattle.number.specs.Readers.{spread}
 use Rattle.coordinate.specs.declared.Position.{Position}
 use Rattle.complex.specs.Lists.{all}
 use Rattle.complex.specs.Cells.{Halfedge, Cycle, lone, path, Figure, vertex, open_edge, closed_edge, face, LiveCell, Sheet, cell_at, ids}
-use Rattle.complex.specs.Cells.{is_open_lem, start_of, end_of, same, tail_of, head_of}
+use Rattle.complex.specs.Cells.{is_open, start_of, end_of, same, tail_of, head_of}
 use Rattle.complex.specs.Boundary.{ends_of, cycle_boundary, boundary}
 use Rattle.complex.specs.Groups.{Together, linked, itself, back, chain}
 use Rattle.complex.specs.Sound.{Walk, cycle_ok, figure_ok}
@@ -70,10 +70,10 @@ module _ (s : Sheet) (ls : List Link) (own : EndsTied s ls) where
       go (some (face ks)) q = tt
 
   -- a step of an open edge leads from one of its ends to the other
-  step_tied : (h : Halfedge) → T (is_open_lem (cell_at s h.edge)) → Tied ls h.edge (tail_of (cell_at s) h) × Tied ls h.edge (head_of (cell_at s) h)
+  step_tied : (h : Halfedge) → T (is_open (cell_at s h.edge)) → Tied ls h.edge (tail_of (cell_at s) h) × Tied ls h.edge (head_of (cell_at s) h)
   step_tied h t = go (cell_at s h.edge) refl t h.backward
     where
-      go : (f : Option Figure) → cell_at s h.edge ≡ f → T (is_open_lem f) → (y : Bool)
+      go : (f : Option Figure) → cell_at s h.edge ≡ f → T (is_open f) → (y : Bool)
           → Tied ls h.edge (cond y (end_of f) (start_of f)) × Tied ls h.edge (cond y (start_of f) (end_of f))
       go none q u y = absurd u
       go (some (vertex p)) q u y = absurd u

@@ -34,7 +34,7 @@ pub data Holds (s : Sheet) (i : ℕ) : Uncut → Type 0 where
       → eqb x.edge y.edge ≡ false → stays_on_edge (passages_at s.cells i) ≡ false → Holds s i (joint x y)
   is_two : (a b : ℕ) (bs : List Position) → cell_at s i ≡ some (open_edge a b bs) → (u w : Use) → uses_of s.cells i ≡ u ∷ w ∷ [] → T (opposite u w)
       → (u.face ≡ w.face → ⊥) → Holds s i (two_faces u w)
-  is_one : (a b : ℕ) (bs : List Position) → cell_at s i ≡ some (open_edge a b bs) → (u w : Use) → Placed (cell_at s) i u → Placed (cell_at s) i w → Only s i u w
+  is_one_lem : (a b : ℕ) (bs : List Position) → cell_at s i ≡ some (open_edge a b bs) → (u w : Use) → Placed (cell_at s) i u → Placed (cell_at s) i w → Only s i u w
       → T (opposite u w) → u.face ≡ w.face → u.cycle ≡ w.cycle → Holds s i (one_cycle u w)
   is_rings : (bs : List Position) → cell_at s i ≡ some (closed_edge bs) → (u w : Use) → uses_of s.cells i ≡ u ∷ w ∷ [] → T (opposite u w)
       → (u.face ≡ w.face → ⊥) → Holds s i (rings u w)
@@ -101,10 +101,10 @@ module _ (s : Sheet) (S : Sound s) (i : ℕ) where
       go false d e f z₀ z₁ z₂ t = absurd t
       go true false e f z₀ z₁ z₂ t = is_two a b bs at u w q (truth z₀) (eqb-false u.face w.face z₁)
       go true true false f z₀ z₁ z₂ t = absurd t
-      go true true true true z₀ z₁ z₂ t = is_one a b bs at u w ru rw' (listed s S i E u w q) (truth z₀) (eqb-true u.face w.face z₁)
+      go true true true true z₀ z₁ z₂ t = is_one_lem a b bs at u w ru rw' (listed s S i E u w q) (truth z₀) (eqb-true u.face w.face z₁)
           (eqb-true u.cycle w.cycle z₂)
       go true true true false z₀ z₁ z₂ t =
-          is_one a b bs at w u rw' ru (λ f ks k c l j m z. swap (listed s S i E u w q f ks k c l j m z)) (opposite_sym u w (truth z₀))
+          is_one_lem a b bs at w u rw' ru (λ f ks k c l j m z. swap (listed s S i E u w q f ks k c l j m z)) (opposite_sym u w (truth z₀))
           (sym (eqb-true u.face w.face z₁)) (sym (eqb-true u.cycle w.cycle z₂))
   holds_open a b bs at (u ∷ w ∷ x ∷ xs) q t = absurd t
 
@@ -141,7 +141,7 @@ module _ (s : Sheet) (S : Sound s) (i : ℕ) where
   good_sound c (is_loop p at x y e n k z) = loop_sound s S i p at x y e n k z
   good_sound c (is_joint p at x y e n k z) = joint_sound s S i p at x y e n k z
   good_sound c (is_two a b bs at u w q k n) = merged_sound s S i u w q (edged (open_edge a b bs) at tt) k n (rw at tt)
-  good_sound c (is_one a b bs at u w ru rw' L k ef ec) = one_cycle_sound s S i (edged (open_edge a b bs) at tt) (rw at tt) u w ru rw' L k ef ec
+  good_sound c (is_one_lem a b bs at u w ru rw' L k ef ec) = one_cycle_sound s S i (edged (open_edge a b bs) at tt) (rw at tt) u w ru rw' L k ef ec
   good_sound c (is_rings bs at u w q k n) = rings_sound s S i u w q (edged (closed_edge bs) at tt) k n
 
   good_over : (c : Uncut) → Holds s i c → Even s (uncut_result s i c)
@@ -149,7 +149,7 @@ module _ (s : Sheet) (S : Sound s) (i : ℕ) where
   good_over c (is_loop p at x y e n k z) = loop_over s S i p at x y e n k z
   good_over c (is_joint p at x y e n k z) = joint_over s S i p at x y e n k z
   good_over c (is_two a b bs at u w q k n) = merged_over s S i u w q (edged (open_edge a b bs) at tt) k n a b bs at
-  good_over c (is_one a b bs at u w ru rw' L k ef ec) = one_cycle_over s S i (edged (open_edge a b bs) at tt) (rw at tt) u w ru rw' L k ef ec a b bs at
+  good_over c (is_one_lem a b bs at u w ru rw' L k ef ec) = one_cycle_over s S i (edged (open_edge a b bs) at tt) (rw at tt) u w ru rw' L k ef ec a b bs at
   good_over c (is_rings bs at u w q k n) = rings_over s S i u w q (edged (closed_edge bs) at tt) k n bs at
 
   pub uncut_sound : Passes s (uncut i) → Sound (result s (uncut i))

@@ -12,7 +12,7 @@ use lib.Dec.{T, eqb, ltb, leb}
 use borrow.Author.Tests.{eq-eqb, ne_eqb, eqb-true, eqb-false, leb-true, leb-false, ltb-true, ltb-false}
 use Rattle.coordinate.specs.declared.Position.{Position}
 use Rattle.complex.specs.Lists.{all, one, rotated, distance}
-use Rattle.complex.specs.Cells.{Halfedge, Cycle, lone, path, Figure, vertex, open_edge, closed_edge, face, LiveCell, Sheet, Look, is_vertex, is_open_lem, is_edge}
+use Rattle.complex.specs.Cells.{Halfedge, Cycle, lone, path, Figure, vertex, open_edge, closed_edge, face, LiveCell, Sheet, Look, is_vertex, is_open, is_edge}
 use Rattle.complex.specs.Cells.{cycles_of, steps_of, tail_of, head_of, cell_at}
 use Rattle.complex.specs.Sound.{Walk, ids_end, cycle_ok, ceilings, over}
 use Rattle.complex.specs.Edits.{rebuild, replaced, others}
@@ -142,7 +142,7 @@ Only s e u w =
     → (◌≡◌ {A = Use} (record { face = f; cycle = c; step = j; halfedge = get_or (steps_of (get_or ks c no_cycle)) j no_step }) u)
     ⊎ (◌≡◌ {A = Use} (record { face = f; cycle = c; step = j; halfedge = get_or (steps_of (get_or ks c no_cycle)) j no_step }) w)
 
-module _ (s : Sheet) (S : Sound s) (e : ℕ) (E : T (is_edge (cell_at s e))) (o : T (is_open_lem (cell_at s e))) (u w : Use) (ru : Placed (cell_at s) e u)
+module _ (s : Sheet) (S : Sound s) (e : ℕ) (E : T (is_edge (cell_at s e))) (o : T (is_open (cell_at s e))) (u w : Use) (ru : Placed (cell_at s) e u)
     (rw' : Placed (cell_at s) e w) (L : Only s e u w)
     (opp : T (opposite u w)) (ef : u.face ≡ w.face) (ec : u.cycle ≡ w.cycle) where
   abbrev ks : List Cycle
@@ -203,7 +203,7 @@ module _ (s : Sheet) (S : Sound s) (e : ℕ) (E : T (is_edge (cell_at s e))) (o 
       let v = head_of (cell_at s) u.halfedge in
       let k = stretch_walk hs u.step w.step ru.2 w_lt distinct (cell_at s) u.halfedge w.halfedge ru.3 w_at round in
       path_or_ok look₁ v X (vertex_stays s S e E (others e) u.face ks ru.0 ks' keeps v
-      (head_vertex s S u.halfedge (subst (λ (i : ℕ). T (is_open_lem (cell_at s i))) (sym ru.4) o)))
+      (head_vertex s S u.halfedge (subst (λ (i : ℕ). T (is_open (cell_at s i))) (sym ru.4) o)))
       (piece v X (subst (λ (x : ℕ). Walk (cell_at s) v X x) ends.1 k)
       (stretch_every hs u.step w.step ru.2 w_lt distinct (λ (h : Halfedge). h.edge ≡ e → ⊥) (λ j l a b. not_e j l a b)))
 
@@ -217,7 +217,7 @@ module _ (s : Sheet) (S : Sound s) (e : ℕ) (E : T (is_edge (cell_at s e))) (o 
       let k = stretch_walk hs w.step u.step w_lt ru.2 (λ z. distinct (sym z)) (cell_at s) w.halfedge u.halfedge w_at ru.3 round in
       subst (λ (l : List Halfedge). T (cycle_ok look₁ (path_or v l))) (sym Y_is)
       (path_or_ok look₁ v Z (vertex_stays s S e E (others e) u.face ks ru.0 ks' keeps v
-      (head_vertex s S w.halfedge (subst (λ (i : ℕ). T (is_open_lem (cell_at s i))) (sym rw'.4) o)))
+      (head_vertex s S w.halfedge (subst (λ (i : ℕ). T (is_open (cell_at s i))) (sym rw'.4) o)))
       (piece v Z (subst (λ (x : ℕ). Walk (cell_at s) v Z x) ends.0 k)
       (stretch_every hs w.step u.step w_lt ru.2 (λ z. distinct (sym z)) (λ (h : Halfedge). h.edge ≡ e → ⊥) (λ j l a b. not_e j l b a))))
 

@@ -15,7 +15,7 @@ use Rattle.coordinate.specs.declared.Position.{Position}
 use Rattle.coordinate.specs.Bounds.{within}
 use Rattle.complex.specs.Lists.{all, any, filter, cons_if, holds, rising, one, without}
 use Rattle.complex.specs.Cells.{Halfedge, Cycle, lone, path, Figure, vertex, open_edge, closed_edge, face, LiveCell, Sheet, Look, some_if, lookup, ids}
-use Rattle.complex.specs.Cells.{is_vertex, is_open_lem, is_closed, start_of, end_of, cycles_of, steps_of, same, tail_of, head_of, flipped, cell_at}
+use Rattle.complex.specs.Cells.{is_vertex, is_open, is_closed, start_of, end_of, cycles_of, steps_of, same, tail_of, head_of, flipped, cell_at}
 use Rattle.complex.specs.Sound.{Walk, ids_end, cycle_ok, figure_ok, ceilings, joins}
 use Rattle.complex.specs.Edits.{rebuild, replaced}
 use Rattle.complex.specs.Uses.{Use, step_uses, cycle_uses, uses_of}
@@ -176,7 +176,7 @@ use_listed Q e (d ∷ cs) a f ks q c l j m z =
 
 -- ---- what follows a step in its cycle leads from the step's head to its tail
 pub following_walk : (look : Look) (hs : List Halfedge) (n : ℕ) (h : Halfedge) → n < length hs → get_or hs n no_step ≡ h → Round look hs
-    → T (is_open_lem (look h.edge)) × Walk look (head_of look h) (drop (suc n) hs ++ take n hs) (tail_of look h)
+    → T (is_open (look h.edge)) × Walk look (head_of look h) (drop (suc n) hs ++ take n hs) (tail_of look h)
 following_walk look hs n h l e k =
     let w : Walk look k.0 (take n hs ++ h ∷ drop (suc n) hs) k.0 = subst (λ (ks : List Halfedge). Walk look k.0 ks k.0)
     (split_at hs n no_step l ∙ ap (λ (x : Halfedge). take n hs ++ x ∷ drop (suc n) hs) e) k.1 in
@@ -195,7 +195,7 @@ module _ (look look' : Look) where
   pub walk_stays : (u : ℕ) (hs : List Halfedge) (w : ℕ) → Every Stays hs → Walk look u hs w → Walk look' u hs w
   walk_stays u [] w a k = k
   walk_stays u (h ∷ hs) w a k = (
-    subst (λ (o : Option Figure). T (is_open_lem o)) (sym a.0) k.0,
+    subst (λ (o : Option Figure). T (is_open o)) (sym a.0) k.0,
     k.1 ∙ ap (λ (o : Option Figure). cond h.backward (end_of o) (start_of o)) (sym a.0),
     subst (λ (v : ℕ). Walk look' v hs w) (ap (λ (o : Option Figure). cond h.backward (start_of o) (end_of o)) (sym a.0))
         (walk_stays (head_of look h) hs w a.1 k.2),

@@ -12,7 +12,7 @@ use borrow.Author.Tests.{eq-eqb, ne_eqb, eqb-true, eqb-false}
 use Rattle.coordinate.specs.declared.Position.{Position}
 use Rattle.coordinate.specs.Bounds.{within}
 use Rattle.complex.specs.Lists.{all, places, one, without}
-use Rattle.complex.specs.Cells.{Halfedge, Cycle, lone, path, Figure, vertex, open_edge, closed_edge, face, Sheet, Look, lookup, is_vertex, is_open_lem, is_edge}
+use Rattle.complex.specs.Cells.{Halfedge, Cycle, lone, path, Figure, vertex, open_edge, closed_edge, face, Sheet, Look, lookup, is_vertex, is_open, is_edge}
 use Rattle.complex.specs.Cells.{is_face, start_of, end_of, cycles_of, steps_of, same, tail_of, head_of, flipped, cell_at}
 use Rattle.complex.specs.Sound.{Walk, ids_end, cycle_ok, figure_ok, ceilings, joins, over}
 use Rattle.complex.specs.Edits.{keep_ids, reshape, rebuild, replaced, others, neither}
@@ -173,7 +173,7 @@ placed_use look e x r =
     )
 
 -- the cycle of a use of an open edge goes round
-pub round_of : (s : Sheet) → Sound s → (e : ℕ) → T (is_open_lem (cell_at s e)) → (x : Use) → Placed (cell_at s) e x → Round (cell_at s) (cycle_of_use (cell_at s) x)
+pub round_of : (s : Sheet) → Sound s → (e : ℕ) → T (is_open (cell_at s e)) → (x : Use) → Placed (cell_at s) e x → Round (cell_at s) (cycle_of_use (cell_at s) x)
 round_of s S e o x r = go (get_or (cycles_of (cell_at s x.face)) x.cycle no_cycle)
     (all_get_d (cycle_ok (cell_at s)) (cycles_of (cell_at s x.face)) x.cycle no_cycle (S.figures x.face (face (cycles_of (cell_at s x.face))) r.0)
     r.1) r.2 r.3
@@ -183,7 +183,7 @@ round_of s S e o x r = go (get_or (cycles_of (cell_at s x.face)) x.cycle no_cycl
     go (path hs) t l z = elim (joins_cases (cell_at s) hs t) [
       | inl w ↦ w.1
       | inr g ↦ absurd (ring_no_corner (cell_at s) hs x.step g l
-          (subst (λ (i : ℕ). T (is_open_lem (cell_at s i))) (sym (ap (λ (h : Halfedge). h.edge) z ∙ r.4)) o))
+          (subst (λ (i : ℕ). T (is_open (cell_at s i))) (sym (ap (λ (h : Halfedge). h.edge) z ∙ r.4)) o))
     ]
 
 -- two steps of one edge, opposite: each begins where the other ends
@@ -201,7 +201,7 @@ opposite_ends look u w e t = go u.halfedge.backward w.halfedge.backward t
     go false true t = (ap (λ (i : ℕ). start_of (look i)) e, ap (λ (i : ℕ). end_of (look i)) (sym e))
     go false false t = absurd t
 
-pub head_vertex : (s : Sheet) → Sound s → (h : Halfedge) → T (is_open_lem (cell_at s h.edge)) → T (is_vertex (cell_at s (head_of (cell_at s) h)))
+pub head_vertex : (s : Sheet) → Sound s → (h : Halfedge) → T (is_open (cell_at s h.edge)) → T (is_vertex (cell_at s (head_of (cell_at s) h)))
 head_vertex s S h o = let v = ends_vertices s S h.edge o in go h.backward v.0 v.1
   where
     go : (b : Bool) → T (is_vertex (cell_at s (start_of (cell_at s h.edge)))) → T (is_vertex (cell_at s (end_of (cell_at s h.edge))))
@@ -286,7 +286,7 @@ module _ (s : Sheet) (S : Sound s) (e : ℕ) (u w : Use) (U : uses_of s.cells e 
   abbrev ks'ᵒ : List Cycle
   ks'ᵒ = set ks1 u.cycle merged ++ without (one w.cycle) 0 ks2
 
-  module _ (o : T (is_open_lem (cell_at s e))) where
+  module _ (o : T (is_open (cell_at s e))) where
     abbrev look₃ : Look
     look₃ = look₂ ks'ᵒ
 
@@ -310,7 +310,7 @@ module _ (s : Sheet) (S : Sound s) (e : ℕ) (u w : Use) (U : uses_of s.cells e 
         (sym g.0) (subst (λ (x : ℕ). Walk look₃ (head_of (cell_at s) w.halfedge) (following (cell_at s) w) x) g.1 b) in
         path_or_ok look₃ v (following (cell_at s) u ++ following (cell_at s) w)
         (vertex_stays s S e E p₂ u.face ks1 ru.0 ks'ᵒ keeps₂ v
-        (head_vertex s S u.halfedge (subst (λ (i : ℕ). T (is_open_lem (cell_at s i))) (sym ru.4) o)))
+        (head_vertex s S u.halfedge (subst (λ (i : ℕ). T (is_open (cell_at s i))) (sym ru.4) o)))
         (walk_append look₃ v (following (cell_at s) u) (tail_of (cell_at s) u.halfedge) (following (cell_at s) w) v a c)
 
     pub merged_sound : T (leb (rebuild p₂ (replaced u.face (face ks'ᵒ)) [] s).next ids_end)

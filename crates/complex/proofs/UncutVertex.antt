@@ -14,9 +14,9 @@ use Rattle.coordinate.specs.declared.Position.{Position}
 use Rattle.coordinate.specs.Bounds.{within}
 use Rattle.complex.specs.Lists.{all, any, filter, cons_if, total, one, is_empty, rising}
 use Rattle.complex.specs.Cells.{Halfedge, Cycle, lone, path, Figure, vertex, open_edge, closed_edge, face, LiveCell, Sheet, Look, some_if, lookup, ids}
-use Rattle.complex.specs.Cells.{is_vertex, is_open_lem, is_closed, is_edge, start_of, end_of, bends_of, cycles_of, position_of, steps_of, along, against, flipped, same}
+use Rattle.complex.specs.Cells.{is_vertex, is_open, is_closed, is_edge, start_of, end_of, bends_of, cycles_of, position_of, steps_of, along, against, flipped, same}
 use Rattle.complex.specs.Cells.{tail_of, head_of, cell_at}
-use Rattle.complex.specs.Sound.{Walk, ids_end, cycle_ok, figure_ok, ceilings, joins, step_count_lem, over}
+use Rattle.complex.specs.Sound.{Walk, ids_end, cycle_ok, figure_ok, ceilings, joins, step_count, over}
 use Rattle.complex.specs.Edits.{keep_ids, numbered, rebuild, rewired, rewired_cycle, same_vertex, others, neither, in_place_of}
 use Rattle.complex.specs.Uses.{figure_ends, ends_at, Passage, passage, passages_from, passages, all_cycles, passages_at, is_in, lone_use, uses_by}
 use Rattle.complex.specs.Uncut.{ends_of_one_edge, is_lone, without_lone, in_one, bends_along, joined}
@@ -50,21 +50,21 @@ turned h k z = go h.backward k.backward refl refl
 
 -- ---- a vertex's ends, as they are listed
 ends_real : (look : Look) (v : ℕ) (cs : List LiveCell) → Every (λ (c : LiveCell). look c.id ≡ some c.figure) cs
-    → Every (λ (h : Halfedge). T (is_open_lem (look h.edge)) × (tail_of look h ≡ v)) (ends_at cs v)
+    → Every (λ (h : Halfedge). T (is_open (look h.edge)) × (tail_of look h ≡ v)) (ends_at cs v)
 ends_real look v [] h = tt
-ends_real look v (c ∷ cs) h = every_both (λ (x : Halfedge). T (is_open_lem (look x.edge)) × (tail_of look x ≡ v)) (figure_ends v c.id c.figure) (ends_at cs v)
+ends_real look v (c ∷ cs) h = every_both (λ (x : Halfedge). T (is_open (look x.edge)) × (tail_of look x ≡ v)) (figure_ends v c.id c.figure) (ends_at cs v)
     (go c.figure h.0) (ends_real look v cs h.1)
   where
-    go : (t : Figure) → look c.id ≡ some t → Every (λ (x : Halfedge). T (is_open_lem (look x.edge)) × (tail_of look x ≡ v)) (figure_ends v c.id t)
+    go : (t : Figure) → look c.id ≡ some t → Every (λ (x : Halfedge). T (is_open (look x.edge)) × (tail_of look x ≡ v)) (figure_ends v c.id t)
     go (vertex p) q = tt
     go (open_edge a b bs) q = first (eqb a v) refl (second (eqb b v) refl)
       where
-        second : (y : Bool) → eqb b v ≡ y → Every (λ (x : Halfedge). T (is_open_lem (look x.edge)) × (tail_of look x ≡ v)) (cons_if y (against c.id) [])
+        second : (y : Bool) → eqb b v ≡ y → Every (λ (x : Halfedge). T (is_open (look x.edge)) × (tail_of look x ≡ v)) (cons_if y (against c.id) [])
         second true z = ((rw q tt, ap end_of q ∙ eqb-true b v z), tt)
         second false z = tt
 
-        first : (y : Bool) → eqb a v ≡ y → Every (λ (x : Halfedge). T (is_open_lem (look x.edge)) × (tail_of look x ≡ v)) (cons_if (eqb b v) (against c.id) [])
-            → Every (λ (x : Halfedge). T (is_open_lem (look x.edge)) × (tail_of look x ≡ v)) (cons_if y (along c.id) (cons_if (eqb b v) (against c.id) []))
+        first : (y : Bool) → eqb a v ≡ y → Every (λ (x : Halfedge). T (is_open (look x.edge)) × (tail_of look x ≡ v)) (cons_if (eqb b v) (against c.id) [])
+            → Every (λ (x : Halfedge). T (is_open (look x.edge)) × (tail_of look x ≡ v)) (cons_if y (along c.id) (cons_if (eqb b v) (against c.id) []))
         first true z r = ((rw q tt, ap start_of q ∙ eqb-true a v z), r)
         first false z r = r
     go (closed_edge bs) q = tt
@@ -124,7 +124,7 @@ ends_of_one lo (c ∷ cs) hi v x y t e q =
     go r rec (closed_edge bs) e = rec e
     go r rec (face ks) e = rec e
 
-pub end_listed : (s : Sheet) (v : ℕ) (h : Halfedge) → T (is_open_lem (cell_at s h.edge)) → tail_of (cell_at s) h ≡ v → T (is_in (ends_at s.cells v) h)
+pub end_listed : (s : Sheet) (v : ℕ) (h : Halfedge) → T (is_open (cell_at s h.edge)) → tail_of (cell_at s) h ≡ v → T (is_in (ends_at s.cells v) h)
 end_listed s v h o q =
     let k = open_at (cell_at s) h.edge o in
     end_in s.cells v h k.0 k.1 k.2 k.3 (ap (λ (x : Option Figure). cond h.backward (end_of x) (start_of x)) (sym k.3) ∙ q)
@@ -153,7 +153,7 @@ module _ (s : Sheet) (S : Sound s) (v : ℕ) (p : Position) (at : cell_at s v �
   abbrev lookˡ : Look
   lookˡ = Look' (others v) (without_lone v) [] s
 
-  no_end : (h : Halfedge) → T (is_open_lem (cell_at s h.edge)) → tail_of (cell_at s) h ≡ v → ⊥
+  no_end : (h : Halfedge) → T (is_open (cell_at s h.edge)) → tail_of (cell_at s) h ≡ v → ⊥
   no_end h o q = subst (λ (hs : List Halfedge). T (is_in hs h)) none_end (end_listed s v h o q)
 
   same_shape : (x : ℕ) (t : Figure) → cell_at s x ≡ some t → (x ≡ v → ⊥) → (T (is_vertex (some t)) ⊎ T (is_edge (some t))) → lookˡ x ≡ cell_at s x
@@ -193,7 +193,7 @@ module _ (s : Sheet) (S : Sound s) (v : ℕ) (p : Position) (at : cell_at s v �
   old j (open_edge a b bs) q o =
       let x = parts (is_vertex (cell_at s a)) (is_vertex (cell_at s b) && all within bs) o in
       let y = parts (is_vertex (cell_at s b)) (all within bs) x.1 in
-      let e : T (is_open_lem (cell_at s j)) = rw q tt in
+      let e : T (is_open (cell_at s j)) = rw q tt in
       pair (is_vertex (lookˡ a)) (is_vertex (lookˡ b) && all within bs) (vertex_stays a (λ z. no_end (along j) e (ap start_of q ∙ z)) x.0)
       (pair (is_vertex (lookˡ b)) (all within bs) (vertex_stays b (λ z. no_end (against j) e (ap end_of q ∙ z)) y.0) y.1)
   old j (closed_edge bs) q o = o
@@ -224,8 +224,8 @@ module _ (s : Sheet) (S : Sound s) (v : ℕ) (p : Position) (at : cell_at s v �
   cycles_less ks = let h = lone_less (λ (k : Cycle). 1) (λ w. refl) ks in let a = total_ones (filter (λ (k : Cycle). not (is_lone v k)) ks) in
       let b = total_ones ks in omega arith
 
-  pub steps_less : (ks : List Cycle) → total step_count_lem (filter (λ (k : Cycle). not (is_lone v k)) ks) + total (lone_use v) ks ≡ total step_count_lem ks
-  steps_less ks = lone_less step_count_lem (λ w. refl) ks
+  pub steps_less : (ks : List Cycle) → total step_count (filter (λ (k : Cycle). not (is_lone v k)) ks) + total (lone_use v) ks ≡ total step_count ks
+  steps_less ks = lone_less step_count (λ w. refl) ks
 
   -- sums that lose one with each lone cycle, and sums that do not
   pub lonely_less : (g : Figure → ℕ) → ((j : ℕ) (t : Figure) → g (without_lone v j t) + total (lone_use v) (cycles_of (some t)) ≡ g t)
@@ -270,18 +270,18 @@ every_of_any q (x ∷ xs) z = go (q x) refl z (λ w. every_of_any q xs w)
 
 module _ (s : Sheet) (S : Sound s) (v : ℕ) (p : Position) (at : cell_at s v ≡ some (vertex p)) (x y : Halfedge) (two : ends_at s.cells v ≡ x ∷ y ∷ [])
     (alone : uses_by (lone_use v) s.cells ≡ 0) where
-  pub real_ends : (T (is_open_lem (cell_at s x.edge)) × (tail_of (cell_at s) x ≡ v)) × ((T (is_open_lem (cell_at s y.edge)) × (tail_of (cell_at s) y ≡ v)) × Unit {0})
-  real_ends = subst (Every (λ (h : Halfedge). T (is_open_lem (cell_at s h.edge)) × (tail_of (cell_at s) h ≡ v))) two
+  pub real_ends : (T (is_open (cell_at s x.edge)) × (tail_of (cell_at s) x ≡ v)) × ((T (is_open (cell_at s y.edge)) × (tail_of (cell_at s) y ≡ v)) × Unit {0})
+  real_ends = subst (Every (λ (h : Halfedge). T (is_open (cell_at s h.edge)) × (tail_of (cell_at s) h ≡ v))) two
       (ends_real (cell_at s) v s.cells (own_cells (cell_at s) 0 s.cells s.next S.rises (λ i t q. q)))
 
-  pub is_end_lem : (h : Halfedge) → T (is_open_lem (cell_at s h.edge)) → tail_of (cell_at s) h ≡ v → (h ≡ x) ⊎ (h ≡ y)
+  pub is_end_lem : (h : Halfedge) → T (is_open (cell_at s h.edge)) → tail_of (cell_at s) h ≡ v → (h ≡ x) ⊎ (h ≡ y)
   is_end_lem h o q = elim (cases (same h x) (same h y || false) (subst (λ (hs : List Halfedge). T (is_in hs h)) two (end_listed s v h o q))) [
     | inl a ↦ inl (same_eq h x a)
     | inr b ↦ elim (cases (same h y) false b) [ inl c ↦ inr (same_eq h y c) | inr c ↦ absurd c ]
   ]
 
   abbrev Here : Passage → Bool
-  Here t = is_open_lem (cell_at s t.leaves.edge) && eqb (tail_of (cell_at s) t.leaves) v
+  Here t = is_open (cell_at s t.leaves.edge) && eqb (tail_of (cell_at s) t.leaves) v
 
   module _ (keep : ℕ → Bool) (σ : Halfedge → List Halfedge) (t : Figure) (Q : Passage → Type 0)
       (gone : (j : ℕ) → T (keep j) → (j ≡ x.edge → ⊥) × (j ≡ y.edge → ⊥)) (kept : (j : ℕ) → (j ≡ v → ⊥) → (j ≡ x.edge → ⊥) → (j ≡ y.edge → ⊥)
@@ -304,10 +304,10 @@ module _ (s : Sheet) (S : Sound s) (v : ℕ) (p : Position) (at : cell_at s v �
         go none q (inr k) = absurd k
         go (some u) q k = stays_at keep (rewired same_vertex σ) (t ∷ []) s z u (kept z a b c) q ∙ ap some (plain u k) ∙ sym q
 
-    open_no_vertex : (e z : ℕ) → T (is_open_lem (cell_at s e)) → T (is_vertex (cell_at s z)) → z ≡ e → ⊥
+    open_no_vertex : (e z : ℕ) → T (is_open (cell_at s e)) → T (is_vertex (cell_at s z)) → z ≡ e → ⊥
     open_no_vertex e z o w q = go (cell_at s e) o (subst (λ (i : ℕ). T (is_vertex (cell_at s i))) q w)
       where
-        go : (r : Option Figure) → T (is_open_lem r) → T (is_vertex r) → ⊥
+        go : (r : Option Figure) → T (is_open r) → T (is_vertex r) → ⊥
         go none a b = b
         go (some (vertex r)) a b = a
         go (some (open_edge c d bs)) a b = b
@@ -322,7 +322,7 @@ module _ (s : Sheet) (S : Sound s) (v : ℕ) (p : Position) (at : cell_at s v �
     edge-not-v² e k z = subst (λ (o : Option Figure). T (is_edge o)) (ap (cell_at s) z ∙ at) k
 
     -- the ends of an edge that stays are not v
-    pub ends² : (h : Halfedge) → T (is_open_lem (cell_at s h.edge)) → (h.edge ≡ x.edge → ⊥) → (h.edge ≡ y.edge → ⊥) → tail_of (cell_at s) h ≡ v → ⊥
+    pub ends² : (h : Halfedge) → T (is_open (cell_at s h.edge)) → (h.edge ≡ x.edge → ⊥) → (h.edge ≡ y.edge → ⊥) → tail_of (cell_at s) h ≡ v → ⊥
     ends² h o a b q = elim (is_end_lem h o q) [ inl z ↦ a (ap (λ (k : Halfedge). k.edge) z) | inr z ↦ b (ap (λ (k : Halfedge). k.edge) z) ]
 
     module _ (path-ok : (hs : List Halfedge) → T (joins (cell_at s) hs) → Every Q (filter Here (passages hs))
@@ -347,7 +347,7 @@ module _ (s : Sheet) (S : Sound s) (v : ℕ) (p : Position) (at : cell_at s v �
       old² j (open_edge a b bs) k q o =
           let m = parts (is_vertex (cell_at s a)) (is_vertex (cell_at s b) && all within bs) o in
           let n = parts (is_vertex (cell_at s b)) (all within bs) m.1 in
-          let e : T (is_open_lem (cell_at s j)) = rw q tt in
+          let e : T (is_open (cell_at s j)) = rw q tt in
           let g = gone j k in
           pair (is_vertex (look² a)) (is_vertex (look² b) && all within bs) (vertex² a (λ z. ends² (along j) e g.0 g.1 (ap start_of q ∙ z)) m.0)
           (pair (is_vertex (look² b)) (all within bs) (vertex² b (λ z. ends² (against j) e g.0 g.1 (ap end_of q ∙ z)) n.0) n.1)
@@ -402,15 +402,15 @@ module _ (s : Sheet) (S : Sound s) (v : ℕ) (p : Position) (at : cell_at s v �
         twice : tail_of (cell_at s) (flipped (flipped x)) ≡ tail_of (cell_at s) x
         twice = ap (λ (b : Bool). tail_of (cell_at s) (record { edge = x.edge; backward = b })) (mathlib.Core.Bool.not-not x.backward)
 
-    e_end : (k : Halfedge) → T (is_open_lem (cell_at s k.edge)) → tail_of (cell_at s) k ≡ v → k.edge ≡ eˡ
+    e_end : (k : Halfedge) → T (is_open (cell_at s k.edge)) → tail_of (cell_at s) k ≡ v → k.edge ≡ eˡ
     e_end k o q = elim (is_end_lem k o q) [ inl z ↦ ap (λ (h : Halfedge). h.edge) z | inr z ↦ ap (λ (h : Halfedge). h.edge) z ∙ ye ]
 
     -- after a step of the edge comes the same step; before one, too, comes one
-    next_same : (h k : Halfedge) (ts : List Passage) → T (is_open_lem (cell_at s k.edge)) → head_of (cell_at s) h ≡ tail_of (cell_at s) k
+    next_same : (h k : Halfedge) (ts : List Passage) → T (is_open (cell_at s k.edge)) → head_of (cell_at s) h ≡ tail_of (cell_at s) k
         → Every Qˡ (cons_if (Here (passage h k)) (passage h k) ts) → h.edge ≡ eˡ → k ≡ h
     next_same h k ts o m e z =
         let q : tail_of (cell_at s) k ≡ v = sym m ∙ head_v h z in
-        let here : Here (passage h k) ≡ true = true_of (Here (passage h k)) (pair (is_open_lem (cell_at s k.edge)) (eqb (tail_of (cell_at s) k) v) o (equal q)) in
+        let here : Here (passage h k) ≡ true = true_of (Here (passage h k)) (pair (is_open (cell_at s k.edge)) (eqb (tail_of (cell_at s) k) v) o (equal q)) in
         let r : Every Qˡ (passage h k ∷ ts) = subst (λ (b : Bool). Every Qˡ (cons_if b (passage h k) ts)) here e in
         elim (turned h k (z ∙ sym (e_end k o q))) [
           | inl w ↦ w
@@ -433,12 +433,12 @@ module _ (s : Sheet) (S : Sound s) (v : ℕ) (p : Position) (at : cell_at s v �
         pair (same h₀ k) (all (same h₀) ks) (subst (λ (j : Halfedge). T (same h₀ j)) (q ∙ sym i) (same_refl h₀))
         (all_same f h₀ k ks w.2 (rest h k (filter Here (passages_from f k ks)) e) (q ∙ sym i) (ap (λ (j : Halfedge). j.edge) i ∙ z))
 
-    none_of : (h : Halfedge) (hs : List Halfedge) (u : ℕ) → T (is_open_lem (cell_at s h.edge)) → Walk (cell_at s) (head_of (cell_at s) h) hs u → (h.edge ≡ eˡ → ⊥)
+    none_of_lem : (h : Halfedge) (hs : List Halfedge) (u : ℕ) → T (is_open (cell_at s h.edge)) → Walk (cell_at s) (head_of (cell_at s) h) hs u → (h.edge ≡ eˡ → ⊥)
         → Every (λ (k : Halfedge). k.edge ≡ eˡ → ⊥) hs
-    none_of h [] u o w n = tt
-    none_of h (k ∷ ks) u o w n =
+    none_of_lem h [] u o w n = tt
+    none_of_lem h (k ∷ ks) u o w n =
         let m : k.edge ≡ eˡ → ⊥ = λ z. n (e_end (flipped h) o (flip_tail (cell_at s) h ∙ w.1 ∙ tail_v k z)) in
-        (m, none_of k ks u w.0 w.2 m)
+        (m, none_of_lem k ks u w.0 w.2 m)
       where
         tail_v : (k : Halfedge) → k.edge ≡ eˡ → tail_of (cell_at s) k ≡ v
         tail_v k z = ap (λ (b : Bool). tail_of (cell_at s) (record { edge = k.edge; backward = b })) (sym (mathlib.Core.Bool.not-not k.backward))
@@ -473,19 +473,19 @@ module _ (s : Sheet) (S : Sound s) (v : ℕ) (p : Position) (at : cell_at s v �
             (joins_stay (cell_at s) lookᵖ (h ∷ hs) (stay_all (h ∷ hs) (joins_edges s S (h ∷ hs) t) a) t)
 
         ring_none : (j : ℕ) → T (is_closed (cell_at s j)) → j ≡ eˡ → ⊥
-        ring_none j c z = apart (cell_at s j) c (subst (λ (i : ℕ). T (is_open_lem (cell_at s i))) (sym z) real_ends.0.0)
+        ring_none j c z = apart (cell_at s j) c (subst (λ (i : ℕ). T (is_open (cell_at s i))) (sym z) real_ends.0.0)
 
         rings : (ks : List Halfedge) → T (all (same h) ks) → T (is_closed (cell_at s h.edge)) → Every (λ (k : Halfedge). k.edge ≡ eˡ → ⊥) ks
         rings [] a c = tt
         rings (k ∷ ks) a c = let b = parts (same h k) (all (same h) ks) a in
             (ring_none k.edge (subst (λ (j : Halfedge). T (is_closed (cell_at s j.edge))) (same_eq h k b.0) c), rings ks b.1 c)
 
-        go : T (is_open_lem (cell_at s h.edge)) → Walk (cell_at s) (head_of (cell_at s) h) hs (tail_of (cell_at s) h) → (b : Bool) → eqb eˡ h.edge ≡ b
+        go : T (is_open (cell_at s h.edge)) → Walk (cell_at s) (head_of (cell_at s) h) hs (tail_of (cell_at s) h) → (b : Bool) → eqb eˡ h.edge ≡ b
             → T (joins lookᵖ (spread σˡ (h ∷ hs)))
         go k w true q =
             let z : h.edge ≡ eˡ = sym (eqb-true eˡ h.edge q) in
             ring_carried (cell_at s) lookᵖ σˡ h hs (record { edge = s.next; backward = h.backward }) (rw q) new_closed (all_same h h h hs w e refl z)
-        go k w false q = let n : h.edge ≡ eˡ → ⊥ = λ z. eqb-false eˡ h.edge q (sym z) in untouched (n, none_of h hs (tail_of (cell_at s) h) k w n)
+        go k w false q = let n : h.edge ≡ eˡ → ⊥ = λ z. eqb-false eˡ h.edge q (sym z) in untouched (n, none_of_lem h hs (tail_of (cell_at s) h) k w n)
 
     new-okˡ : T (figure_ok lookᵖ tˡ)
     new-okˡ =
@@ -503,7 +503,7 @@ module _ (s : Sheet) (S : Sound s) (v : ℕ) (p : Position) (at : cell_at s v �
     pub loop_gone : (t : Figure) → cell_at s eˡ ≡ some t → Without s keepˡ (vertex p ∷ t ∷ [])
     loop_gone t k =
         let n : T (others eˡ v) = rw
-        (ne_eqb eˡ v (λ z. edge-not-v² keepˡ σˡ tˡ Qˡ goneˡ keptˡ eˡ (or_left (is_open_lem (cell_at s eˡ)) (is_closed (cell_at s eˡ)) real_ends.0.0) z)) tt in
+        (ne_eqb eˡ v (λ z. edge-not-v² keepˡ σˡ tˡ Qˡ goneˡ keptˡ eˡ (or_left (is_open (cell_at s eˡ)) (is_closed (cell_at s eˡ)) real_ends.0.0) z)) tt in
         without_more v (vertex p) (others eˡ) (one t) s S at n (without_one eˡ t s S k)
 
     pub loop_over : Even s (rebuild keepˡ (rewired same_vertex σˡ) (tˡ ∷ []) s)
@@ -591,11 +591,11 @@ module _ (s : Sheet) (S : Sound s) (v : ℕ) (p : Position) (at : cell_at s v �
     new_at_next = new_at keepʲ (rewired same_vertex σʲ) (tʲ ∷ []) s S s.next (omega arith) ∙ rw (eq-eqb s.next s.next refl)
 
     -- the new edge, passed as x is: from the far end of b to the other end of a
-    new_ends_lem : T (is_open_lem (some tʲ)) × (far ≡ cond x.backward (end_of (some tʲ)) (start_of (some tʲ)))
+    new_ends_lem : T (is_open (some tʲ)) × (far ≡ cond x.backward (end_of (some tʲ)) (start_of (some tʲ)))
         × (head_of (cell_at s) x ≡ cond x.backward (start_of (some tʲ)) (end_of (some tʲ)))
     new_ends_lem = go x.backward
       where
-        go : (c : Bool) → T (is_open_lem
+        go : (c : Bool) → T (is_open
             (some (cond c (open_edge (start_of (cell_at s a)) far (bends_of (cell_at s a) ++ (position_of (cell_at s v) ∷ bends_along (cell_at s) y)))
             (open_edge far (end_of (cell_at s a)) (reverse (bends_along (cell_at s) y) ++ (position_of (cell_at s v) ∷ bends_of (cell_at s a)))))))
             × (far ≡ cond c (end_of (some
@@ -621,7 +621,7 @@ module _ (s : Sheet) (S : Sound s) (v : ℕ) (p : Position) (at : cell_at s v �
         let w = along_new in
         (w.0, sym w.2 ∙ sym (flip_tail lookʲ h), flip_head lookʲ h ∙ sym w.1)
 
-    walksʲ : (h : Halfedge) → T (is_open_lem (cell_at s h.edge)) → Walk lookʲ (r (tail_of (cell_at s) h)) (σʲ h) (r (head_of (cell_at s) h))
+    walksʲ : (h : Halfedge) → T (is_open (cell_at s h.edge)) → Walk lookʲ (r (tail_of (cell_at s) h)) (σʲ h) (r (head_of (cell_at s) h))
     walksʲ h o = go (eqb b h.edge) (eqb a h.edge) refl refl
       where
         hb : h.edge ≡ b → r (tail_of (cell_at s) h) ≡ r (head_of (cell_at s) h)
@@ -651,9 +651,9 @@ module _ (s : Sheet) (S : Sound s) (v : ℕ) (p : Position) (at : cell_at s v �
 
         hn : (h.edge ≡ a → ⊥) → (h.edge ≡ b → ⊥) → Walk lookʲ (r (tail_of (cell_at s) h)) (one h) (r (head_of (cell_at s) h))
         hn m n =
-            let k : T (is_edge (cell_at s h.edge)) = or_left (is_open_lem (cell_at s h.edge)) (is_closed (cell_at s h.edge)) o in
+            let k : T (is_edge (cell_at s h.edge)) = or_left (is_open (cell_at s h.edge)) (is_closed (cell_at s h.edge)) o in
             let q = stays² keepʲ σʲ tʲ Qʲ goneʲ keptʲ h.edge (edge-not-v² keepʲ σʲ tʲ Qʲ goneʲ keptʲ h.edge k) m n (inr k) in (
-              subst (λ (z : Option Figure). T (is_open_lem z)) (sym q) o,
+              subst (λ (z : Option Figure). T (is_open z)) (sym q) o,
               r_else (tail_of (cell_at s) h) (ends² keepʲ σʲ tʲ Qʲ goneʲ keptʲ h o m n) ∙ ap (λ (z : Option Figure). cond h.backward (end_of z) (start_of z))
                   (sym q),
               ap (λ (z : Option Figure). cond h.backward (start_of z) (end_of z)) q
@@ -667,10 +667,10 @@ module _ (s : Sheet) (S : Sound s) (v : ℕ) (p : Position) (at : cell_at s v �
         go false false p q = hn (λ z. eqb-false a h.edge q (sym z)) (λ z. eqb-false b h.edge p (sym z))
 
     -- ---- a cycle of b alone would turn at the vertex
-    turn_at : (h k : Halfedge) (ts : List Passage) → T (is_open_lem (cell_at s k.edge)) → tail_of (cell_at s) k ≡ v → h.edge ≡ b → k.edge ≡ b
+    turn_at : (h k : Halfedge) (ts : List Passage) → T (is_open (cell_at s k.edge)) → tail_of (cell_at s) k ≡ v → h.edge ≡ b → k.edge ≡ b
         → Every Qʲ (cons_if (Here (passage h k)) (passage h k) ts) → ⊥
     turn_at h k ts o q z w e =
-        let here : Here (passage h k) ≡ true = true_of (Here (passage h k)) (pair (is_open_lem (cell_at s k.edge)) (eqb (tail_of (cell_at s) k) v) o (equal q)) in
+        let here : Here (passage h k) ≡ true = true_of (Here (passage h k)) (pair (is_open (cell_at s k.edge)) (eqb (tail_of (cell_at s) k) v) o (equal q)) in
         let m : Every Qʲ (passage h k ∷ ts) = subst (λ (c : Bool). Every Qʲ (cons_if c (passage h k) ts)) here e in
         false≢true (sym m.0 ∙ eq-eqb h.edge k.edge (z ∙ sym w))
 
@@ -681,12 +681,12 @@ module _ (s : Sheet) (S : Sound s) (v : ℕ) (p : Position) (at : cell_at s v �
         go true m = m.1
         go false m = m
 
-    last_turn : (f h : Halfedge) (hs : List Halfedge) → T (is_open_lem (cell_at s f.edge)) → tail_of (cell_at s) f ≡ v → f.edge ≡ b → h.edge ≡ b
+    last_turn : (f h : Halfedge) (hs : List Halfedge) → T (is_open (cell_at s f.edge)) → tail_of (cell_at s) f ≡ v → f.edge ≡ b → h.edge ≡ b
         → Every (λ (k : Halfedge). k.edge ≡ b) hs → Every Qʲ (filter Here (passages_from f h hs)) → ⊥
     last_turn f h [] o q z w m e = turn_at h f [] o q w z e
     last_turn f h (k ∷ ks) o q z w m e = last_turn f k ks o q z m.0 m.1 (restʲ h k (filter Here (passages_from f k ks)) e)
 
-    first_turn : (f h : Halfedge) (hs : List Halfedge) → T (is_open_lem (cell_at s f.edge)) → head_of (cell_at s) h ≡ v → f.edge ≡ b → h.edge ≡ b
+    first_turn : (f h : Halfedge) (hs : List Halfedge) → T (is_open (cell_at s f.edge)) → head_of (cell_at s) h ≡ v → f.edge ≡ b → h.edge ≡ b
         → Every (λ (k : Halfedge). k.edge ≡ b) hs → Walk (cell_at s) (head_of (cell_at s) h) hs (tail_of (cell_at s) f)
         → Every Qʲ (filter Here (passages_from f h hs)) → ⊥
     first_turn f h [] o q z w m k e = turn_at h f [] o (sym k ∙ q) w z e
@@ -713,15 +713,15 @@ module _ (s : Sheet) (S : Sound s) (v : ℕ) (p : Position) (at : cell_at s v �
       | inr g ↦ ring_carried (cell_at s) lookʲ σʲ h hs h (stay_one h g.0) (closed_left h.edge g.0) g.1
     ]
       where
-        turns : T (is_open_lem (cell_at s h.edge)) → Walk (cell_at s) (head_of (cell_at s) h) hs (tail_of (cell_at s) h)
+        turns : T (is_open (cell_at s h.edge)) → Walk (cell_at s) (head_of (cell_at s) h) hs (tail_of (cell_at s) h)
             → Every (λ (k : Halfedge). k.edge ≡ b) (h ∷ hs) → ⊥
         turns o w m = elim (turned y h (sym m.0)) [
           | inl q ↦ last_turn h h hs o (ap (tail_of (cell_at s)) q ∙ real_ends.1.0.1) m.0 m.0 m.1 e
           | inr q ↦ first_turn h h hs o (ap (head_of (cell_at s)) q ∙ flip_head (cell_at s) y ∙ real_ends.1.0.1) m.0 m.0 m.1 w e
         ]
 
-        not_open : (j i : ℕ) → T (is_closed (cell_at s j)) → T (is_open_lem (cell_at s i)) → j ≡ i → ⊥
-        not_open j i c o z = apart (cell_at s j) c (subst (λ (k : ℕ). T (is_open_lem (cell_at s k))) (sym z) o)
+        not_open : (j i : ℕ) → T (is_closed (cell_at s j)) → T (is_open (cell_at s i)) → j ≡ i → ⊥
+        not_open j i c o z = apart (cell_at s j) c (subst (λ (k : ℕ). T (is_open (cell_at s k))) (sym z) o)
 
         stay_one : (k : Halfedge) → T (is_closed (cell_at s k.edge)) → σʲ k ≡ one k
         stay_one k c = rw (
@@ -732,12 +732,12 @@ module _ (s : Sheet) (S : Sound s) (v : ℕ) (p : Position) (at : cell_at s v �
 
         closed_left : (j : ℕ) → T (is_closed (cell_at s j)) → T (is_closed (lookʲ j))
         closed_left j c =
-            let k : T (is_edge (cell_at s j)) = or_right (is_open_lem (cell_at s j)) (is_closed (cell_at s j)) c in
+            let k : T (is_edge (cell_at s j)) = or_right (is_open (cell_at s j)) (is_closed (cell_at s j)) c in
             subst (λ (z : Option Figure). T (is_closed z))
             (sym (stays² keepʲ σʲ tʲ Qʲ goneʲ keptʲ j (edge-not-v² keepʲ σʲ tʲ Qʲ goneʲ keptʲ j k) (not_open j a c real_ends.0.0)
             (not_open j b c real_ends.1.0.0) (inr k))) c
 
-    bends_ok : (e : ℕ) → T (is_open_lem (cell_at s e)) → T (all within (bends_of (cell_at s e)))
+    bends_ok : (e : ℕ) → T (is_open (cell_at s e)) → T (all within (bends_of (cell_at s e)))
     bends_ok e o =
         let k = open_at (cell_at s) e o in
         let c = parts (is_vertex (cell_at s k.0)) (is_vertex (cell_at s k.1) && all within k.2) (S.figures e (open_edge k.0 k.1 k.2) k.3) in
@@ -801,8 +801,8 @@ module _ (s : Sheet) (S : Sound s) (v : ℕ) (p : Position) (at : cell_at s v �
     -- the vertex and both edges go
     pub joint_gone : (ta tb : Figure) → cell_at s a ≡ some ta → cell_at s b ≡ some tb → Without s keepʲ (vertex p ∷ ta ∷ tb ∷ [])
     joint_gone ta tb ka kb =
-        let va : a ≡ v → ⊥ = edge-not-v² keepʲ σʲ tʲ Qʲ goneʲ keptʲ a (or_left (is_open_lem (cell_at s a)) (is_closed (cell_at s a)) real_ends.0.0) in
-        let vb : b ≡ v → ⊥ = edge-not-v² keepʲ σʲ tʲ Qʲ goneʲ keptʲ b (or_left (is_open_lem (cell_at s b)) (is_closed (cell_at s b)) real_ends.1.0.0) in
+        let va : a ≡ v → ⊥ = edge-not-v² keepʲ σʲ tʲ Qʲ goneʲ keptʲ a (or_left (is_open (cell_at s a)) (is_closed (cell_at s a)) real_ends.0.0) in
+        let vb : b ≡ v → ⊥ = edge-not-v² keepʲ σʲ tʲ Qʲ goneʲ keptʲ b (or_left (is_open (cell_at s b)) (is_closed (cell_at s b)) real_ends.1.0.0) in
         let nv : T (neither a b v) = pair (others a v) (others b v) (rw (ne_eqb a v va) tt) (rw (ne_eqb b v vb) tt) in
         let na : T (others b a) = rw (ne_eqb b a (λ z. apart_ab (sym z))) tt in
         without_more v (vertex p) (neither a b) (ta ∷ tb ∷ []) s S at nv (without_more a ta (others b) (one tb) s S ka na (without_one b tb s S kb))

@@ -14,7 +14,7 @@ use Rattle.coordinate.specs.declared.Position.{Position}
 use Rattle.coordinate.specs.Bounds.{within}
 use Rattle.complex.specs.Lists.{all, any, filter, cons_if, total, rising, one}
 use Rattle.complex.specs.Cells.{Halfedge, Cycle, lone, path, Figure, vertex, open_edge, closed_edge, face, LiveCell, Sheet, Look, some_if, lookup, ids}
-use Rattle.complex.specs.Cells.{is_vertex, is_open_lem, is_closed, is_edge, start_of, end_of, cycles_of, steps_of, same, tail_of, head_of, cell_at}
+use Rattle.complex.specs.Cells.{is_vertex, is_open, is_closed, is_edge, start_of, end_of, cycles_of, steps_of, same, tail_of, head_of, cell_at}
 use Rattle.complex.specs.Sound.{Walk, ids_end, cycle_ok, figure_ok, ceilings, joins, over}
 use Rattle.complex.specs.Decode.{Command, unglue}
 use Rattle.complex.specs.Edits.{keep_ids, reshape, numbered, rebuild, every_id, rewired_cycle, same_vertex, in_place_of}
@@ -148,7 +148,7 @@ module _ (s : Sheet) (S : Sound s) (e a b : ℕ) (bs : List Position) (at : cell
 
   -- a step of e, and of its copy
   copy_step : (h : Halfedge) (c : ℕ) → h.edge ≡ e → lookᵒ c ≡ some (open_edge a b bs)
-      → T (is_open_lem (lookᵒ c)) × (tail_of (cell_at s) h ≡ cond h.backward (end_of (lookᵒ c)) (start_of (lookᵒ c)))
+      → T (is_open (lookᵒ c)) × (tail_of (cell_at s) h ≡ cond h.backward (end_of (lookᵒ c)) (start_of (lookᵒ c)))
       × (head_of (cell_at s) h ≡ cond h.backward (start_of (lookᵒ c)) (end_of (lookᵒ c)))
   copy_step h c z q =
       let d : cell_at s h.edge ≡ lookᵒ c = ap (cell_at s) z ∙ at ∙ sym q in
@@ -166,7 +166,7 @@ module _ (s : Sheet) (S : Sound s) (e a b : ℕ) (bs : List Position) (at : cell
           let c = copy_step h (copy_of e s.next n) (sym (eqb-true e h.edge q)) (copy_at uᵒ fᵒ s S e (open_edge a b bs) at refl n (omega arith)) in
           (c.0, k.1 ∙ c.1, subst (λ (v : ℕ). Walk lookᵒ v (new_steps e s.next (n + 1) hs) w) c.2 (r (n + 1) (omega arith) k.2))
       go false q l r =
-          let o : T (is_open_lem (cell_at s h.edge)) = k.0 in (
+          let o : T (is_open (cell_at s h.edge)) = k.0 in (
             kᵒ.opens h.edge o,
             k.1 ∙ tail_kept (cell_at s) lookᵒ kᵒ h o,
             subst (λ (v : ℕ). Walk lookᵒ v (new_steps e s.next (n + 0) hs) w) (head_kept (cell_at s) lookᵒ kᵒ h o) (r (n + 0) (omega arith) k.2),

@@ -14,7 +14,7 @@ use Rattle.coordinate.specs.declared.Position.{Position}
 use Rattle.coordinate.specs.Bounds.{within}
 use Rattle.complex.specs.Lists.{all, any, filter, cons_if, total, one}
 use Rattle.complex.specs.Cells.{Halfedge, Cycle, lone, path, Figure, vertex, open_edge, closed_edge, face, LiveCell, Sheet, Look, some_if, lookup, is_vertex}
-use Rattle.complex.specs.Cells.{is_open_lem, is_closed, start_of, end_of, cycles_of, steps_of, along, against, flipped, same, tail_of, head_of, cell_at}
+use Rattle.complex.specs.Cells.{is_open, is_closed, start_of, end_of, cycles_of, steps_of, along, against, flipped, same, tail_of, head_of, cell_at}
 use Rattle.complex.specs.Cells.{is_vertex_or_edge}
 use Rattle.complex.specs.Sound.{Walk, ids_end, leads, cycle_ok, figure_ok, ceilings, joins, over}
 use Rattle.complex.specs.Decode.{Command, unglue}
@@ -66,10 +66,10 @@ end_in (c ∷ cs) v h a b bs e q = go (eqb c.id h.edge) refl e (λ r. end_in cs 
         (subst (λ (t : Figure). T (is_in (figure_ends v c.id t) h)) (sym z) (here h.backward refl (eqb-true c.id h.edge i) q))
     go false i e r = in_right same (figure_ends v c.id c.figure) (ends_at cs v) h (r e)
 
-pub open_at : (look : Look) (e : ℕ) → T (is_open_lem (look e)) → (a b : ℕ) × (bs : List Position) × (look e ≡ some (open_edge a b bs))
+pub open_at : (look : Look) (e : ℕ) → T (is_open (look e)) → (a b : ℕ) × (bs : List Position) × (look e ≡ some (open_edge a b bs))
 open_at look e t = go (look e) refl t
   where
-    go : (o : Option Figure) → look e ≡ o → T (is_open_lem o) → (a b : ℕ) × (bs : List Position) × (look e ≡ some (open_edge a b bs))
+    go : (o : Option Figure) → look e ≡ o → T (is_open o) → (a b : ℕ) × (bs : List Position) × (look e ≡ some (open_edge a b bs))
     go none q k = absurd k
     go (some (vertex p)) q k = absurd k
     go (some (open_edge a b bs)) q k = (a, b, bs, q)
@@ -111,12 +111,12 @@ module _ (s : Sheet) (S : Sound s) (v : ℕ) (p : Position) (at : cell_at s v �
   Inside t = T (is_in (ends_at s.cells v) t.arrives) × T (is_in (ends_at s.cells v) t.leaves)
 
   abbrev Here : Passage → Bool
-  Here t = is_open_lem (cell_at s t.leaves.edge) && eqb (tail_of (cell_at s) t.leaves) v
+  Here t = is_open (cell_at s t.leaves.edge) && eqb (tail_of (cell_at s) t.leaves) v
 
   abbrev turns : List Cycle → List Passage
   turns ks = spread (λ (k : Cycle). passages (steps_of k)) ks
 
-  end_listed : (h : Halfedge) → T (is_open_lem (cell_at s h.edge)) → tail_of (cell_at s) h ≡ v → T (is_in (ends_at s.cells v) h)
+  end_listed : (h : Halfedge) → T (is_open (cell_at s h.edge)) → tail_of (cell_at s) h ≡ v → T (is_in (ends_at s.cells v) h)
   end_listed h o q =
       let k = open_at (cell_at s) h.edge o in
       end_in s.cells v h k.0 k.1 k.2 k.3 (ap (λ (x : Option Figure). cond h.backward (end_of x) (start_of x)) (sym k.3) ∙ q)
@@ -129,17 +129,17 @@ module _ (s : Sheet) (S : Sound s) (v : ℕ) (p : Position) (at : cell_at s v �
       go true = refl
       go false = refl
 
-  passage_ends : (h k : Halfedge) (ts : List Passage) → T (is_open_lem (cell_at s h.edge)) → T (is_open_lem (cell_at s k.edge))
+  passage_ends : (h k : Halfedge) (ts : List Passage) → T (is_open (cell_at s h.edge)) → T (is_open (cell_at s k.edge))
       → head_of (cell_at s) h ≡ tail_of (cell_at s) k → Every Inside ts → Every Inside (cons_if (Here (passage h k)) (passage h k) ts)
   passage_ends h k ts a b e r = go (Here (passage h k)) refl
     where
       go : (x : Bool) → Here (passage h k) ≡ x → Every Inside (cons_if x (passage h k) ts)
       go true q =
-          let z : tail_of (cell_at s) k ≡ v = eqb→eq (tail_of (cell_at s) k) v (both (is_open_lem (cell_at s k.edge)) (eqb (tail_of (cell_at s) k) v) (truth q)).1 in
+          let z : tail_of (cell_at s) k ≡ v = eqb→eq (tail_of (cell_at s) k) v (both (is_open (cell_at s k.edge)) (eqb (tail_of (cell_at s) k) v) (truth q)).1 in
           ((end_listed (flipped h) a (flipped_tail h ∙ e ∙ z), end_listed k b z), r)
       go false q = r
 
-  passages_ends : (f h : Halfedge) (hs : List Halfedge) → T (is_open_lem (cell_at s h.edge)) → T (is_open_lem (cell_at s f.edge))
+  passages_ends : (f h : Halfedge) (hs : List Halfedge) → T (is_open (cell_at s h.edge)) → T (is_open (cell_at s f.edge))
       → Walk (cell_at s) (head_of (cell_at s) h) hs (tail_of (cell_at s) f) → Every Inside (filter Here (passages_from f h hs))
   passages_ends f h [] a b w = passage_ends h f [] a b w tt
   passages_ends f h (k ∷ ks) a b w = passage_ends h k (filter Here (passages_from f k ks)) a w.0 w.1 (passages_ends f k ks w.0 b w.2)
@@ -147,16 +147,16 @@ module _ (s : Sheet) (S : Sound s) (v : ℕ) (p : Position) (at : cell_at s v �
   -- a closed edge passes no vertex
   passages_ring : (f h : Halfedge) (hs : List Halfedge) → T (is_closed (cell_at s f.edge)) → T (all (same f) hs)
       → Every Inside (filter Here (passages_from f h hs))
-  passages_ring f h [] c t = go (is_open_lem (cell_at s f.edge)) refl
+  passages_ring f h [] c t = go (is_open (cell_at s f.edge)) refl
     where
-      go : (x : Bool) → is_open_lem (cell_at s f.edge) ≡ x → Every Inside (cons_if (x && eqb (tail_of (cell_at s) f) v) (passage h f) [])
+      go : (x : Bool) → is_open (cell_at s f.edge) ≡ x → Every Inside (cons_if (x && eqb (tail_of (cell_at s) f) v) (passage h f) [])
       go true q = absurd (Rattle.complex.proofs.Split.apart (cell_at s f.edge) c (truth q))
       go false q = tt
   passages_ring f h (k ∷ ks) c t =
       let b = both (same f k) (all (same f) ks) t in
-      go (is_open_lem (cell_at s k.edge)) refl (subst (λ (x : Halfedge). T (is_closed (cell_at s x.edge))) (same_eq f k b.0) c) (passages_ring f k ks c b.1)
+      go (is_open (cell_at s k.edge)) refl (subst (λ (x : Halfedge). T (is_closed (cell_at s x.edge))) (same_eq f k b.0) c) (passages_ring f k ks c b.1)
     where
-      go : (x : Bool) → is_open_lem (cell_at s k.edge) ≡ x → T (is_closed (cell_at s k.edge)) → Every Inside (filter Here (passages_from f k ks))
+      go : (x : Bool) → is_open (cell_at s k.edge) ≡ x → T (is_closed (cell_at s k.edge)) → Every Inside (filter Here (passages_from f k ks))
           → Every Inside (cons_if (x && eqb (tail_of (cell_at s) k) v) (passage h k) (filter Here (passages_from f k ks)))
       go true q d r = absurd (Rattle.complex.proofs.Split.apart (cell_at s k.edge) d (truth q))
       go false q d r = r
@@ -233,8 +233,8 @@ module _ (s : Sheet) (S : Sound s) (v : ℕ) (p : Position) (at : cell_at s v �
       go (some (face ks)) q k = absurd k
 
   -- an open edge's halfedge: its tail and head, by its groups
-  ends_new : (h : Halfedge) → T (is_open_lem (cell_at s h.edge))
-      → T (is_open_lem (lookᵛ h.edge)) × (tail_of lookᵛ h ≡ new_end v s.next gs (tail_of (cell_at s) h) h)
+  ends_new : (h : Halfedge) → T (is_open (cell_at s h.edge))
+      → T (is_open (lookᵛ h.edge)) × (tail_of lookᵛ h ≡ new_end v s.next gs (tail_of (cell_at s) h) h)
       × (head_of lookᵛ h ≡ new_end v s.next gs (head_of (cell_at s) h) (flipped h))
   ends_new h o =
       let k = open_at (cell_at s) h.edge o in
@@ -243,7 +243,7 @@ module _ (s : Sheet) (S : Sound s) (v : ℕ) (p : Position) (at : cell_at s v �
     where
       go : (a b : ℕ) (bs : List Position) (x : Bool) → h.backward ≡ x → cell_at s h.edge ≡ some (open_edge a b bs)
           → lookᵛ h.edge ≡ some (open_edge (new_end v s.next gs a (along h.edge)) (new_end v s.next gs b (against h.edge)) bs)
-          → T (is_open_lem (lookᵛ h.edge)) × (tail_of lookᵛ h ≡ new_end v s.next gs (tail_of (cell_at s) h) h)
+          → T (is_open (lookᵛ h.edge)) × (tail_of lookᵛ h ≡ new_end v s.next gs (tail_of (cell_at s) h) h)
           × (head_of lookᵛ h ≡ new_end v s.next gs (head_of (cell_at s) h) (flipped h))
       go a b bs true x c z =
           let i : against h.edge ≡ h = λ j. record { edge = h.edge; backward = sym x j } in
@@ -261,7 +261,7 @@ module _ (s : Sheet) (S : Sound s) (v : ℕ) (p : Position) (at : cell_at s v �
           )
 
   -- across a passage
-  across : (h k : Halfedge) (ts : List Passage) → T (is_open_lem (cell_at s h.edge)) → T (is_open_lem (cell_at s k.edge)) → head_of (cell_at s) h ≡ tail_of (cell_at s) k
+  across : (h k : Halfedge) (ts : List Passage) → T (is_open (cell_at s h.edge)) → T (is_open (cell_at s k.edge)) → head_of (cell_at s) h ≡ tail_of (cell_at s) k
       → Every Joined (cons_if (Here (passage h k)) (passage h k) ts) → (head_of lookᵛ h ≡ tail_of lookᵛ k) × Every Joined ts
   across h k ts a b e r = ((ends_new h a).2 ∙ meet ∙ sym (ends_new k b).1, after (Here (passage h k)) r)
     where
@@ -276,12 +276,12 @@ module _ (s : Sheet) (S : Sound s) (v : ℕ) (p : Position) (at : cell_at s v �
               ≡ cond x (copy_of v s.next (group_of gs k)) (tail_of (cell_at s) k)
           go true q =
               let z : Here (passage h k) ≡ true = true_of (Here (passage h k))
-              (pair (is_open_lem (cell_at s k.edge)) (eqb (tail_of (cell_at s) k) v) b (equal (sym (eqb-true v (tail_of (cell_at s) k) q)))) in
+              (pair (is_open (cell_at s k.edge)) (eqb (tail_of (cell_at s) k) v) b (equal (sym (eqb-true v (tail_of (cell_at s) k) q)))) in
               let j : Every Joined (passage h k ∷ ts) = subst (λ (y : Bool). Every Joined (cons_if y (passage h k) ts)) z r in
               ap (copy_of v s.next) j.0
           go false q = refl
 
-  ended_walk : (f h : Halfedge) (hs : List Halfedge) → T (is_open_lem (cell_at s h.edge)) → T (is_open_lem (cell_at s f.edge))
+  ended_walk : (f h : Halfedge) (hs : List Halfedge) → T (is_open (cell_at s h.edge)) → T (is_open (cell_at s f.edge))
       → Walk (cell_at s) (head_of (cell_at s) h) hs (tail_of (cell_at s) f) → Every Joined (filter Here (passages_from f h hs))
       → Walk lookᵛ (head_of lookᵛ h) hs (tail_of lookᵛ f)
   ended_walk f h [] a b w e = (across h f [] a b w e).0
@@ -336,7 +336,7 @@ module _ (s : Sheet) (S : Sound s) (v : ℕ) (p : Position) (at : cell_at s v �
   old_ok j (open_edge a b bs) e o =
       let x = both (is_vertex (cell_at s a)) (is_vertex (cell_at s b) && all within bs) o in
       let y = both (is_vertex (cell_at s b)) (all within bs) x.1 in
-      let q : T (is_open_lem (cell_at s j)) = rw e tt in
+      let q : T (is_open (cell_at s j)) = rw e tt in
       pair (is_vertex (lookᵛ (new_end v s.next gs a (along j)))) (is_vertex (lookᵛ (new_end v s.next gs b (against j))) && all within bs)
       (end_vertex a (along j) x.0 (λ z. end_listed (along j) q (ap start_of e ∙ z)))
       (pair (is_vertex (lookᵛ (new_end v s.next gs b (against j)))) (all within bs)

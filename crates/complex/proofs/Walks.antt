@@ -8,21 +8,21 @@ use lib.ListN.{length, take, drop, take-append-drop}
 use lib.Dec.{T, eqb, eqb→eq}
 use Rattle.number.specs.Readers.{spread}
 use Rattle.complex.specs.Lists.{all, rotated}
-use Rattle.complex.specs.Cells.{Halfedge, Look, is_open_lem, is_closed, same, tail_of, head_of}
+use Rattle.complex.specs.Cells.{Halfedge, Look, is_open, is_closed, same, tail_of, head_of}
 use Rattle.complex.specs.Sound.{Walk, leads, joins}
 use Rattle.complex.proofs.Bools.{both, pair, cases, or_left, or_right, equal}
 
 pub walk_of : (look : Look) (u : ℕ) (hs : List Halfedge) (w : ℕ) → T (leads look u hs w) → Walk look u hs w
 walk_of look u [] w t = eqb→eq u w t
 walk_of look u (h ∷ hs) w t =
-    let b = both (is_open_lem (look h.edge)) (eqb u (tail_of look h) && leads look (head_of look h) hs w) t in
+    let b = both (is_open (look h.edge)) (eqb u (tail_of look h) && leads look (head_of look h) hs w) t in
     let d = both (eqb u (tail_of look h)) (leads look (head_of look h) hs w) b.1 in
     (b.0, eqb→eq u (tail_of look h) d.0, walk_of look (head_of look h) hs w d.1)
 
 pub walk_leads : (look : Look) (u : ℕ) (hs : List Halfedge) (w : ℕ) → Walk look u hs w → T (leads look u hs w)
 walk_leads look u [] w e = equal e
 walk_leads look u (h ∷ hs) w k =
-    pair (is_open_lem (look h.edge)) (eqb u (tail_of look h) && leads look (head_of look h) hs w) k.0
+    pair (is_open (look h.edge)) (eqb u (tail_of look h) && leads look (head_of look h) hs w) k.0
     (pair (eqb u (tail_of look h)) (leads look (head_of look h) hs w) (equal k.1) (walk_leads look (head_of look h) hs w k.2))
 
 -- ---- joining and splitting
@@ -39,7 +39,7 @@ walk_split look u (h ∷ xs) ys w k =
 
 -- ---- path substitution: a map of vertices, and a walk for each halfedge
 module _ (look look' : Look) (r : ℕ → ℕ) (σ : Halfedge → List Halfedge)
-    (f : (h : Halfedge) → T (is_open_lem (look h.edge)) → Walk look' (r (tail_of look h)) (σ h) (r (head_of look h))) where
+    (f : (h : Halfedge) → T (is_open (look h.edge)) → Walk look' (r (tail_of look h)) (σ h) (r (head_of look h))) where
   pub walk_through : (u : ℕ) (hs : List Halfedge) (w : ℕ) → Walk look u hs w → Walk look' (r u) (spread σ hs) (r w)
   walk_through u [] w e = ap r e
   walk_through u (h ∷ hs) w k =

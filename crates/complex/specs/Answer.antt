@@ -2,7 +2,7 @@
 use Rattle.std.specs.Prelude.{ℕ, zero, suc, ◌-◌, Bool, not, cond, List, [], ◌∷◌, ◌++◌, length, eqb, leb}
 use Rattle.number.specs.Readers.{Read, got, bad}
 use Rattle.complex.specs.Lists.{filter}
-use Rattle.complex.specs.Cells.{LiveCell, Sheet, cell_at, is_live_lem}
+use Rattle.complex.specs.Cells.{LiveCell, Sheet, cell_at, is_live}
 use Rattle.complex.specs.Sound.{ids_end, ceilings, sound}
 use Rattle.complex.specs.Decode.{Command, Order, edit, renumber, decode}
 use Rattle.complex.specs.Commands.{question3, question4, question5, question6, result}
@@ -21,7 +21,7 @@ no n s = record { number = n; first = 0; new = 0; removed = 0; sheet = s }
 
 -- the cells live in s and not in t
 abbrev pub removed_from : Sheet → Sheet → List LiveCell
-removed_from s t = filter (λ (c : LiveCell). not (is_live_lem (cell_at t c.id))) s.cells
+removed_from s t = filter (λ (c : LiveCell). not (is_live (cell_at t c.id))) s.cells
 
 -- the answer of a command that makes t of s
 abbrev pub done : Sheet → Sheet → Answer

@@ -1,6 +1,6 @@
 -- The calls beside commands: star, Euler and write. Definitions only.
 use Rattle.std.specs.Prelude.{ℕ, Bool, cond, List, [], ◌∷◌, ◌++◌, length, drop, ℤ, pos, leb}
-use Rattle.complex.specs.Cells.{Sheet, cell_at, is_live_lem}
+use Rattle.complex.specs.Cells.{Sheet, cell_at, is_live}
 use Rattle.complex.specs.Sound.{sound}
 use Rattle.complex.specs.Boundary.{star}
 use Rattle.complex.specs.Euler.{euler}
@@ -27,7 +27,7 @@ filled xs buffer =
 unfoldable pub star_call : Sheet → ℕ → List ℕ → Filled
 unfolding sound
 star_call s i buffer =
-    cond (sound s) (cond (is_live_lem (cell_at s i)) (filled (star s.cells i) buffer) (unfilled 4 buffer)) (unfilled 1 buffer)
+    cond (sound s) (cond (is_live (cell_at s i)) (filled (star s.cells i) buffer) (unfilled 4 buffer)) (unfilled 1 buffer)
 
 -- write asks 1, 9
 unfoldable pub write_call : Sheet → List ℕ → Filled

@@ -60,12 +60,12 @@ is_vertex (some (open_edge a b bs)) = false
 is_vertex (some (closed_edge bs)) = false
 is_vertex (some (face ks)) = false
 
-abbrev pub is_open_lem : Option Figure → Bool
-is_open_lem none = false
-is_open_lem (some (vertex p)) = false
-is_open_lem (some (open_edge a b bs)) = true
-is_open_lem (some (closed_edge bs)) = false
-is_open_lem (some (face ks)) = false
+abbrev pub is_open : Option Figure → Bool
+is_open none = false
+is_open (some (vertex p)) = false
+is_open (some (open_edge a b bs)) = true
+is_open (some (closed_edge bs)) = false
+is_open (some (face ks)) = false
 
 abbrev pub is_closed : Option Figure → Bool
 is_closed none = false
@@ -81,12 +81,12 @@ is_face (some (open_edge a b bs)) = false
 is_face (some (closed_edge bs)) = false
 is_face (some (face ks)) = true
 
-abbrev pub is_live_lem : Option Figure → Bool
-is_live_lem none = false
-is_live_lem (some x) = true
+abbrev pub is_live : Option Figure → Bool
+is_live none = false
+is_live (some x) = true
 
 abbrev pub is_edge : Option Figure → Bool
-is_edge o = is_open_lem o || is_closed o
+is_edge o = is_open o || is_closed o
 
 abbrev pub is_vertex_or_edge : Option Figure → Bool
 is_vertex_or_edge o = is_vertex o || is_edge o

@@ -5,7 +5,7 @@ use Rattle.coordinate.specs.declared.Position.{Position}
 use Rattle.coordinate.specs.Bounds.{within}
 use Rattle.complex.specs.Lists.{all, is_empty, places, one}
 use Rattle.complex.specs.Cells.{Halfedge, Cycle, lone, path, Figure, vertex, open_edge, closed_edge, face, Sheet, Look, cell_at}
-use Rattle.complex.specs.Cells.{is_vertex, is_open_lem, is_face, is_live_lem, is_edge, is_vertex_or_edge, cycles_of}
+use Rattle.complex.specs.Cells.{is_vertex, is_open, is_face, is_live, is_edge, is_vertex_or_edge, cycles_of}
 use Rattle.complex.specs.Sound.{cycle_ok}
 use Rattle.complex.specs.Euler.{cell_share, euler}
 use Rattle.complex.specs.Decode.{Command, create, move, delete, glue_vertices, glue_edges, unglue}
@@ -55,7 +55,7 @@ figure_names look (face ks) = all (cycle_names look) ks  -- 04
 unfoldable pub question4 : Sheet → Command → Bool
 question4 s (create x) = figure_names (cell_at s) x  -- 01 to 04
 question4 s (move v p) = is_vertex (cell_at s v)  -- 05
-question4 s (delete i) = is_live_lem (cell_at s i)  -- 06
+question4 s (delete i) = is_live (cell_at s i)  -- 06
 question4 s (glue_vertices a b) = is_vertex (cell_at s a) && is_vertex (cell_at s b)  -- 07
 question4 s (glue_edges a b flag) = is_edge (cell_at s a) && is_edge (cell_at s b)  -- 08
 question4 s (unglue i) = is_vertex_or_edge (cell_at s i)  -- 09
@@ -135,7 +135,7 @@ share s (create x) = cell_share x  -- 01 to 04
 share s (move v p) = pos 0  -- 05
 share s (delete i) = neg_ℤ (euler (going s i))  -- 06
 share s (glue_vertices a b) = neg_ℤ (pos 1)  -- 07
-share s (glue_edges a b flag) = cond (is_open_lem (cell_at s a)) (pos 1) (pos 0)  -- 08
+share s (glue_edges a b flag) = cond (is_open (cell_at s a)) (pos 1) (pos 0)  -- 08
 share s (unglue i) = unglue_share (parts s.cells i (cell_at s i) - 1) (cell_at s i)  -- 09
 share s (cut_edge e q) = pos 0  -- 0A
 share s (cut_face_vertex f p) = pos 0  -- 0B

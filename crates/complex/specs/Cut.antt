@@ -5,7 +5,7 @@ use Rattle.coordinate.specs.declared.Position.{Position}
 use Rattle.coordinate.specs.Bounds.{middle}
 use Rattle.complex.specs.Lists.{is_empty, holds, places, one, rotated, without, chosen, distance}
 use Rattle.complex.specs.Cells.{Halfedge, Cycle, lone, path, Figure, vertex, open_edge, closed_edge, face, Sheet, origin, Look, cell_at}
-use Rattle.complex.specs.Cells.{is_open_lem, is_closed, bends_of, cycles_of, position_of, steps_of, along, against, tail_of}
+use Rattle.complex.specs.Cells.{is_open, is_closed, bends_of, cycles_of, position_of, steps_of, along, against, tail_of}
 use Rattle.complex.specs.Edits.{rebuild, every_id, others, cycles_become, cycle_replaced, without_cycle, rewired, same_vertex, in_place_of}
 
 -- ---- 0A
@@ -129,7 +129,7 @@ cut_exists o q = cond (eqb (q % 2) 1 || is_closed o) (ltb (q / 2) (length (bends
 -- a closed cycle has no corner, a lone vertex has corner 0
 abbrev pub corner_exists : Look → Cycle → ℕ → Bool
 corner_exists look (lone v) n = eqb n 0
-corner_exists look (path hs) n = ltb n (length hs) && is_open_lem (look (get_or hs n no_step).edge)
+corner_exists look (path hs) n = ltb n (length hs) && is_open (look (get_or hs n no_step).edge)
 
 -- moved cycles strictly rising and without c1, none where c1 and c2 differ
 abbrev pub cut_corners : Look → List Cycle → ℕ → ℕ → ℕ → ℕ → List ℕ → Bool

@@ -3,7 +3,7 @@ use Rattle.std.specs.Prelude.{ℕ, zero, suc, ◌+◌, ◌≤◌, ◌<◌, ◌�
 use Rattle.std.proofs.Math.Option.{some}
 use Rattle.number.specs.Readers.{Read, got, bad}
 use Rattle.complex.specs.Lists.{all, holds, rising}
-use Rattle.complex.specs.Cells.{Figure, Sheet, empty, cell_at, ids, is_live_lem}
+use Rattle.complex.specs.Cells.{Figure, Sheet, empty, cell_at, ids, is_live}
 use Rattle.complex.specs.Sound.{sound, doubles}
 use Rattle.complex.specs.Boundary.{RestsOn, bounds_at, star}
 use Rattle.complex.specs.Euler.{euler}
@@ -68,7 +68,7 @@ abbrev pub shares : Sheet → List (List ℕ) → ℤ
 shares = shares_of_items command_step share_of
 
 abbrev pub live : Sheet → ℕ → Type 0
-live s i = T (is_live_lem (cell_at s i))
+live s i = T (is_live (cell_at s i))
 
 -- what a delete of i takes: i and the cells that rest on it
 abbrev pub TakenWith : Sheet → ℕ → ℕ → Type 0

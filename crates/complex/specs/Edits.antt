@@ -34,8 +34,8 @@ abbrev pub neither : ℕ → ℕ → ℕ → Bool
 neither i j n = others i n && others j n
 
 -- all but i, j and k
-abbrev pub none_of_lem : ℕ → ℕ → ℕ → ℕ → Bool
-none_of_lem i j k n = others i n && neither j k n
+abbrev pub none_of : ℕ → ℕ → ℕ → ℕ → Bool
+none_of i j k n = others i n && neither j k n
 
 -- ---- how cells change
 abbrev pub as_it_is : ℕ → Figure → Figure

@@ -2,7 +2,7 @@
 use Rattle.std.specs.Prelude.{ℕ, Bool, ◌&&◌, ◌||◌, cond, List, [], eqb}
 use Rattle.std.proofs.Math.Option.{Option}
 use Rattle.complex.specs.Lists.{one}
-use Rattle.complex.specs.Cells.{Figure, Sheet, is_open_lem, is_closed, start_of, end_of}
+use Rattle.complex.specs.Cells.{Figure, Sheet, is_open, is_closed, start_of, end_of}
 use Rattle.complex.specs.Edits.{rebuild, others, rewired, same_vertex, in_place_of}
 
 -- ---- 07: every use of b becomes a; b goes
@@ -20,5 +20,5 @@ glued_edges s a b flag = rebuild (others b) (rewired same_vertex (in_place_of b 
 abbrev pub may_glue : Option Figure → Option Figure → ℕ → Bool
 may_glue a b flag =
     (is_closed a && is_closed b)
-    || (is_open_lem a && (is_open_lem b
+    || (is_open a && (is_open b
     && cond (eqb flag 0) (eqb (start_of a) (start_of b) && eqb (end_of a) (end_of b)) (eqb (start_of a) (end_of b) && eqb (end_of a) (start_of b))))

@@ -64,7 +64,7 @@ abbrev pub script_most : ℕ
 script_most = 65536
 
 pub data Output : Type 0 where
-  too_long_lem : Output
+  too_long : Output
   printed : List Line → ℤ → ℕ → Output
 
 abbrev pub printed_run : Run → Output
@@ -74,7 +74,7 @@ unfoldable pub edit_output : List ℕ → Output
 unfolding run
 edit_output bytes =
     elim (leb (length bytes) script_most) [
-      | false ↦ too_long_lem
+      | false ↦ too_long
       | true ↦ printed_run (run bytes)
     ]
 
@@ -118,5 +118,5 @@ abbrev pub too_long_text : List ℕ
 too_long_text = 116 ∷ 111 ∷ 111 ∷ 32 ∷ 108 ∷ 111 ∷ 110 ∷ 103 ∷ []
 
 abbrev pub output_text : Output → List ℕ
-output_text too_long_lem = too_long_text ++ newline
+output_text too_long = too_long_text ++ newline
 output_text (printed ls z n) = spread line_text ls ++ euler_word ++ space ++ signed z ++ space ++ cells_word ++ space ++ decimal n ++ newline

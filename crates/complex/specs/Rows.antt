@@ -10,7 +10,7 @@ use Rattle.complex.specs.Answer.{Answer, command}
 use Rattle.complex.specs.File.{file_of, ReadAnswer, read_file}
 use Rattle.complex.specs.Calls.{Filled, star_call}
 use Rattle.complex.specs.Visits.{Verdict, check_call, check_file}
-use Rattle.complex.specs.Program.{Line, Output, too_long_lem, printed, edit_output}
+use Rattle.complex.specs.Program.{Line, Output, too_long, printed, edit_output}
 use Rattle.complex.specs.Demands.{after}
 use Rattle.complex.specs.Pieces.{pieces, PiecesAnswer, pieces_call}
 
@@ -49,16 +49,16 @@ pub record Row : Type 0 where
 abbrev pub row : Given → List ℕ → Row
 row g ns = record { given = g; gives = ns }
 
-abbrev pub number_read_lem : Read ℕ → List ℕ
-number_read_lem (got n s) = n ∷ length s ∷ []
-number_read_lem bad = []
+abbrev pub number_read : Read ℕ → List ℕ
+number_read (got n s) = n ∷ length s ∷ []
+number_read bad = []
 
 abbrev pub integer : ℤ → List ℕ
 integer (pos n) = 0 ∷ n ∷ []
 integer (negsuc n) = 1 ∷ suc n ∷ []
 
 abbrev pub output_numbers : Output → List ℕ
-output_numbers too_long_lem = []
+output_numbers too_long = []
 output_numbers (printed ls z n) = spread (λ (l : Line). l.number ∷ l.first ∷ l.new ∷ l.removed ∷ []) ls ++ (integer z ++ n ∷ [])
 
 abbrev pub joined_bytes : List (List ℕ) → List ℕ
@@ -83,7 +83,7 @@ move_numbers s a = a.number ∷ pieces s.cells ∷ pieces a.sheet.cells ∷ []
 unfoldable pub found : Given → List ℕ
 unfolding edit_output command file_of read_file star_call check_call check_file pieces_call
 found (spelling n) = spell n
-found (reading bytes) = number_read_lem (read_number bytes)
+found (reading bytes) = number_read (read_number bytes)
 found (editing bs) = output_numbers (edit_output (joined_bytes bs))
 found (filing bs) = file_of (after empty bs)
 found (answering bs b) = answer_numbers (command (after empty bs) b)

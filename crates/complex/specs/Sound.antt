@@ -6,7 +6,7 @@ use Rattle.coordinate.specs.declared.Position.{Position}
 use Rattle.coordinate.specs.Bounds.{within}
 use Rattle.complex.specs.Lists.{all, is_empty, total, rising}
 use Rattle.complex.specs.Cells.{Halfedge, Cycle, lone, path, Figure, vertex, open_edge, closed_edge, face, LiveCell, Sheet}
-use Rattle.complex.specs.Cells.{Look, lookup, ids, is_vertex, is_open_lem, is_closed, same, tail_of, head_of}
+use Rattle.complex.specs.Cells.{Look, lookup, ids, is_vertex, is_open, is_closed, same, tail_of, head_of}
 
 -- ids run 1 to 65,535
 abbrev pub ids_end : ℕ
@@ -16,12 +16,12 @@ ids_end = 65536
 -- halfedges of open edges lead from u to w, each ending where the next begins
 abbrev pub Walk : Look → ℕ → List Halfedge → ℕ → Type 0
 Walk look u [] w = u ≡ w
-Walk look u (h ∷ hs) w = T (is_open_lem (look h.edge)) × (u ≡ tail_of look h) × Walk look (head_of look h) hs w
+Walk look u (h ∷ hs) w = T (is_open (look h.edge)) × (u ≡ tail_of look h) × Walk look (head_of look h) hs w
 
 -- the test
 abbrev pub leads : Look → ℕ → List Halfedge → ℕ → Bool
 leads look u [] w = eqb u w
-leads look u (h ∷ hs) w = is_open_lem (look h.edge) && (eqb u (tail_of look h) && leads look (head_of look h) hs w)
+leads look u (h ∷ hs) w = is_open (look h.edge) && (eqb u (tail_of look h) && leads look (head_of look h) hs w)
 
 -- steps are all of open edges, each ending where the next begins, last to first; or all one closed edge in one direction
 abbrev pub joins : Look → List Halfedge → Bool
@@ -52,9 +52,9 @@ abbrev pub bends_most : ℕ
 bends_most = 2048
 
 -- a lone vertex counts as one step
-abbrev pub step_count_lem : Cycle → ℕ
-step_count_lem (lone v) = 1
-step_count_lem (path hs) = length hs
+abbrev pub step_count : Cycle → ℕ
+step_count (lone v) = 1
+step_count (path hs) = length hs
 
 abbrev pub cycles_in : Figure → ℕ
 cycles_in (vertex p) = 0
@@ -66,7 +66,7 @@ abbrev pub steps_in : Figure → ℕ
 steps_in (vertex p) = 0
 steps_in (open_edge a b bs) = 0
 steps_in (closed_edge bs) = 0
-steps_in (face ks) = total step_count_lem ks
+steps_in (face ks) = total step_count ks
 
 abbrev pub bends_in : Figure → ℕ
 bends_in (vertex p) = 0

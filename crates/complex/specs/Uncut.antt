@@ -6,7 +6,7 @@ use Rattle.coordinate.specs.declared.Position.{Position}
 use Rattle.complex.specs.Lists.{any, filter, one}
 use Rattle.complex.specs.Cells.{Halfedge, Cycle, lone, path, Figure, vertex, open_edge, closed_edge, face, LiveCell, Sheet}
 use Rattle.complex.specs.Cells.{Look, cell_at, start_of, end_of, bends_of, cycles_of, position_of, steps_of, flipped, same, head_of}
-use Rattle.complex.specs.Edits.{rebuild, others, neither, none_of_lem, cycles_become, cycle_replaced, without_cycle}
+use Rattle.complex.specs.Edits.{rebuild, others, neither, none_of, cycles_become, cycle_replaced, without_cycle}
 use Rattle.complex.specs.Edits.{rewired, same_vertex, in_place_of}
 use Rattle.complex.specs.Uses.{ends_at, Passage, passages_at, lone_use, uses_by, Use, uses_of}
 use Rattle.complex.specs.Cut.{no_cycle, stretch}
@@ -148,7 +148,7 @@ uncut_result s i (loop e) =
 -- x an end of a, y of b: a new edge directed as a, with the bends of both in the order passed and the vertex's position between;
 -- steps of a become its steps, steps of b go
 uncut_result s i (joint x y) =
-    rebuild (none_of_lem i x.edge y.edge) (rewired same_vertex (in_one x.edge y.edge s.next))
+    rebuild (none_of i x.edge y.edge) (rewired same_vertex (in_one x.edge y.edge s.next))
     (joined (cell_at s) (position_of (cell_at s i)) x y ∷ []) s
 -- in two faces: the lower id stays; its cycle becomes what follows its step, then what follows the other's; the other face's
 -- remaining cycles are appended

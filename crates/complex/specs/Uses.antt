@@ -3,7 +3,7 @@ use Rattle.std.specs.Prelude.{ℕ, zero, suc, ◌+◌, Bool, ◌&&◌, cond, Lis
 use Rattle.std.proofs.Math.Option.{Option, none, some}
 use Rattle.number.specs.Readers.{spread}
 use Rattle.complex.specs.Lists.{any, filter, total, cons_if, one}
-use Rattle.complex.specs.Cells.{Halfedge, Cycle, lone, path, Figure, vertex, open_edge, closed_edge, face, LiveCell, lookup, is_open_lem}
+use Rattle.complex.specs.Cells.{Halfedge, Cycle, lone, path, Figure, vertex, open_edge, closed_edge, face, LiveCell, lookup, is_open}
 use Rattle.complex.specs.Cells.{cycles_of, steps_of, along, against, flipped, same, tail_of}
 use Rattle.complex.specs.Sound.{over}
 use Rattle.complex.specs.Groups
@@ -40,7 +40,7 @@ all_cycles cs = spread (λ (c : LiveCell). cycles_of (some c.figure)) cs
 
 abbrev pub passages_at : List LiveCell → ℕ → List Passage
 passages_at cs v =
-    filter (λ (t : Passage). is_open_lem (lookup cs t.leaves.edge) && eqb (tail_of (lookup cs) t.leaves) v)
+    filter (λ (t : Passage). is_open (lookup cs t.leaves.edge) && eqb (tail_of (lookup cs) t.leaves) v)
     (spread (λ (k : Cycle). passages (steps_of k)) (all_cycles cs))
 
 -- ---- groups of ends: joined by a passage, and so on through chains

@@ -18,7 +18,7 @@ use Rattle.number.proofs.Bytes.{Bytes, bytes_drop}
 use Rattle.number.proofs.Laws.{lt_or_le, done_two}
 use Rattle.coordinate.specs.declared.Position.{Position}
 use Rattle.coordinate.specs.Bounds.{within, half, middle}
-use Rattle.coordinate.specs.Positions.{value_of, bytes_of, coordinate_in, read_coordinate, coordinate_bytes, FloatFits, position_at_lem, read_position}
+use Rattle.coordinate.specs.Positions.{value_of, bytes_of, coordinate_in, read_coordinate, coordinate_bytes, FloatFits, position_at, read_position}
 use Rattle.coordinate.specs.Positions.{position_bytes, located_at}
 use Rattle.coordinate.proofs.Bytes.{value_bytes, value_lt, bytes_value}
 use Rattle.coordinate.proofs.Within.{within_not_nan}
@@ -88,19 +88,19 @@ position_none s h =
     (lt_or_le (length s) 8)
 
 module _ (s : List ℕ) (at : ℕ) where
-  pub position_at : at + 16 ≤ length s → read_position (drop at s) ≡ got (position_at_lem s at) (drop (at + 16) s)
-  position_at h =
+  pub position_at_lem : at + 16 ≤ length s → read_position (drop at s) ≡ got (position_at s at) (drop (at + 16) s)
+  position_at_lem h =
       let e : length (drop at s) ≡ length s - at = length-drop at s in
       position_long (drop at s) (omega arith) ∙ simp drop-drop
 
   pub position_short : length s < at + 16 → read_position (drop at s) ≡ bad
   position_short h = let e : length (drop at s) ≡ length s - at = length-drop at s in position_none (drop at s) (omega arith)
 
-  pub located_long : at + 16 ≤ length s → located_at s at ≡ done (position_at_lem s at, at + 16)
+  pub located_long : at + 16 ≤ length s → located_at s at ≡ done (position_at s at, at + 16)
   located_long h =
       let e : length (drop (at + 16) s) ≡ length s - (at + 16) = length-drop (at + 16) s in
       let n : length s - length (drop (at + 16) s) ≡ at + 16 = omega arith in
-      ap (placed_or 2 (length s)) (position_at h) ∙ ap (λ (k : ℕ). done (position_at_lem s at, k)) n
+      ap (placed_or 2 (length s)) (position_at_lem h) ∙ ap (λ (k : ℕ). done (position_at s at, k)) n
 
   pub located_short : length s < at + 16 → located_at s at ≡ no 2
   located_short h = ap (placed_or 2 (length s)) (position_short h)
@@ -114,8 +114,8 @@ module _ (s : List ℕ) (at : ℕ) where
 
       long : at + 16 ≤ length s → Reads
       long h =
-          let r = position_at h in
-          let l = done_two (position_at_lem s at) p (at + 16) next (sym (located_long h) ∙ e) in
+          let r = position_at_lem h in
+          let l = done_two (position_at s at) p (at + 16) next (sym (located_long h) ∙ e) in
           let n = l.1 in
           (r ∙ (λ i. got (l.0 i) (drop (n i) s)), sym n, omega arith)
 
@@ -129,19 +129,19 @@ module _ (s : List ℕ) (at : ℕ) where
       long h = let l = located_long h in clash (cc)
 
 -- ---- what is read is what stands at the front
-read_parts_lem : (s t : List ℕ) (p : Position) → read_position s ≡ got p t → (16 ≤ length s) × (p ≡ position_at_lem s 0) × (t ≡ drop 16 s)
+read_parts_lem : (s t : List ℕ) (p : Position) → read_position s ≡ got p t → (16 ≤ length s) × (p ≡ position_at s 0) × (t ≡ drop 16 s)
 read_parts_lem s t p e = ⊎_elim short long (lt_or_le (length s) 16)
   where
-    long : 16 ≤ length s → (16 ≤ length s) × (p ≡ position_at_lem s 0) × (t ≡ drop 16 s)
+    long : 16 ≤ length s → (16 ≤ length s) × (p ≡ position_at s 0) × (t ≡ drop 16 s)
     long h = let l = position_long s h in (h, cc, cc)
 
-    short : length s < 16 → (16 ≤ length s) × (p ≡ position_at_lem s 0) × (t ≡ drop 16 s)
+    short : length s < 16 → (16 ≤ length s) × (p ≡ position_at s 0) × (t ≡ drop 16 s)
     short h = let l = position_none s h in clash (cc)
 
 pub position_fits : (s t : List ℕ) (p : Position) → read_position s ≡ got p t → FloatFits p
 position_fits s t p e = subst FloatFits (sym (read_parts_lem s t p e).1) (coordinate_fits s, coordinate_fits (drop 8 s))
 
-pub at_fits : (s : List ℕ) (at : ℕ) → FloatFits (position_at_lem s at)
+pub at_fits : (s : List ℕ) (at : ℕ) → FloatFits (position_at s at)
 at_fits s at = (coordinate_fits (drop at s), coordinate_fits (drop (at + 8) s))
 
 pub middle_fits : (p q : Position) → FloatFits (middle p q)
@@ -164,7 +164,7 @@ read_position_lem p t f =
     (simp (read_coordinate_lem p.x (coordinate_bytes p.y ++ t) f.0, read_coordinate_lem p.y t f.1))
 
 bytes_read : (s : List ℕ) → 16 ≤ length s → Bytes s → T (not (is_nan (coordinate_in s))) → T (not (is_nan (coordinate_in (drop 8 s))))
-    → position_bytes (position_at_lem s 0) ++ drop 16 s ≡ s
+    → position_bytes (position_at s 0) ++ drop 16 s ≡ s
 bytes_read s h B m n =
     let e : length (drop 8 s) ≡ length s - 8 = length-drop 8 s in
     let x = bytes_back s (omega arith) B m in

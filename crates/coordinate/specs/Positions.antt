@@ -36,8 +36,8 @@ abbrev pub FloatFits : Position → Type 0
 FloatFits p = T (fits binary64 p.x) × T (fits binary64 p.y)
 
 -- the position that stands at a place
-abbrev pub position_at_lem : List ℕ → ℕ → Position
-position_at_lem s at = record { x = coordinate_in (drop at s); y = coordinate_in (drop (at + 8) s) }
+abbrev pub position_at : List ℕ → ℕ → Position
+position_at s at = record { x = coordinate_in (drop at s); y = coordinate_in (drop (at + 8) s) }
 
 abbrev pub read_position : List ℕ → Read Position
 read_position s = and_then (read_coordinate s) λ x t. and_then (read_coordinate t) λ y u. got (record { x = x; y = y }) u

@@ -2,7 +2,7 @@ ghost use Rattle.std.specs.Prelude.{◌≡◌, not, ◌+◌, ◌≤◌, T, lengt
 ghost use Rattle.std.proofs.lemmas.List.Edits.{sets};
 ghost use Rattle.std.specs.Float.Ieee.{is_nan};
 ghost use Rattle.coordinate.specs.Bounds.{in_bounds, within, middle};
-ghost use Rattle.coordinate.specs.Positions.{value_of, bytes_of, coordinate_in, coordinate_bytes, position_at_lem, position_bytes, located_says, located_at};
+ghost use Rattle.coordinate.specs.Positions.{value_of, bytes_of, coordinate_in, coordinate_bytes, position_at, position_bytes, located_says, located_at};
 
 #[derive(Drop)]
 pub struct Position {
@@ -68,7 +68,7 @@ fn put_coordinate(x: f64, out: &mut [u8], at: usize)
 // The position in sixteen bytes.
 pub fn position_at(s: &[u8], at: usize) -> Position
     requires { at + 16 ≤ length s.now }
-    ensures { result ≡ position_at_lem s.now at }
+    ensures { result ≡ position_at s.now at }
 {
     let x = coordinate(s, at);
     let y = coordinate(s, at + 8);

@@ -18,7 +18,7 @@ use Rattle.decode_parts.proofs.Fields.{heard}
 use Rattle.decode_fields.proofs.Pairs.{pair_half, pair_both, pair_then}
 use Rattle.decode_command.specs.declared.Decoded.{Decoded}
 use Rattle.decode_command.specs.View.{Decodes}
-use Rattle.decode_command.proofs.Decides.{edited, read_as, of_create}
+use Rattle.decode_command.proofs.Decides.{edited, read_as_lem, of_create}
 
 -- the lists of a cut, after its face and its corners
 abbrev cut_at : ℕ → ℕ → ℕ → ℕ → ℕ → List ℕ → Read bytes.Command
@@ -40,7 +40,7 @@ module _ {s : List ℕ} {at : ℕ} {d : Decoded} where
       got (bytes.create (open_edge p.0.0 p.0.1 p.1)) u)) d
       → Decodes s at (edited (read_create read_open_edge (drop at s))) d
   of_open h =
-      read_as
+      read_as_lem
       (ap (λ (q : Read Figure). and_then q λ x t. got (bytes.create x) t)
       (pair_then read_two_numbers read_bends (λ p bs u. got (open_edge p.0 p.1 bs) u) (drop at s)
       ∙ pair_then read_number read_number (λ a b u. and_then (read_bends u) λ bs v. got (open_edge a b bs) v) (drop at s)))
@@ -50,7 +50,7 @@ module _ {s : List ℕ} {at : ℕ} {d : Decoded} where
       got (bytes.cut_face_closed p.0 p.1.0 p.1.1) u)) d
       → Decodes s at (edited (read_cut_face_closed (drop at s))) d
   of_cut_closed h =
-      read_as
+      read_as_lem
       (pair_then read_number read_cut_lists (λ f l u. got (bytes.cut_face_closed f l.0 l.1) u) (drop at s)
       ∙ (λ i. and_then (read_number (drop at s)) λ f t. pair_then read_bends (counted read_number) (λ bs ms v. got (bytes.cut_face_closed f bs ms) v) t i)) h
 
@@ -59,7 +59,7 @@ module _ {s : List ℕ} {at : ℕ} {d : Decoded} where
       → Decodes s at (edited (read_cut_face_open (drop at s))) d
   of_cut_open h =
       let t = drop at s in
-      read_as
+      read_as_lem
       (pair_then (read_pair read_three_numbers read_two_numbers) read_cut_lists
       (λ p l u. got (bytes.cut_face_open p.0.0.0 p.0.0.1 p.0.1 p.1.0 p.1.1 l.0 l.1) u) t
       ∙ pair_then read_three_numbers read_two_numbers (λ x y u. cut_at x.0.0 x.0.1 x.1 y.0 y.1 u) t

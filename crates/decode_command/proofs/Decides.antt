@@ -39,13 +39,13 @@ module _ {A : Type 0} {r : List ℕ → Read A} {s : List ℕ} {at : ℕ} (f : A
 
 -- ---- the same by the definition of each kind
 -- a reader may be put for an equal one
-pub read_as : {s : List ℕ} {at : ℕ} {q p : Read bytes.Command} {d : Decoded} → q ≡ p → Decodes s at (edited q) d → Decodes s at (edited p) d
-read_as {s} {at} {d = d} e h = subst (λ (q : Read bytes.Command). Decodes s at (edited q) d) e h
+pub read_as_lem : {s : List ℕ} {at : ℕ} {q p : Read bytes.Command} {d : Decoded} → q ≡ p → Decodes s at (edited q) d → Decodes s at (edited p) d
+read_as_lem {s} {at} {d = d} e h = subst (λ (q : Read bytes.Command). Decodes s at (edited q) d) e h
 
 pub of_create : {A : Type 0} (r : List ℕ → Read A) (f : A → Figure) {s : List ℕ} {at : ℕ} {d : Decoded}
     → Decodes s at (edited (and_then (r (drop at s)) λ x u. got (bytes.create (f x)) u)) d
     → Decodes s at (edited (read_create (λ t. and_then (r t) λ x u. got (f x) u) (drop at s))) d
-of_create {A} r f {s} {at} h = read_as (go (r (drop at s))) h
+of_create {A} r f {s} {at} h = read_as_lem (go (r (drop at s))) h
   where
     go : (q : Read A) → and_then q (λ x u. got (bytes.create (f x)) u) ≡ and_then (and_then q λ x u. got (f x) u) λ y u. got (bytes.create y) u
     go (got x u) = refl
@@ -53,17 +53,17 @@ of_create {A} r f {s} {at} h = read_as (go (r (drop at s))) h
 
 pub of_two : (k : ℕ → ℕ → bytes.Command) {s : List ℕ} {at : ℕ} {d : Decoded}
     → Decodes s at (edited (and_then (read_two_numbers (drop at s)) λ p u. got (k p.0 p.1) u)) d → Decodes s at (edited (read_two k (drop at s))) d
-of_two k {s} {at} h = read_as (pair_then read_number read_number (λ a b u. got (k a b) u) (drop at s)) h
+of_two k {s} {at} h = read_as_lem (pair_then read_number read_number (λ a b u. got (k a b) u) (drop at s)) h
 
 pub of_place : (k : ℕ → Position → bytes.Command) {s : List ℕ} {at : ℕ} {d : Decoded}
     → Decodes s at (edited (and_then (read_pair read_number read_position (drop at s)) λ p u. got (k p.0 p.1) u)) d
     → Decodes s at (edited (read_place k (drop at s))) d
-of_place k {s} {at} h = read_as (pair_then read_number read_position (λ n p u. got (k n p) u) (drop at s)) h
+of_place k {s} {at} h = read_as_lem (pair_then read_number read_position (λ n p u. got (k n p) u) (drop at s)) h
 
 pub of_three : {s : List ℕ} {at : ℕ} {d : Decoded}
     → Decodes s at (edited (and_then (read_three_numbers (drop at s)) λ p u. got (glue_edges p.0.0 p.0.1 p.1) u)) d
     → Decodes s at (edited (read_glue_edges (drop at s))) d
 of_three {s} {at} h =
-    read_as
+    read_as_lem
     (pair_then read_two_numbers read_number (λ p f u. got (glue_edges p.0 p.1 f) u) (drop at s)
     ∙ pair_then read_number read_number (λ a b u. and_then (read_number u) λ f v. got (glue_edges a b f) v) (drop at s)) h

@@ -63,8 +63,8 @@ pub record ListAt (s : List ℕ) (at n first next : ℕ) : Type 0 where
   pub lies : first + 16 * n ≤ length s
   pub fits : next ≤ length s
 
-pub list_at : {s : List ℕ} {at n first next : ℕ} {b : BendList} → BendsAt s at b → b ≡ Listed n first next → ListAt s at n first next
-list_at {s} {at} {n} {first} {next} h f =
+pub list_at_lem : {s : List ℕ} {at n first next : ℕ} {b : BendList} → BendsAt s at b → b ≡ Listed n first next → ListAt s at n first next
+list_at_lem {s} {at} {n} {first} {next} h f =
     let q : BendsEnd s at (Listed n first next) = subst (BendsEnd s at) f h.ends in
     let a = q.0 in
     let e = q.1 in
@@ -81,7 +81,7 @@ list_none {s} {at} h f = found_bad 2 (read_bends (drop at s)) (sym h.answer ∙ 
 
 module _ {s : List ℕ} {at : ℕ} {b : BendList} (h : BendsAt s at b) where
   pub list_found : {n first next : ℕ} → b ≡ Listed n first next → Found read_bends s at (done (positions_at s first n, next))
-  list_found e = let l = list_at h e in record { is = record { read = l.read; after = l.after; fits = l.fits } }
+  list_found e = let l = list_at_lem h e in record { is = record { read = l.read; after = l.after; fits = l.fits } }
 
   pub no_list : b ≡ Malformed → Found read_bends s at (no 2)
   no_list e = record { is = (refl, list_none h e) }

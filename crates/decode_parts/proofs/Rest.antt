@@ -59,14 +59,14 @@ pub cycle_lone : (s t : List ℕ) → read_number s ≡ got 0 t → read_cycle s
 cycle_lone s t e = rw e
 
 -- after a length m, which is 0 or not
-abbrev cycle_of_lem : ℕ → List ℕ → Bool → Read Cycle
-cycle_of_lem m t b = elim b [
+abbrev cycle_of : ℕ → List ℕ → Bool → Read Cycle
+cycle_of m t b = elim b [
   | true ↦ and_then (read_number t) λ v u. got (lone v) u
   | false ↦ and_then (times read_step m t) λ hs u. got (path hs) u
 ]
 
 pub cycle_path : (s t : List ℕ) (m : ℕ) → read_number s ≡ got m t → (m ≡ 0 → ⊥) → read_cycle s ≡ and_then (times read_step m t) λ hs u. got (path hs) u
-cycle_path s t m e z = rw e (ap (cycle_of_lem m t) (ne_eqb m 0 z))
+cycle_path s t m e z = rw e (ap (cycle_of m t) (ne_eqb m 0 z))
 
 pub leaves_cycle : Leaves read_cycle
 leaves_cycle s at k t h e = go (read_number (drop at s)) refl

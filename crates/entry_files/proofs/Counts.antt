@@ -7,7 +7,7 @@ use mathlib.Core.List.{List, [], ◌∷◌}
 use lib.Dec.{T, leb, leb→le}
 use lib.ListN.{length, length-map}
 use Rattle.complex.specs.Lists.{filter, cons_if}
-use Rattle.complex.specs.Cells.{LiveCell, Sheet, lookup, cell_at, is_live_lem}
+use Rattle.complex.specs.Cells.{LiveCell, Sheet, lookup, cell_at, is_live}
 use Rattle.complex.specs.Sound.{cells_most, cycles_most, steps_most, bends_most, cycles_in, steps_in, bends_in, over, sound}
 use Rattle.complex.specs.Boundary.{bounds, star}
 use Rattle.complex.specs.File.{file_of}
@@ -70,8 +70,8 @@ star_count s t i l =
     let h = star_most s i in
     let g = cells_few s t in
     let e = filled_count (star s.cells i) l in
-    either_most (sound s) (cond (is_live_lem (cell_at s i)) (filled (star s.cells i) l) (unfilled 4 l)) (unfilled 1 l) cells_most
-    (either_most (is_live_lem (cell_at s i)) (filled (star s.cells i) l) (unfilled 4 l) cells_most (omega arith) (omega arith))
+    either_most (sound s) (cond (is_live (cell_at s i)) (filled (star s.cells i) l) (unfilled 4 l)) (unfilled 1 l) cells_most
+    (either_most (is_live (cell_at s i)) (filled (star s.cells i) l) (unfilled 4 l) cells_most (omega arith) (omega arith))
     (omega arith)
 
 -- of sound arrays

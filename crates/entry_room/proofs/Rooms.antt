@@ -37,6 +37,6 @@ pub nine_of : (b : Bool) (n : ℕ) → n ≡ or_nine b → (n ≡ 0 → ⊥) →
 nine_of true n e h = absurd (h e)
 nine_of false n e h = (e, refl)
 
-pub none_of : (b : Bool) (n : ℕ) → n ≡ or_nine b → n ≡ 0 → b ≡ true
-none_of true n e h = refl
-none_of false n e h = absurd (omega arith)
+pub none_of_lem : (b : Bool) (n : ℕ) → n ≡ or_nine b → n ≡ 0 → b ≡ true
+none_of_lem true n e h = refl
+none_of_lem false n e h = absurd (omega arith)

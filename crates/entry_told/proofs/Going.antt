@@ -20,7 +20,7 @@ use Rattle.store.proofs.Lists.{drop_over, not_empty}
 use Rattle.decode_command.specs.declared.Command.{Command}
 use Rattle.decode_command.specs.View.{order_of}
 use Rattle.decode.proofs.Laws.{Begins}
-use Rattle.entry_told.specs.Told.{Told, line_width, line_numbers, tell, told_none_lem, told, told_of, front, onward, Turned}
+use Rattle.entry_told.specs.Told.{Told, line_width, line_numbers, tell, told_none, told, told_of, front, onward, Turned}
 
 -- what is told after the numbers of k commands
 abbrev later : List ℕ → ℕ → Told → Told
@@ -70,9 +70,9 @@ five_stored l at a b c d e =
     λ i. set (set (set (set (set l at a) (p i) b) (q i) c) (r i) d) (s i) e
 
 -- ---- a turn
-told_none : (n : ℕ) (s : Sheet) → told n s [] ≡ told_none_lem s
-told_none zero s = refl
-told_none (suc n) s = refl
+told_none_lem : (n : ℕ) (s : Sheet) → told n s [] ≡ told_none s
+told_none_lem zero s = refl
+told_none_lem (suc n) s = refl
 
 -- what is f of a run's bytes, and p of its first command and of the rest: after a turn it is f of the bytes that the run goes on with
 module _ {A : Type 0} (f : ℕ → Sheet → List ℕ → A) (p : Sheet → List ℕ → A → A) (z : Sheet → A) (none : (n : ℕ) (s : Sheet) → f n s [] ≡ z s) where
@@ -82,18 +82,18 @@ module _ {A : Type 0} (f : ℕ → Sheet → List ℕ → A) (p : Sheet → List
       → f (suc n) s b ≡ p s b (f n (command s b).sheet (onward s b))
   one_turn n s b on last = go (eqb (command s b).number 2) refl
     where
-      goes_on : (x : Bool) → eqb (command s b).number 2 ≡ x
+      goes_on_lem : (x : Bool) → eqb (command s b).number 2 ≡ x
           → p s b (f n (command s b).sheet (cond x [] (rest s b))) ≡ p s b (f n (command s b).sheet (onward s b))
-      goes_on x e = sym (ap (λ (y : Bool). p s b (f n (command s b).sheet (cond y [] (rest s b)))) e)
+      goes_on_lem x e = sym (ap (λ (y : Bool). p s b (f n (command s b).sheet (cond y [] (rest s b)))) e)
 
       go : (x : Bool) → eqb (command s b).number 2 ≡ x → f (suc n) s b ≡ p s b (f n (command s b).sheet (onward s b))
-      go true e = last e ∙ sym (ap (p s b) (none n (command s b).sheet)) ∙ goes_on true e
-      go false e = on e ∙ goes_on false e
+      go true e = last e ∙ sym (ap (p s b) (none n (command s b).sheet)) ∙ goes_on_lem true e
+      go false e = on e ∙ goes_on_lem false e
 
 told_turn : (n : ℕ) (s : Sheet) (b : List ℕ) → is_empty b ≡ false
     → told (suc n) s b ≡ tell (line_numbers (command s b) (length (rest s b))) (told n (command s b).sheet (onward s b))
 told_turn n s b e =
-    one_turn told (λ (x : Sheet) (y : List ℕ). tell (line_numbers (command x y) (length (rest x y)))) told_none_lem told_none n s b
+    one_turn told (λ (x : Sheet) (y : List ℕ). tell (line_numbers (command x y) (length (rest x y)))) told_none told_none_lem n s b
     (λ h. rw (e, h, told)) (λ h. rw (e, h, told))
 
 -- those of a command that is not read
@@ -221,7 +221,7 @@ module _ {from : Sheet} {bytes entry lines : List ℕ} {s : Sheet} {at commands 
       let e : told_of from bytes ≡ record { numbers = ns; commands = commands; sheet = s } =
       p.goes
       ∙ ap (λ (b : List ℕ). later ns commands (told p.turns s b)) (drop_over at bytes h)
-      ∙ ap (later ns commands) (told_none p.turns s)
+      ∙ ap (later ns commands) (told_none_lem p.turns s)
       ∙ (λ i. record { numbers = append-nil ns i; commands = k i; sheet = s }) in
       record {
         numbers = p.stands ∙ sets-eq ns entry 0 (omega arith) ∙ ap (λ (j : ℕ). ns ++ drop j entry) m ∙ ap (λ (x : Told). front x.numbers entry) (sym e);

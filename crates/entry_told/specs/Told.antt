@@ -20,17 +20,17 @@ line_numbers a left = a.number ∷ a.first ∷ a.new ∷ a.removed ∷ left ∷ 
 abbrev pub tell : List ℕ → Told → Told
 tell ns t = record { numbers = ns ++ t.numbers; commands = suc t.commands; sheet = t.sheet }
 
-abbrev pub told_none_lem : Sheet → Told
-told_none_lem s = record { numbers = []; commands = 0; sheet = s }
+abbrev pub told_none : Sheet → Told
+told_none s = record { numbers = []; commands = 0; sheet = s }
 
 -- at most n commands, until no byte is left or one is not read
 abbrev pub told : ℕ → Sheet → List ℕ → Told
-told zero s bytes = told_none_lem s
+told zero s bytes = told_none s
 told (suc n) s bytes =
     elim (is_empty bytes) [
-      | true ↦ told_none_lem s
+      | true ↦ told_none s
       | false ↦ let a = command s bytes in tell (line_numbers a (length (rest s bytes))) (elim (eqb a.number 2) [
-        | true ↦ told_none_lem a.sheet
+        | true ↦ told_none a.sheet
         | false ↦ told n a.sheet (rest s bytes)
       ])
     ]

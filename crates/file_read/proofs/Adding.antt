@@ -8,7 +8,7 @@ use lib.ListN.{length, take, set, length-append, length-set}
 use lib.Seq.{take-suc-set}
 use Rattle.number.proofs.Counted.{Each}
 use Rattle.coordinate.specs.declared.Position.{Position}
-use Rattle.coordinate.specs.Positions.{position_at_lem}
+use Rattle.coordinate.specs.Positions.{position_at}
 use Rattle.bends.specs.Bends.{positions_at}
 use Rattle.store.proofs.Stands.{Begins}
 use Rattle.store.proofs.Grow.{begins_more, no_more}
@@ -50,9 +50,9 @@ pub spots_length : (first n : ℕ) → length (spots_from first n) ≡ n
 spots_length first zero = refl
 spots_length first (suc n) = ap suc (spots_length (first + 16) n)
 
-pub spots_positions : (s : List ℕ) (first n : ℕ) → map (position_at_lem s) (spots_from first n) ≡ positions_at s first n
+pub spots_positions : (s : List ℕ) (first n : ℕ) → map (position_at s) (spots_from first n) ≡ positions_at s first n
 spots_positions s first zero = refl
-spots_positions s first (suc n) = ap (λ (l : List Position). position_at_lem s first ∷ l) (spots_positions s (first + 16) n)
+spots_positions s first (suc n) = ap (λ (l : List Position). position_at s first ∷ l) (spots_positions s (first + 16) n)
 
 pub spots_inside : (m first n : ℕ) → first + 16 * n ≤ m → Each (λ (p : ℕ). p + 16 ≤ m) (spots_from first n)
 spots_inside m first zero h = tt

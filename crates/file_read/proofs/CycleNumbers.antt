@@ -85,8 +85,8 @@ single q = and_then q λ k t. got (k ∷ []) t
 pub no_length : (s : List ℕ) (used : Used) → read_number s ≡ bad → CyclesOver (times read_cycle 1 s) used
 no_length s used e ks t f k l = not_bad ks t (sym (ap single (cycle_is s ∙ ap numbered e)) ∙ f)
 
-no_steps : (s t : List ℕ) (m : ℕ) (used : Used) → read_number s ≡ got m t → times read_number (width m) t ≡ bad → CyclesOver (times read_cycle 1 s) used
-no_steps s t m used e g ks u f k l = not_bad ks u (sym (ap single (cycle_is s ∙ ap numbered e ∙ ap (cycle_from m) g)) ∙ f)
+no_steps_lem : (s t : List ℕ) (m : ℕ) (used : Used) → read_number s ≡ got m t → times read_number (width m) t ≡ bad → CyclesOver (times read_cycle 1 s) used
+no_steps_lem s t m used e g ks u f k l = not_bad ks u (sym (ap single (cycle_is s ∙ ap numbered e ∙ ap (cycle_from m) g)) ∙ f)
 
 -- the places that the cycle takes
 places_taken : (m : ℕ) (vs : List ℕ) → length vs ≡ width m → spread cycle_words (cycle_of m vs ∷ []) ≡ vs
@@ -94,8 +94,8 @@ places_taken m vs e =
     let h : width m + 0 ≤ length vs = omega arith in
     places (m ∷ []) vs h ∙ take_all (width m + 0) vs (omega arith)
 
-pub too_long : (s t : List ℕ) (m : ℕ) (used : Used) → read_number s ≡ got m t → 2048 < used.steps + width m → CyclesOver (times read_cycle 1 s) used
-too_long s t m used e h ks u f k l =
+pub too_long_lem : (s t : List ℕ) (m : ℕ) (used : Used) → read_number s ≡ got m t → 2048 < used.steps + width m → CyclesOver (times read_cycle 1 s) used
+too_long_lem s t m used e h ks u f k l =
     then_from (times read_number (width m) t) (λ vs v. got (cycle_of m vs ∷ []) v) ks u
     (sym (ap single (cycle_is s ∙ ap numbered e) ∙ flat (times read_number (width m) t)) ∙ f) λ vs v g d.
     let n = times_length read_number (width m) t v vs g in
@@ -110,7 +110,7 @@ too_long s t m used e h ks u f k l =
 
 module _ (s : List ℕ) (at first m w : ℕ) (wide : w ≡ width m) (number : read_number (drop at s) ≡ got m (drop first s)) (used : Used) where
   pub no_numbers : times read_number w (drop first s) ≡ bad → CyclesOver (times read_cycle 1 (drop at s)) used
-  no_numbers e = no_steps (drop at s) (drop first s) m used number (ap (λ (n : ℕ). times read_number n (drop first s)) (sym wide) ∙ e)
+  no_numbers e = no_steps_lem (drop at s) (drop first s) m used number (ap (λ (n : ℕ). times read_number n (drop first s)) (sym wide) ∙ e)
 
   pub cycle_loaded : (counts steps steps' : List ℕ) (next : ℕ) → NumbersIn s first w steps used.steps steps' next → used.cycles < length counts
       → CyclesIn (times read_cycle 1 (drop at s)) s counts steps used (set counts used.cycles m) steps' next

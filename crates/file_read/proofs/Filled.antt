@@ -9,7 +9,7 @@ use Rattle.number.specs.Readers.{got, bad, times, spread}
 use Rattle.number.proofs.Laws.{not_bad, got_rest}
 use Rattle.number.proofs.Counted.{Each, times_length}
 use Rattle.coordinate.specs.declared.Position.{Position}
-use Rattle.coordinate.specs.Positions.{read_position, position_at_lem}
+use Rattle.coordinate.specs.Positions.{read_position, position_at}
 use Rattle.bends.specs.Bends.{positions_at}
 use Rattle.bends.proofs.Laws.{positions_length, positions_long}
 use Rattle.complex.specs.Cells.{Cycle, LiveCell}
@@ -43,7 +43,7 @@ pub record Filled (s : List ℕ) (at n i p : ℕ) (cells : List Cell) (counts st
   pub counted : Begins counts (map num_of (spread entry_cycles xs))
   pub stepped : Begins steps (spread cycle_words (spread entry_cycles xs))
   pub spotted : Begins spots ps
-  pub bends : map (position_at_lem s) ps ≡ spread entry_bends xs
+  pub bends : map (position_at s) ps ≡ spread entry_bends xs
   pub inside : Each (λ (q : ℕ). q + 16 ≤ length s) ps
   pub real : all_real (spread entry_cycles xs) ≡ true
   pub used_bends : used.bends ≡ length ps
@@ -124,7 +124,7 @@ module _ (s : List ℕ) (at n i p : ℕ) (cells : List Cell) (counts steps spots
           counted = rw (more_cycles_lem, map_append num_of ls ks) (begins_added used.cycles ul F.counted C.counted);
           stepped = rw (more_cycles_lem, flat_append cycle_words ls ks) (begins_added used.steps F.used_steps F.stepped C.stepped);
           spotted = begins_added used.bends F.used_bends F.spotted P.spotted;
-          bends = map_append (position_at_lem s) ps sp ∙ ap₂ (λ (l m : List Position). l ++ m) F.bends (spots_positions s first b) ∙ sym more-bends;
+          bends = map_append (position_at s) ps sp ∙ ap₂ (λ (l m : List Position). l ++ m) F.bends (spots_positions s first b) ∙ sym more-bends;
           inside = each_append (λ (q : ℕ). q + 16 ≤ length s) ps sp F.inside (spots_inside (length s) first b P.inside);
           real = ap all_real more_cycles_lem ∙ real_append ls ks F.real C.real;
           used_bends = C.same_bends ∙ (let e = F.used_bends in let l = length-append ps sp in let m = spots_length first b in omega arith);
@@ -177,7 +177,7 @@ module _ (s : List ℕ) (at n i p : ℕ) (cells : List Cell) (counts steps spots
       let nk : length (spread entry_cycles zs) ≡ length ls + (length ks + length (spread entry_cycles w)) = ap length cycles ∙ simp length-append in
       let ns : length (spread cycle_words (spread entry_cycles zs)) ≡ length (spread cycle_words ls)
       + (length (spread cycle_words ks) + length (spread cycle_words (spread entry_cycles w))) = ap length steps ∙ simp length-append in
-      let lp : length F.ps ≡ length (spread entry_bends xs) = sym (length-map F.ps (position_at_lem s)) ∙ ap length F.bends in
+      let lp : length F.ps ≡ length (spread entry_bends xs) = sym (length-map F.ps (position_at s)) ∙ ap length F.bends in
       let ub = F.used_bends in
       let uk = F.used_cycles in
       let us = F.used_steps in
@@ -194,7 +194,7 @@ module _ (s : List ℕ) (at n i p : ℕ) (cells : List Cell) (counts steps spots
   -- ---- all cells
   module _ (end : i ≡ n) (d : Drawing) (z : Sizes d) (few : n ≤ 256) (count : d.count ≡ n) (cs : d.cells ≡ cells) (ns : d.cycles ≡ counts)
       (st : d.steps ≡ steps)
-      (bs : take used.bends d.bends ≡ map (position_at_lem s) (take used.bends spots)) where
+      (bs : take used.bends d.bends ≡ map (position_at s) (take used.bends spots)) where
     filled_stands : Stands d F.xs
     filled_stands =
         let xs = F.xs in
@@ -205,7 +205,7 @@ module _ (s : List ℕ) (at n i p : ℕ) (cells : List Cell) (counts steps spots
           cycles = subst (λ (l : List ℕ). Begins l (map num_of (spread entry_cycles xs))) (sym ns) F.counted;
           steps = subst (λ (l : List ℕ). Begins l (spread cycle_words (spread entry_cycles xs))) (sym st) F.stepped;
           bends = take_begins used.bends (omega (arith, z.bends))
-              (bs ∙ ap (map (position_at_lem s)) (begins_take used.bends (sym F.used_bends) F.spotted) ∙ F.bends);
+              (bs ∙ ap (map (position_at s)) (begins_take used.bends (sym F.used_bends) F.spotted) ∙ F.bends);
           real = F.real;
         }
 
@@ -216,11 +216,11 @@ module _ (s : List ℕ) (at n i p : ℕ) (cells : List Cell) (counts steps spots
     filled_fits = fitting d F.xs filled_stands z (omega arith)
 
     pub filled_total : used.bends ≡ bend_total d
-    filled_total = F.used_bends ∙ sym (length-map F.ps (position_at_lem s)) ∙ ap length F.bends ∙ sym (bend_total_lem d F.xs filled_stands)
+    filled_total = F.used_bends ∙ sym (length-map F.ps (position_at s)) ∙ ap length F.bends ∙ sym (bend_total_lem d F.xs filled_stands)
 
   pub filled_given : (next : ℕ) (r : ReadAnswer) → r.number ≡ 0 → r.drawing.next ≡ next → i ≡ n → length s ≤ p → Sizes r.drawing → n ≤ 256
       → r.drawing.count ≡ n → r.drawing.cells ≡ cells
-      → r.drawing.cycles ≡ counts → r.drawing.steps ≡ steps → take used.bends r.drawing.bends ≡ map (position_at_lem s) (take used.bends spots)
+      → r.drawing.cycles ≡ counts → r.drawing.steps ≡ steps → take used.bends r.drawing.bends ≡ map (position_at s) (take used.bends spots)
       → CellsIn (times read_cell n (drop at s)) next r
   filled_given next r good e end h z few count cs ns st bs =
       record {

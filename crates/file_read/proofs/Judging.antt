@@ -5,10 +5,10 @@ use borrow.Author.Tests.{le-leb}
 use Rattle.complex.specs.Sound.{sound, cells_most, cycles_most, steps_most, bends_most}
 use Rattle.store.specs.declared.Drawing.{Drawing}
 use Rattle.store.specs.View.{sheet_of, Fits, cycle_total, bend_total, step_total}
-use Rattle.sound.specs.Soundness.{fits_in_lem, sound_sheet, sound_drawing}
+use Rattle.sound.specs.Soundness.{fits_in, sound_sheet, sound_drawing}
 
-fits_in : (d : Drawing) → Fits d → fits_in_lem d ≡ true
-fits_in d f =
+fits_in_lem : (d : Drawing) → Fits d → fits_in d ≡ true
+fits_in_lem d f =
     simp (
       le-leb d.count cells_most f.cells,
       le-leb (bend_total d) bends_most f.bends,
@@ -18,4 +18,4 @@ fits_in d f =
     )
 
 pub fitting_sound : (d : Drawing) → Fits d → sound_drawing d ≡ sound (sheet_of d)
-fitting_sound d f = ap (λ (b : Bool). b && sound_sheet d) (fits_in d f)
+fitting_sound d f = ap (λ (b : Bool). b && sound_sheet d) (fits_in_lem d f)

@@ -23,7 +23,7 @@ use Rattle.store.proofs.Encode.{take_cycles, length_cells, cell_at_lem}
 use Rattle.store.proofs.Lists.{sum_append, sum_more, sum_le}
 use Rattle.file_write.specs.declared.Place.{Place}
 use Rattle.file_parts.specs.Parts.{spells, positions_from, run_of, Bends, Rings}
-use Rattle.file_write.specs.Places.{figure_spells, cell_spells, cell_in, place_after_lem, PlaceFits, CellReady, AllReady}
+use Rattle.file_write.specs.Places.{figure_spells, cell_spells, cell_in, place_after, PlaceFits, CellReady, AllReady}
 use Rattle.file_parts.proofs.Laying.{all_get}
 
 -- ---- a cell by its shape
@@ -157,7 +157,7 @@ module _ (cs : List Cell) (n : ℕ) (xs ys : List Float) (ns st : List ℕ) (r :
         let k = cycle_count (get_or cs i y).shape in
         sym (ap width_sum (ap (λ (m : ℕ). take m ns) (sym cycles_more) ∙ take-add a k ns) ∙ sum_append width (take a ns) (run_of a k ns))
 
-    pub place_next : place_after_lem (get_or cs i y).shape ns (place_of cs ns i) ≡ place_of cs ns (i + 1)
+    pub place_next : place_after (get_or cs i y).shape ns (place_of cs ns i) ≡ place_of cs ns (i + 1)
     place_next = λ j. record { bends = bends_more_lem j; cycles = cycles_more j; steps = steps_more j }
 
     pub ready : CellReady (get_or cs i y) (place_of cs ns i) xs ys ns st

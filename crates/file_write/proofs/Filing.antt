@@ -28,7 +28,7 @@ use Rattle.store.specs.Places.{entry_cycles}
 use Rattle.store.specs.Sizes.{Sizes}
 use Rattle.store.specs.View.{cycles_from, cells_of, figure_of, cycle_count, bend_count, cycle_sum, bend_sum, cycle_total, bend_total, sheet_of}
 use Rattle.store.proofs.Encode.{take_cycles, length_cycles}
-use Rattle.store.proofs.Stands.{used_cycles_lem}
+use Rattle.store.proofs.Stands.{used_cycles}
 use Rattle.sound.specs.Soundness.{sound_drawing}
 use Rattle.sound.proofs.Meaning.{sound_fits, sound_sheet_lem}
 use Rattle.file_write.specs.Writes.{filled_with, write_of}
@@ -104,7 +104,7 @@ module _ (d : Drawing) (z : Sizes d) (w : Writable d) where
         room = let f = w.fits.cycles in omega arith;
         places = let f = w.fits.steps in omega arith;
         sizes = (z.cycles, z.steps);
-        spelled = subst (λ (ks : List Cycle). T (all cycle_spells ks)) (used_cycles_lem d z w.fits) (rings_spell (sheet_of d).cells cells_spell);
+        spelled = subst (λ (ks : List Cycle). T (all cycle_spells ks)) (used_cycles d z w.fits) (rings_spell (sheet_of d).cells cells_spell);
       }
 
   pub cells_ready : (xs ys : List Float) → PointsOf d.bends xs ys → AllReady d.cells d.count xs ys d.cycles d.steps

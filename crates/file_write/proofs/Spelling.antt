@@ -12,7 +12,7 @@ use Rattle.number.specs.Numbers.{numbers_end}
 use Rattle.number.proofs.Laws.{lt_or_le}
 use Rattle.coordinate.specs.Bounds.{within}
 use Rattle.complex.specs.Lists.{is_empty, rising}
-use Rattle.complex.specs.Cells.{Halfedge, Cycle, lone, path, Figure, vertex, open_edge, closed_edge, face, LiveCell, Sheet, Look, lookup, ids, is_vertex, is_open_lem}
+use Rattle.complex.specs.Cells.{Halfedge, Cycle, lone, path, Figure, vertex, open_edge, closed_edge, face, LiveCell, Sheet, Look, lookup, ids, is_vertex, is_open}
 use Rattle.complex.specs.Cells.{is_closed, same, head_of}
 use Rattle.complex.specs.Sound.{ids_end, Walk, joins, cycle_ok, figure_ok, sound}
 use Rattle.complex.proofs.Bools.{both, pair, all_more}
@@ -38,7 +38,7 @@ module _ (look : Look) (live : (i : ℕ) → (look i ≡ none → ⊥) → i < i
   walk_spells : (u : ℕ) (hs : List Halfedge) (w : ℕ) → Walk look u hs w → T (all step_spells hs)
   walk_spells u [] w k = tt
   walk_spells u (h ∷ hs) w k =
-      pair (step_spells h) (all step_spells hs) (step_spells_lem h (named look live is_open_lem (λ z. z) h.edge k.0)) (walk_spells (head_of look h) hs w k.2)
+      pair (step_spells h) (all step_spells hs) (step_spells_lem h (named look live is_open (λ z. z) h.edge k.0)) (walk_spells (head_of look h) hs w k.2)
 
   ring_spells : (h : Halfedge) → T (step_spells h) → (hs : List Halfedge) → T (all (same h) hs) → T (all step_spells hs)
   ring_spells h l [] t = tt
@@ -83,7 +83,7 @@ pub sound_spells : (s : Sheet) → T (sound s) → T (sheet_spells s)
 sound_spells s t =
     let S = sound_parts s t in
     let cs = s.cells in
-    let n = leb→le s.next ids_end S.in_ids_lem in
+    let n = leb→le s.next ids_end S.in_ids in
     pair (spells s.next) (all cell_spells cs) (lt→ltb s.next numbers_end (omega arith))
     (cells_spell (lookup cs) (λ i z. ⊎_elim (λ h. omega arith) (λ h. absurd (z (lookup_from 0 cs s.next i S.rises h))) (lt_or_le i s.next))
     0 s.next cs n S.rises (all_from (figure_ok (lookup cs)) 0 cs s.next S.rises S.figures))

@@ -29,8 +29,8 @@ cell_in c at ns st bs =
     record { id = c.id; figure = figure_of c.shape (cycles_from (drop at.cycles ns) (drop at.steps st)) (drop at.bends bs) }
 
 -- the place after those of a shape
-abbrev pub place_after_lem : Shape → List ℕ → Place → Place
-place_after_lem s ns at =
+abbrev pub place_after : Shape → List ℕ → Place → Place
+place_after s ns at =
     record {
       bends = at.bends + bend_count s;
       cycles = at.cycles + cycle_count s;

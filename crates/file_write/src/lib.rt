@@ -5,7 +5,7 @@ ghost use Rattle.complex.specs.Cells.{vertex, open_edge, closed_edge, face};
 ghost use Rattle.complex.specs.File.{cell_bytes};
 ghost use Rattle.store.specs.View.{cycles_from, width_sum};
 ghost use Rattle.file_parts.specs.Parts.{BytesPut, positions_from, run_of, Bends, Rings};
-ghost use Rattle.file_write.specs.Places.{PlaceFits, cell_in, place_after_lem, CellReady};
+ghost use Rattle.file_write.specs.Places.{PlaceFits, cell_in, place_after, CellReady};
 
 use coordinate::Position;
 use store::{Cell, Shape};
@@ -140,7 +140,7 @@ fn step_run(cycles: &[u32; 512], from: usize, n: usize) -> usize
 
 pub fn place_after(s: Shape, cycles: &[u32; 512], at: Place) -> Place
     requires { PlaceFits s cycles.now at }
-    ensures { result ≡ place_after_lem s cycles.now at }
+    ensures { result ≡ place_after s cycles.now at }
 {
     let k = store::wide(store::cycle_count(s));
     let b = store::wide(store::bend_count(s));

@@ -9,7 +9,7 @@ use lib.ListN.{length, take, drop, get_or, set, length-append, length-drop, take
 use lib.Seq.{length-take-le, take_all, take-take, take-add, drop-drop, drop-cons, drop_at, get_or-drop, set_split}
 use Rattle.complex.specs.Lists.{total, one}
 use Rattle.complex.specs.Cells.{Cycle}
-use Rattle.complex.specs.Sound.{step_count_lem}
+use Rattle.complex.specs.Sound.{step_count}
 use Rattle.store.specs.View.{width, width_sum, cycles_from}
 use Rattle.store.specs.Edits.{kept}
 use Rattle.store.proofs.Encode.{length_cycles, take_cycles}
@@ -40,10 +40,10 @@ enough w flags e = omega (arith, w.in_cycles)
 
 -- what is kept of the cycles ks that are read takes as much room as they do
 kept_sizes : (bs : List Bool) (ns st : List ℕ) (ks : List Cycle) → cycles_from ns st ≡ ks → width_sum ns ≤ length st
-    → (length (kept bs ns) ≡ length (kept bs ks)) × (width_sum (kept bs ns) ≡ total step_count_lem (kept bs ks))
+    → (length (kept bs ns) ≡ length (kept bs ks)) × (width_sum (kept bs ns) ≡ total step_count (kept bs ks))
 kept_sizes bs ns st ks e h =
     let c = sym (kept_count bs ns st) ∙ ap (λ (l : List Cycle). length (kept bs l)) e in
-    let s = sym (kept_steps bs ns st h) ∙ ap (λ (l : List Cycle). total step_count_lem (kept bs l)) e in
+    let s = sym (kept_steps bs ns st h) ∙ ap (λ (l : List Cycle). total step_count (kept bs l)) e in
     (c, s)
 
 cycles_from_lem : (i : ℕ) (ns st : List ℕ) → i ≤ length ns → drop i (cycles_from ns st) ≡ cycles_from (drop i ns) (drop (width_sum (take i ns)) st)
@@ -142,7 +142,7 @@ module _ {cycles steps : List ℕ} {t : Spans} (w : Within cycles steps t) (flag
           (drop-drop (width_sum (take (c + 1) (take n own))) t.steps.first steps ∙ ap (λ (k : ℕ). drop k steps) (sym (ee ∙ place_is))))
 
       pub behind_asks : {numbers places : List ℕ} {u : Used} → Building numbers u places → u.cycles + length (behind flags n c ks) ≤ length numbers
-          → u.steps + total step_count_lem (behind flags n c ks) ≤ length places
+          → u.steps + total step_count (behind flags n c ks) ≤ length places
           → CopyAsks cycles (t.cycles.first + (c + 1)) left steps end part numbers u places
       behind_asks {numbers} {places} {u} b hc hs =
           let i = w.in_cycles in
@@ -208,10 +208,10 @@ module _ {cycles steps : List ℕ} {t : Spans} (w : Within cycles steps t) (flag
           let f = length-append before (one x) in
           omega (arith, room.cycles)
 
-      all_steps_lem : total step_count_lem before + step_count_lem x + total step_count_lem after ≤ M
+      all_steps_lem : total step_count before + step_count x + total step_count after ≤ M
       all_steps_lem =
-          let e = ap (total step_count_lem) about ∙ sum_append step_count_lem (before ++ one x) after in
-          let f = sum_append step_count_lem before (one x) in
+          let e = ap (total step_count) about ∙ sum_append step_count (before ++ one x) after in
+          let f = sum_append step_count before (one x) in
           omega (arith, room.steps)
 
       before_room : RoomFor N M before
@@ -225,7 +225,7 @@ module _ {cycles steps : List ℕ} {t : Spans} (w : Within cycles steps t) (flag
       before_asks lc ls = ahead_asks c (omega arith) before_room lc ls
 
       module _ {numbers places : List ℕ} {u : Used} (lc : length numbers ≡ N) (ls : length places ≡ M) where
-        pub new_room : Built copied numbers u places → (u.cycles < length numbers) × (u.steps + step_count_lem x ≤ length places)
+        pub new_room : Built copied numbers u places → (u.cycles < length numbers) × (u.steps + step_count x ≤ length places)
         new_room b =
             let z = built_size (fronted b) in
             let z0 = z.0 in
@@ -235,13 +235,13 @@ module _ {cycles steps : List ℕ} {t : Spans} (w : Within cycles steps t) (flag
             (omega arith, omega arith)
 
         pub after_room : Built (before ++ one x) numbers u places
-            → (u.cycles + length after ≤ length numbers) × (u.steps + total step_count_lem after ≤ length places)
+            → (u.cycles + length after ≤ length numbers) × (u.steps + total step_count after ≤ length places)
         after_room b =
             let z = built_size b in
             let z0 = z.0 in
             let z1 = z.1 in
             let l = length-append before (one x) in
-            let s = sum_append step_count_lem before (one x) in
+            let s = sum_append step_count before (one x) in
             let a = all_cycles_lem in
             let r = all_steps_lem in
             (omega arith, omega arith)

@@ -60,7 +60,7 @@ module _ {ks : List Cycle} {counts : List ℕ} {u : Used} {steps : List ℕ} (b 
         let n = same_len_mid u.cycles (length counts - u.cycles) counts cs lc in
         let e = take_put u.cycles (length counts - u.cycles) counts cs g.cycle_room in
         let s = built_same counts u steps g (filled u.steps steps st) (same_len_mid u.steps (length steps - u.steps) steps st lt)
-        (take_put u.steps (length steps - u.steps) steps st g.step_room_lem) in
+        (take_put u.steps (length steps - u.steps) steps st g.step_room) in
         record {
           list = ap (λ (l : List ℕ). cycles_from l (filled u.steps steps st)) e ∙ s.list ∙ b.list;
           building =
@@ -69,7 +69,7 @@ module _ {ks : List Cycle} {counts : List ℕ} {u : Used} {steps : List ℕ} (b 
                 steps_size = s.building.steps_size;
                 width = ap width_sum e ∙ g.width;
                 cycle_room = omega (arith, n, g.cycle_room);
-                step_room_lem = s.building.step_room_lem;
+                step_room = s.building.step_room;
               };
         }
 
@@ -77,4 +77,4 @@ module _ {ks : List Cycle} {counts : List ℕ} {u : Used} {steps : List ℕ} (b 
       → Built ls (drop u.cycles (filled u.cycles counts cs)) w (drop u.steps (filled u.steps steps st))
   back_stands {ls} {w} cs st x =
       let g = b.building in
-      subst₂ (λ (c s : List ℕ). Built ls c w s) (sym (rest_filled u.cycles counts cs g.cycle_room)) (sym (rest_filled u.steps steps st g.step_room_lem)) x
+      subst₂ (λ (c s : List ℕ). Built ls c w s) (sym (rest_filled u.cycles counts cs g.cycle_room)) (sym (rest_filled u.steps steps st g.step_room)) x

@@ -7,7 +7,7 @@ use native.Mathlib.Omega.{arith}
 use lib.ListN.{length, take, drop, get_or, set, length-append, length-map}
 use Rattle.complex.specs.Lists.{one, distance}
 use Rattle.complex.specs.Cells.{Halfedge, Cycle, path}
-use Rattle.complex.specs.Sound.{step_count_lem}
+use Rattle.complex.specs.Sound.{step_count}
 use Rattle.store.specs.View.{halfedge_of, cycles_from}
 use Rattle.store.specs.Edits.{kept}
 use Rattle.rows_spans.specs.declared.Used.{Used}
@@ -31,7 +31,7 @@ copy_asks r =
     let zs = r.steps_size in
     let i = r.in_cycles in
     let j = r.in_steps in
-    (r.building, (omega arith, (omega arith, (r.flags, (r.cycle_room, r.step_room_lem)))))
+    (r.building, (omega arith, (omega arith, (r.flags, (r.cycle_room, r.step_room)))))
 
 -- the cycles that are kept follow x
 pub far_asks : {cycles steps : List ℕ} {t : Spans} → (w : Within cycles steps t) (flags : List Bool) → t.cycles.count ≤ length flags → (x : Cycle) {N M : ℕ}
@@ -78,9 +78,9 @@ module _ {cycles steps : List ℕ} {t : Spans} {c : ℕ} {p : Place} {s1 s2 : �
   arc_long : length (arc len) ≡ len
   arc_long = arc_length steps p.at p.m s1 len k1.within.steps_size cycle_in (corner_most p.m s1 k1.corner) least
 
-  new_steps_lem : step_count_lem new ≡ len + 1
+  new_steps_lem : step_count new ≡ len + 1
   new_steps_lem =
-      ap step_count_lem (sym arc_is) ∙ length-append (map halfedge_of (arc len)) ending
+      ap step_count (sym arc_is) ∙ length-append (map halfedge_of (arc len)) ending
       ∙ ap (λ (n : ℕ). n + 1) (length-map (arc len) halfedge_of ∙ arc_long)
 
   module _ {numbers places : List ℕ} {u : Used} (b : Built copied numbers u places) where
@@ -96,7 +96,7 @@ module _ {cycles steps : List ℕ} {t : Spans} {c : ℕ} {p : Place} {s1 s2 : �
           start = corner_most p.m s1 k1.corner;
           least = least;
           cycle_room = r.0;
-          step_room_lem = omega arith;
+          step_room = omega arith;
         }
 
     pub near_put : {numbers' places' : List ℕ} {u' : Used}

@@ -1,7 +1,7 @@
 ghost use Rattle.std.specs.Prelude.{◌≡◌, false, ◌∷◌, ◌++◌, map, ◌+◌, ◌<◌, ◌≤◌, length, take, drop, get_or, set};
 ghost use Rattle.complex.specs.Lists.{total, one};
 ghost use Rattle.complex.specs.Cells.{path};
-ghost use Rattle.complex.specs.Sound.{ids_end, step_count_lem};
+ghost use Rattle.complex.specs.Sound.{ids_end, step_count};
 ghost use Rattle.store.specs.View.{halfedge_of, width};
 ghost use Rattle.store.specs.Edits.{kept};
 ghost use Rattle.rows_spans.specs.Building.{Building, Built, built, RoomFor};
@@ -35,7 +35,7 @@ fn behind(
     requires count_in_bounds { t.cycles.count ≤ length flags.now }
     requires building { Building numbers.old u places.old }
     requires t_in_bounds { u.cycles + length (behind flags.now t.cycles.count c (cycles_at cycles.now steps.now t)) ≤ length numbers.old }
-    requires t_in_bounds_2 { u.steps + total step_count_lem (behind flags.now t.cycles.count c (cycles_at cycles.now steps.now t)) ≤ length places.old }
+    requires t_in_bounds_2 { u.steps + total step_count (behind flags.now t.cycles.count c (cycles_at cycles.now steps.now t)) ≤ length places.old }
     ensures { Built (built numbers.old u places.old ++ behind flags.now t.cycles.count c (cycles_at cycles.now steps.now t)) numbers.new result places.new }
 {
     let next = c as usize + 1;

@@ -23,7 +23,7 @@ use Rattle.rows_spans.specs.declared.Span.{Span}
 use Rattle.rows_spans.specs.declared.Spans.{Spans}
 use Rattle.rows_spans.specs.Runs.{span_of, row_span, kinds, cycle_span, step_span, Spliced, sheet_with_row}
 use Rattle.rows_spans.proofs.Splicing.{span_sum}
-use Rattle.rows_spans.proofs.Replaced.{kind_read, spans_read, cycle_room_lem, step_room, replaced_is}
+use Rattle.rows_spans.proofs.Replaced.{kind_read, spans_read, cycle_room_lem, step_room_lem, replaced_is}
 use Rattle.answer.specs.declared.Totals.{Totals}
 use Rattle.lent.specs.Arrays.{Arrays, shape_by, shape_at, cells_by, position_in, held_by, rows_by, row_normal, normal_at, normal, totals_of, Lengths}
 use Rattle.lent.proofs.Held.{held_sizes, held_indexes, cells_set, cells_id, all_at, all_intro}
@@ -85,7 +85,7 @@ module _ (a : Arrays) (row : ℕ) (s : Spans) (counts : List ℕ) (n : ℕ) (ste
   in_cycles_lem = cycle_room_lem (held_by a) sizes_in row a.counts counts steps n m index_in.cycles w.replaces s.cycles spans_in.0
 
   pub in_steps_lem : (s.steps.first + s.steps.count + s.steps.rest ≤ 2048) × (s.steps.first + m + s.steps.rest ≤ 2048)
-  in_steps_lem = step_room (held_by a) sizes_in row a.counts counts steps n m index_in.cycles w.replaces s.steps spans_in.1
+  in_steps_lem = step_room_lem (held_by a) sizes_in row a.counts counts steps n m index_in.cycles w.replaces s.steps spans_in.1
 
   pub in_rows : row < 256
   in_rows = omega (arith, w.replaces.live, w.replaces.fits.cells)
@@ -169,8 +169,8 @@ module _ (a : Arrays) (row : ℕ) (s : Spans) (counts : List ℕ) (n : ℕ) (ste
         total_with a.counts a.count row n w.replaces.live (omega (arith, w.long.counts, w.replaces.fits.cells))
         ∙ ap (λ (t : Spans). t.cycles.first + n + t.cycles.rest) (sym w.spans)
 
-    step_sum : (totals_of b).steps ≡ s.steps.first + m + s.steps.rest
-    step_sum =
+    step_sum_lem : (totals_of b).steps ≡ s.steps.first + m + s.steps.rest
+    step_sum_lem =
         let f = places_of 1 in
         let x = take s.cycles.first a.cycles in
         let y = take n counts in
@@ -187,7 +187,7 @@ module _ (a : Arrays) (row : ℕ) (s : Spans) (counts : List ℕ) (n : ℕ) (ste
     pub replaced_in : ReplacedIn a row s n m (cycles_from (take n counts) steps) b
     replaced_in =
         let p = cycle_sum_lem in
-        let q = step_sum in
+        let q = step_sum_lem in
         record {
           sheet = both.0;
           fits = both.1;

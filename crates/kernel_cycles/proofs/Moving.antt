@@ -14,7 +14,7 @@ use Rattle.rows_spans.specs.declared.Spans.{Spans}
 use Rattle.rows_spans.specs.Runs.{span_of, row_span, spans_of, Spliced}
 use Rattle.rows_spans.proofs.Splicing.{run_take, span_sum}
 use Rattle.answer.specs.declared.Totals.{Totals}
-use Rattle.kernel_cycles.specs.Replacing.{Moved, RowCounted, and_one_lem}
+use Rattle.kernel_cycles.specs.Replacing.{Moved, RowCounted, and_one}
 
 pub moved_none : (l : List ℕ) (from n to : ℕ) → from ≡ to → Moved l from n to l
 moved_none l from n to e = record { size = refl; front = λ k h g. refl; run = ap (λ (i : ℕ). take n (drop i l)) (sym e) }
@@ -170,19 +170,19 @@ module _ (old : List ℕ) (s : Span) (x : ℕ) where
 
   -- the same numbers at the front of a longer list
   pub one_front : (most : ℕ) → s.count < most → s.first + s.count ≤ length old
-      → take (s.count + 1) (and_one_lem most old s x) ≡ take s.count (drop s.first old) ++ (x ∷ [])
+      → take (s.count + 1) (and_one most old s x) ≡ take s.count (drop s.first old) ++ (x ∷ [])
   one_front most h f =
       let zs : List ℕ = replicate most 0 in
       let src = drop s.first old in
       let lz : length zs ≡ most = length-replicate most 0 in
       let ls : s.count ≤ length src = omega (arith, length-drop s.first old) in
       let e : s.count ≡ 0 + s.count = omega arith in
-      ap (λ (k : ℕ). take k (and_one_lem most old s x)) (add-one s.count)
+      ap (λ (k : ℕ). take k (and_one most old s x)) (add-one s.count)
       ∙ take-suc-set (paste zs 0 src s.count) s.count x (omega (arith, length-paste zs 0 src s.count (omega (arith, lz)) ls, lz))
       ∙ ap (λ (q : List ℕ). q ++ (x ∷ [])) (ap (λ (k : ℕ). take k (paste zs 0 src s.count)) e ∙ take-paste zs 0 src s.count (omega arith) ls)
 
   pub spliced_one : (out : List ℕ) (most : ℕ) → s.count < most → s.first + s.count ≤ length old
-      → Spliced old s (take s.count (drop s.first old) ++ (x ∷ [])) (s.count + 1) out → Spliced old s (and_one_lem most old s x) (s.count + 1) out
+      → Spliced old s (take s.count (drop s.first old) ++ (x ∷ [])) (s.count + 1) out → Spliced old s (and_one most old s x) (s.count + 1) out
   spliced_one out most h f p =
       let r = take s.count (drop s.first old) ++ (x ∷ []) in
       record {

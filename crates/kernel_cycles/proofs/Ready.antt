@@ -18,6 +18,6 @@ ready_counted a t y row h =
       cycle_sum = refl;
       cycle_room = omega (arith, m.cycle_sum, m.cycle_room);
       cycle_most = m.cycle_sum;
-      step_sum_lem = refl;
-      step_most = m.step_sum_lem;
+      step_sum = refl;
+      step_most = m.step_sum;
     })

@@ -25,12 +25,12 @@ pub record RowCounted (counts cycles : List ℕ) (row : ℕ) (t : Totals) : Type
   pub cycle_sum : t.cycles ≡ total (places_of 0) (take t.cells counts)
   pub cycle_room : t.cycles ≤ length cycles
   pub cycle_most : t.cycles ≤ cycles_most
-  pub step_sum_lem : t.steps ≡ total (places_of 1) (take t.cycles cycles)
+  pub step_sum : t.steps ≡ total (places_of 1) (take t.cycles cycles)
   pub step_most : t.steps ≤ steps_most
 
 -- the numbers of the run s and then x, before zeros: `most` numbers in all
-abbrev pub and_one_lem : ℕ → List ℕ → Span → ℕ → List ℕ
-and_one_lem most l s x = set (paste (replicate most 0) 0 (drop s.first l) s.count) s.count x
+abbrev pub and_one : ℕ → List ℕ → Span → ℕ → List ℕ
+and_one most l s x = set (paste (replicate most 0) 0 (drop s.first l) s.count) s.count x
 
 -- the row of a is a face's, whose cycles and steps stand at s, and there is room for n cycles of m steps in their place
 pub record ReplacesIn (a : Arrays) (row : ℕ) (s : Spans) (counts : List ℕ) (n : ℕ) (steps : List ℕ) (m : ℕ) : Type 0 where

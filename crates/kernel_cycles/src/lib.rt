@@ -5,7 +5,7 @@ ghost use Rattle.store.specs.View.{cycles_from};
 ghost use Rattle.store.specs.Edits.{places_of};
 ghost use Rattle.rows_spans.specs.Runs.{span_of, spans_of, Spliced};
 ghost use Rattle.lent.specs.Arrays.{lent, entry, exit};
-ghost use Rattle.kernel_cycles.specs.Replacing.{Moved, RowCounted, and_one_lem, ReplacesIn, ReplacedIn};
+ghost use Rattle.kernel_cycles.specs.Replacing.{Moved, RowCounted, and_one, ReplacesIn, ReplacedIn};
 
 use answer::Totals;
 use rows_spans::{Span, Spans};
@@ -156,8 +156,8 @@ pub fn add_cycle(
     m: u32,
     h: u32,
 )
-    requires { ReplacesIn (lent next count ids kinds starts ends bends counts px py cycles steps bx by) row s (and_one_lem cycles_most cycles.old s.cycles m) (s.cycles.count + 1) (and_one_lem steps_most steps.old s.steps h) (s.steps.count + 1) }
-    ensures { ReplacedIn (entry next count ids kinds starts ends bends counts px py cycles steps bx by) row s (s.cycles.count + 1) (s.steps.count + 1) (cycles_from (take (s.cycles.count + 1) (and_one_lem cycles_most cycles.old s.cycles m)) (and_one_lem steps_most steps.old s.steps h)) (exit next count ids kinds starts ends bends counts px py cycles steps bx by) }
+    requires { ReplacesIn (lent next count ids kinds starts ends bends counts px py cycles steps bx by) row s (and_one cycles_most cycles.old s.cycles m) (s.cycles.count + 1) (and_one steps_most steps.old s.steps h) (s.steps.count + 1) }
+    ensures { ReplacedIn (entry next count ids kinds starts ends bends counts px py cycles steps bx by) row s (s.cycles.count + 1) (s.steps.count + 1) (cycles_from (take (s.cycles.count + 1) (and_one cycles_most cycles.old s.cycles m)) (and_one steps_most steps.old s.steps h)) (exit next count ids kinds starts ends bends counts px py cycles steps bx by) }
 {
     let c = s.cycles;
     let p = s.steps;

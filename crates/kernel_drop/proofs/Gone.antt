@@ -90,7 +90,7 @@ module _ (a : Arrays) (l : Lengths a) (f : Fits (held_by a)) (n : normal a ≡ t
         let ds = take a.count a.counts in
         let ld : length (take a.count a.counts) ≡ a.count = length-take-le a.count a.counts sums.cycle_rows in
         let x = cycles_stay ds row a.cycles a.steps (get_or-take a.count a.counts row 0 r.below ∙ r.none)
-        (omega (arith, sums.cycle_sum, l.cycles)) (omega (arith, sums.step_sum_lem, l.steps)) in
+        (omega (arith, sums.cycle_sum, l.cycles)) (omega (arith, sums.step_sum, l.steps)) in
         let p = ap (λ (u : ℕ). one_dead u row) ld ∙ sym front in
         subst (λ (w : List Bool). CyclesKept w ds a.cycles a.steps b.cycles b.steps) p
         (subst (λ (w : List ℕ). CyclesKept (one_dead (length ds) row) ds a.cycles a.steps w b.steps) (sym ec)
@@ -151,7 +151,7 @@ module _ (a : Arrays) (l : Lengths a) (f : Fits (held_by a)) (n : normal a ≡ t
         let ds = take a.count a.counts in
         let ld : length (take a.count a.counts) ≡ a.count = length-take-le a.count a.counts sums.cycle_rows in
         let x = cycles_stay ds row a.cycles a.steps (get_or-take a.count a.counts row 0 r.below ∙ r.none)
-        (omega (arith, sums.cycle_sum, l.cycles)) (omega (arith, sums.step_sum_lem, l.steps)) in
+        (omega (arith, sums.cycle_sum, l.cycles)) (omega (arith, sums.step_sum, l.steps)) in
         let y = cycles_bare (one_dead (length ds) row) ds bare a.cycles a.steps a.cycles a.steps
         (get_or-take a.count a.counts bare 0 v.below ∙ v.cycles) x in
         let o = ap (λ (u : ℕ). set (one_dead u row) bare true) ld ∙ sym both_front in

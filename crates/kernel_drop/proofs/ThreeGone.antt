@@ -101,7 +101,7 @@ module _ (a : Arrays) (l : Lengths a) (f : Fits (held_by a)) (n : normal a ≡ t
           let x =
           cycles_three ds row1 row2 bare a.cycles a.steps (at row1 r.one.below r.one.none) (at row2 r.two.below r.two.none)
           (at bare r.bare_in r.bare_cycles)
-          (omega (arith, sums.cycle_sum, l.cycles)) (omega (arith, sums.step_sum_lem, l.steps)) in
+          (omega (arith, sums.cycle_sum, l.cycles)) (omega (arith, sums.step_sum, l.steps)) in
           let p = three_front a.count row1 row2 bare f.cells r.one.below r.two.below r.bare_in
           ∙ ap (λ (u : ℕ). three_dead u row1 row2 bare) (sym ld) in
           subst (λ (w : List Bool). CyclesKept w ds a.cycles a.steps b.cycles b.steps) (sym p)

@@ -19,7 +19,7 @@ use Rattle.rows_corners.proofs.Rows.{list_steps}
 use Rattle.rows_corners.proofs.Splits.{front_about}
 use Rattle.rows_stretches.specs.declared.Stretch.{Stretch}
 use Rattle.rows_stretches.specs.declared.Place.{Place}
-use Rattle.rows_stretches.specs.Paths.{path_of, PathRoom, list_at_lem, others_at, put_at, Lies, Besides}
+use Rattle.rows_stretches.specs.Paths.{path_of, PathRoom, list_at, others_at, put_at, Lies, Besides}
 use Rattle.rows_stretches.proofs.Paths.{few_front, few_left}
 use Rattle.rows_stretches.proofs.Lists.{few_after}
 use Rattle.kernel_paths.specs.declared.Run.{Run}
@@ -102,7 +102,7 @@ module _ {cycles steps : List ℕ} {p : Place} (l : Lies cycles steps p) where
         in_steps = hs;
         wide = ew;
         cycle_room = omega arith;
-        step_room_lem = omega arith;
+        step_room = omega arith;
       }
 
   module _ {t : Sides} (e : t ≡ sides_of p) where
@@ -132,7 +132,7 @@ module _ {cycles steps : List ℕ} {p : Place} (l : Lies cycles steps p) where
     abbrev own : Cycle
     own = cycle_of p.count (drop (width_sum ahead) (drop p.spans.steps.first steps))
 
-    list_about : list_at_lem cycles steps p ≡ front ++ (own ∷ back)
+    list_about : list_at cycles steps p ≡ front ++ (own ∷ back)
     list_about =
         let st = drop p.spans.steps.first steps in
         ap (λ (q : List ℕ). cycles_from q st) numbers_about ∙ cycles_append ahead (p.count ∷ behind) st
@@ -150,7 +150,7 @@ module _ {cycles steps : List ℕ} {p : Place} (l : Lies cycles steps p) where
         ap (without (one p.cycle) 0) list_about
         ∙ without_at p.cycle 0 front own back (let n = front_length in omega arith)
 
-    set_about : (x : Cycle) → set (list_at_lem cycles steps p) p.cycle x ≡ front ++ (x ∷ back)
+    set_about : (x : Cycle) → set (list_at cycles steps p) p.cycle x ≡ front ++ (x ∷ back)
     set_about x =
         ap (λ (ks : List Cycle). set ks p.cycle x) list_about ∙ set_at front own back x p.cycle front_length
 

@@ -11,7 +11,7 @@ use Rattle.rows_spans.proofs.Building.{built_none}
 use Rattle.rows_corners.proofs.Lists.{built_as, built_then}
 use Rattle.rows_stretches.specs.declared.Stretch.{Stretch}
 use Rattle.rows_stretches.specs.declared.Place.{Place}
-use Rattle.rows_stretches.specs.Paths.{path_of, all_but, between, no_steps_lem, PathRoom, others_at, put_at, Besides, merged_list, Merging, parted_list, Parting}
+use Rattle.rows_stretches.specs.Paths.{path_of, all_but, between, no_steps, PathRoom, others_at, put_at, Besides, merged_list, Merging, parted_list, Parting}
 use Rattle.rows_stretches.specs.Paths.{ringed_list, Ringing}
 use Rattle.rows_stretches.proofs.Paths.{few_front}
 use Rattle.rows_stretches.proofs.Lists.{few_after, merged_is, first_in_lem, second_in_lem, parted_is, here_in, there_in, nothing_in}
@@ -43,34 +43,34 @@ module _ {cycles steps : List ℕ} {p : Place} {s : ℕ} {q : Place} {t v : ℕ}
 -- ---- a cycle becomes two
 module _ {cycles steps : List ℕ} {p : Place} {s t v w : ℕ} (m : Parting cycles steps p s t v w) {a : Stretch} (ea : a ≡ between p s t) {i j : ℕ}
     (f : RoomFor i j (parted_list cycles steps p s t v w)) where
-  parted_room : {b : Stretch} → b ≡ between p t s → RoomFor i j (put_at cycles steps p a (no_steps_lem p) v ++ one (path_of steps b (no_steps_lem p) w))
+  parted_room : {b : Stretch} → b ≡ between p t s → RoomFor i j (put_at cycles steps p a (no_steps p) v ++ one (path_of steps b (no_steps p) w))
   parted_room eb = subst (RoomFor i j) (sym (parted_is m ea eb)) f
 
-  pub parted_puts : Puts cycles steps p a (no_steps_lem p) v i j
+  pub parted_puts : Puts cycles steps p a (no_steps p) v i j
   parted_puts =
       record {
         lies = m.first;
         first = here_in m ea;
         second = nothing_in m;
-        room = few_front (put_at cycles steps p a (no_steps_lem p) v) (one (path_of steps (between p t s) (no_steps_lem p) w)) (parted_room refl);
+        room = few_front (put_at cycles steps p a (no_steps p) v) (one (path_of steps (between p t s) (no_steps p) w)) (parted_room refl);
       }
 
-  module _ {numbers : List ℕ} {u : Used} {places : List ℕ} (x : Built (put_at cycles steps p a (no_steps_lem p) v) numbers u places) {b : Stretch}
+  module _ {numbers : List ℕ} {u : Used} {places : List ℕ} (x : Built (put_at cycles steps p a (no_steps p) v) numbers u places) {b : Stretch}
       (eb : b ≡ between p t s) where
-    pub parted_path : length numbers ≡ i → length places ≡ j → PathRoom steps b (no_steps_lem p) w numbers u places
+    pub parted_path : length numbers ≡ i → length places ≡ j → PathRoom steps b (no_steps p) w numbers u places
     parted_path lc ls =
         record {
           building = x.building;
           steps_size = m.first.within.steps_size;
           first = there_in m eb;
           second = nothing_in m;
-          room = few_after x (one (path_of steps b (no_steps_lem p) w)) (parted_room eb) lc ls;
+          room = few_after x (one (path_of steps b (no_steps p) w)) (parted_room eb) lc ls;
         }
 
     pub parted_done : {numbers₁ : List ℕ} {u₁ : Used} {places₁ : List ℕ}
-        → Built (built numbers u places ++ one (path_of steps b (no_steps_lem p) w)) numbers₁ u₁ places₁
+        → Built (built numbers u places ++ one (path_of steps b (no_steps p) w)) numbers₁ u₁ places₁
         → Built (parted_list cycles steps p s t v w) numbers₁ u₁ places₁
-    parted_done y = built_as (parted_is m ea eb) (built_then (one (path_of steps b (no_steps_lem p) w)) x y)
+    parted_done y = built_as (parted_is m ea eb) (built_then (one (path_of steps b (no_steps p) w)) x y)
 
 -- ---- two faces become one without a cycle of each
 module _ {cycles steps : List ℕ} {p q : Place} (m : Ringing cycles steps p q) {i j : ℕ} (f : RoomFor i j (ringed_list cycles steps p q)) where

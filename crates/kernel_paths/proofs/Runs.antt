@@ -37,7 +37,7 @@ run_built {cycles} {steps} {r} {numbers} {u} {places} room c s cs ps ec ecs es e
     let ns = drop r.first cycles in
     let src = drop r.from steps in
     let hc = room.cycle_room in
-    let hs = room.step_room_lem in
+    let hs = room.step_room in
     let lc = b.counts_size in
     let ls = b.steps_size in
     let hn : k ≤ length ns = omega (arith, room.in_cycles, room.cycles_size, length-drop r.first cycles) in
@@ -64,6 +64,6 @@ run_built {cycles} {steps} {r} {numbers} {u} {places} room c s cs ps ec ecs es e
             steps_size = omega arith;
             width = ap width_sum fc ∙ sum_append width (take i numbers) (take k ns) ∙ omega (arith, b.width);
             cycle_room = omega arith;
-            step_room_lem = omega arith;
+            step_room = omega arith;
           };
     }

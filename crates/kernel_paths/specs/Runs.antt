@@ -24,7 +24,7 @@ pub record RunRoom (cycles steps : List ℕ) (r : Run) (numbers : List ℕ) (u :
   pub in_steps : r.from + r.len ≤ steps_most
   pub wide : width_sum (take r.count (drop r.first cycles)) ≡ r.len
   pub cycle_room : u.cycles + r.count ≤ length numbers
-  pub step_room_lem : u.steps + r.len ≤ length places
+  pub step_room : u.steps + r.len ≤ length places
 
 -- a cycle stands among those of its face, and these in a drawing's arrays
 pub record Inside (p : Place) : Type 0 where

@@ -10,7 +10,7 @@ use Rattle.rows_spans.specs.Runs.{spans_of}
 use Rattle.answer.specs.declared.Totals.{Totals}
 use Rattle.rows_corners.specs.Faces.{Spanned}
 use Rattle.rows_corners.proofs.Rows.{live, finding, spanned}
-use Rattle.rows_corners.proofs.Edits.{rows_in}
+use Rattle.rows_corners.proofs.Edits.{rows_in_lem}
 use Rattle.rows_stretches.specs.declared.Place.{Place}
 use Rattle.law_uncut_edge.specs.Needs.{Has, CycleFound}
 use Rattle.law_uncut_edge.proofs.Finding.{index_in, place_asks, found}
@@ -48,9 +48,9 @@ module _ (a : Arrays) (t : Totals) (r : Ready a t) (f c : ℕ) (h : Has (held_by
       index_at : s.cycles.first + c < 512
       index_at = index_in (held_by a) (rows_by a) f c h s spans_are
 
-      place_at : (length a.cycles ≡ 512)
+      place_at_lem : (length a.cycles ≡ 512)
           × ((s.cycles.first + c ≤ 512) × (s.steps.first + width_sum (take c (drop s.cycles.first a.cycles)) ≤ 2048))
-      place_at = place_asks (held_by a) (rows_by a) f c h s spans_are
+      place_at_lem = place_asks (held_by a) (rows_by a) f c h s spans_are
 
       found_at : (at m : ℕ) → at ≡ s.steps.first + width_sum (take c (drop s.cycles.first a.cycles))
           → m ≡ get_or a.cycles (s.cycles.first + c) 0
@@ -98,7 +98,7 @@ module _ (n : ℕ) (ids counts cycles : List ℕ) (t : Totals) where
             carried
             (λ (k : ℕ) (is cs cy : List ℕ). row ≡ row_of f (take k is) → s ≡ spans_of cs t.cells row cy
             → (length cy ≡ 512) × ((s.cycles.first + c ≤ 512) × (s.steps.first + width_sum (take c (drop s.cycles.first cy)) ≤ 2048)))
-            h.arrays h.among (λ x y. place_at h.arrays t h.among.ready f c h.has row x s y) e es
+            h.arrays h.among (λ x y. place_at_lem h.arrays t h.among.ready f c h.has row x s y) e es
 
         pub stands : (at m : ℕ) → at ≡ s.steps.first + width_sum (take c (drop s.cycles.first cycles)) → m ≡ get_or cycles (s.cycles.first + c) 0
             → FoundBy n ids counts cycles t f c (record { spans = s; cycle = c; count = m; at = at })
@@ -115,5 +115,5 @@ module _ (n : ℕ) (ids counts cycles : List ℕ) (t : Totals) where
 -- ---- where a step ends
 pub rows_by_lem : (a : Arrays) (t : Totals) → Ready a t → RowsIn a.count a.ids a.starts a.ends
 rows_by_lem a t r =
-    let k = rows_in (held_by a) (ready_sizes a t r) (ready_drawing a t r) (rows_by a) (ready_indexes a t r) in
+    let k = rows_in_lem (held_by a) (ready_sizes a t r) (ready_drawing a t r) (rows_by a) (ready_indexes a t r) in
     record { few = k.few; ids_size = k.ids; starts_size = k.starts; ends_size = k.ends; rising = k.rising }

@@ -8,7 +8,7 @@ use lib.ListN.{length, take, drop, length-append, length-drop, length-map, repli
 use lib.Seq.{paste, take-add, take_at, drop_at, take-paste, length-paste, length-take-le}
 use Rattle.complex.specs.Lists.{one, total, places, without, chosen}
 use Rattle.complex.specs.Cells.{Cycle, Halfedge, path}
-use Rattle.complex.specs.Sound.{cycles_most, steps_most, step_count_lem}
+use Rattle.complex.specs.Sound.{cycles_most, steps_most, step_count}
 use Rattle.complex.proofs.Bools.{truth}
 use Rattle.complex.proofs.Sums.{total_append, total_left, length_left}
 use Rattle.store.specs.View.{width, width_sum, cycles_from}
@@ -30,7 +30,7 @@ use Rattle.rows_corners.proofs.Moved.{turned_size, without_kept, chosen_kept}
 use Rattle.rows_corners.proofs.Rows.{list_steps}
 use Rattle.rows_split.proofs.Places.{built_size}
 use Rattle.law_cut_face.specs.Rounds.{stayed, left}
-use Rattle.kernel_cycles.specs.Replacing.{and_one_lem}
+use Rattle.kernel_cycles.specs.Replacing.{and_one}
 use Rattle.kernel_cycles.proofs.Moving.{one_front}
 use Rattle.rows_corners.proofs.Runs.{runs_long, runs_built}
 use Rattle.kernel_round.specs.Parting.{Fit, Flagged, TwoBuilt, RoundParting, Put, RoundParted}
@@ -53,7 +53,7 @@ after s = record { first = s.first + s.count; count = 0; rest = s.rest }
 
 -- a number in its place is the run with that number more
 put_one : (old : List ℕ) (s : Span) (x : ℕ) (more : List ℕ) (m : ℕ) (out : List ℕ) (most : ℕ) → s.count < most → s.first + s.count ≤ length old
-    → (xs : List ℕ) → Put old (after s) (x ∷ xs) 1 more m out → Put old s (and_one_lem most old s x) (s.count + 1) more m out
+    → (xs : List ℕ) → Put old (after s) (x ∷ xs) 1 more m out → Put old s (and_one most old s x) (s.count + 1) more m out
 put_one old s x more m out most h f xs p =
     let e : s.first + (s.count + 1) + s.rest ≡ s.first + s.count + 1 + s.rest = omega arith in
     let z : s.first + s.count + 0 ≡ s.first + s.count = omega arith in
@@ -74,7 +74,7 @@ put_one old s x more m out most h f xs p =
     }
 
 -- ---- two lists one after the other
-pub two_built : {ks ls : List Cycle} {counts : List ℕ} {w : Used} {steps : List ℕ} (u : Used) → (u.cycles ≡ length ks) × (u.steps ≡ total step_count_lem ks)
+pub two_built : {ks ls : List Cycle} {counts : List ℕ} {w : Used} {steps : List ℕ} (u : Used) → (u.cycles ≡ length ks) × (u.steps ≡ total step_count ks)
     → Built (ks ++ ls) counts w steps
     → TwoBuilt ks ls counts u (record { cycles = w.cycles - u.cycles; steps = w.steps - u.steps }) steps
 two_built {ks} {ls} {counts} {w} {steps} u eu b =
@@ -83,7 +83,7 @@ two_built {ks} {ls} {counts} {w} {steps} u eu b =
     let m : ℕ = w.cycles - u.cycles in
     let z = built_size b in
     let lc = length-append ks ls in
-    let ts = total_append step_count_lem ks ls in
+    let ts = total_append step_count ks ls in
     let nm : w.cycles ≡ n + m = omega (arith, z.0, eu.0) in
     let parts : take w.cycles counts ≡ take n counts ++ take m (drop n counts) = ap (λ (k : ℕ). take k counts) nm ∙ take-add n m counts in
     let sum = sum_append width (take n counts) (take m (drop n counts)) in
@@ -95,8 +95,8 @@ two_built {ks} {ls} {counts} {w} {steps} u eu b =
     let size : length few ≡ n = length_cycles (take n counts) steps ∙ length-take-le n counts (omega (arith, nm, g.cycle_room)) in
     let former : few ≡ ks = sym (take_at few rest n size) ∙ ap (take n) both ∙ take_at ks ls n (sym eu.0) in
     let latter : rest ≡ ls = sym (drop_at few rest n size) ∙ ap (drop n) both ∙ drop_at ks ls n (sym eu.0) in
-    let wide : width_sum (take n counts) ≡ u.steps = sym (list_steps (take n counts) steps (omega (arith, sum, all, g.step_room_lem)))
-    ∙ ap (total step_count_lem) former ∙ sym eu.1 in
+    let wide : width_sum (take n counts) ≡ u.steps = sym (list_steps (take n counts) steps (omega (arith, sum, all, g.step_room)))
+    ∙ ap (total step_count) former ∙ sym eu.1 in
     record {
       former =
           record {
@@ -107,7 +107,7 @@ two_built {ks} {ls} {counts} {w} {steps} u eu b =
                   steps_size = g.steps_size;
                   width = wide;
                   cycle_room = omega (arith, nm, g.cycle_room);
-                  step_room_lem = omega (arith, wide, sum, all, g.step_room_lem);
+                  step_room = omega (arith, wide, sum, all, g.step_room);
                 };
           };
       latter =
@@ -119,7 +119,7 @@ two_built {ks} {ls} {counts} {w} {steps} u eu b =
                   steps_size = omega (arith, length-drop u.steps steps, g.steps_size);
                   width = omega (arith, wide, sum, all);
                   cycle_room = omega (arith, nm, g.cycle_room, length-drop n counts);
-                  step_room_lem = omega (arith, wide, sum, all, g.step_room_lem, length-drop u.steps steps);
+                  step_room = omega (arith, wide, sum, all, g.step_room, length-drop u.steps steps);
                 };
           };
     }
@@ -193,7 +193,7 @@ abbrev used : Spans → Used
 used s = record { cycles = s.cycles.count + 1; steps = s.steps.count + 1 }
 
 ring_kept : (cycles steps : List ℕ) (s : Spans) → Within cycles steps s → s.cycles.count < cycles_most → s.steps.count < steps_most → (e : ℕ)
-    → Built (stayed [] (cycles_at cycles steps s) e) (and_one_lem cycles_most cycles s.cycles 1) (used s) (and_one_lem steps_most steps s.steps (2 * e))
+    → Built (stayed [] (cycles_at cycles steps s) e) (and_one cycles_most cycles s.cycles 1) (used s) (and_one steps_most steps s.steps (2 * e))
 ring_kept cycles steps s w hc hs e =
     let b = runs_built cycles steps s w (replicate {A = ℕ} 512 0) (replicate {A = ℕ} 2048 0)
     (length-replicate {A = ℕ} 512 0) (length-replicate {A = ℕ} 2048 0) _ _ refl refl in
@@ -212,7 +212,7 @@ step_built ks e =
     record {
       list = ap (λ (h : List Halfedge). path h ∷ []) (against_read e);
       building =
-          record { counts_size = omega arith; steps_size = omega arith; width = refl; cycle_room = omega arith; step_room_lem = omega arith };
+          record { counts_size = omega arith; steps_size = omega arith; width = refl; cycle_room = omega arith; step_room = omega arith };
     }
 
 module _ (cycles steps : List ℕ) (s : Spans) (script : List ℕ) (moved place e : ℕ) (p : RoundParting cycles steps s script moved place e) where
@@ -222,10 +222,10 @@ module _ (cycles steps : List ℕ) (s : Spans) (script : List ℕ) (moved place 
   none_parted cs ss a b =
       let w = p.within in
       let hc : s.cycles.count < cycles_most = omega (arith, p.cycle_room) in
-      let hs : s.steps.count < steps_most = omega (arith, p.step_room_lem) in
+      let hs : s.steps.count < steps_most = omega (arith, p.step_room) in
       record {
-        counts = and_one_lem cycles_most cycles s.cycles 1;
-        words = and_one_lem steps_most steps s.steps (2 * e);
+        counts = and_one cycles_most cycles s.cycles 1;
+        words = and_one steps_most steps s.steps (2 * e);
         counts2 = 1 ∷ [];
         words2 = (2 * e + 1) ∷ [];
         stay = ring_kept cycles steps s w hc hs e;
@@ -286,9 +286,9 @@ module _ (cycles steps : List ℕ) (s : Spans) (script : List ℕ) (moved place 
         × ((u.steps + v.steps ≤ length words) × (s.steps.first + u.steps + s.steps.rest + v.steps ≤ length steps))
     steps_fit_lem e =
         let w = p.within.steps_size in
-        let r = p.step_room_lem in (
+        let r = p.step_room in (
           omega (arith, w),
-          (omega (arith, b.former.building.step_room_lem, b.latter.building.step_room_lem, length-drop u.steps words), omega (arith, w, e)),
+          (omega (arith, b.former.building.step_room, b.latter.building.step_room, length-drop u.steps words), omega (arith, w, e)),
         )
 
   -- ---- room for the lists
@@ -307,4 +307,4 @@ module _ (cycles steps : List ℕ) (s : Spans) (script : List ℕ) (moved place 
   large_fit =
       let l = length-replicate {A = ℕ} 512 0 in
       let m = length-replicate {A = ℕ} 2048 0 in
-      record { few_counts = omega arith; few_steps = omega arith; cycles = omega (arith, p.cycle_room); steps = omega (arith, p.step_room_lem) }
+      record { few_counts = omega arith; few_steps = omega arith; cycles = omega (arith, p.cycle_room); steps = omega (arith, p.step_room) }

@@ -42,7 +42,7 @@ pub record RoundParting (cycles steps : List ℕ) (s : Spans) (script : List ℕ
   pub rise : places 0 (numbers_read script place moved) s.cycles.count ≡ true
   pub id : e ≤ ids_end
   pub cycle_room : s.cycles.first + s.cycles.count + s.cycles.rest + 2 ≤ cycles_most
-  pub step_room_lem : s.steps.first + s.steps.count + s.steps.rest + 2 ≤ steps_most
+  pub step_room : s.steps.first + s.steps.count + s.steps.rest + 2 ≤ steps_most
 
 -- out has the first n of new in the place of the run s, and the first m of more after all numbers in use
 pub record Put (old : List ℕ) (s : Span) (new : List ℕ) (n : ℕ) (more : List ℕ) (m : ℕ) (out : List ℕ) : Type 0 where

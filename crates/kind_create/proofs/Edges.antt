@@ -47,33 +47,33 @@ module _ (a : Arrays) (t : Totals) (r : Ready a t) (bs : List Position) (k : ℕ
   edge_full closed_row p = obeyed_full a t r (closed_edge bs) p n said
 
   module _ (z : n ≡ 0) where
-    in_use : t.bends ≡ bend_total (held_by a)
-    in_use = ready_bends a t r
+    in_use_lem : t.bends ≡ bend_total (held_by a)
+    in_use_lem = ready_bends a t r
 
     -- what the bends and the row ask
     pub edge_asks : {kind s e : ℕ} → EdgeRow kind s e → Passed (sheet_of (held_by a)) (create (edge_by kind s e bs))
         → (t.bends + k ≤ 2048) × ((a.count < 256) × (a.next < 65536))
     edge_asks (open_row {s} {e}) p =
         let c = came_room a t r (open_edge s e bs) p n said z in
-        (omega (arith, c.bends, lk, in_use), (c.cells, c.ids))
+        (omega (arith, c.bends, lk, in_use_lem), (c.cells, c.ids))
     edge_asks closed_row p =
         let c = came_room a t r (closed_edge bs) p n said z in
-        (omega (arith, c.bends, lk, in_use), (c.cells, c.ids))
+        (omega (arith, c.bends, lk, in_use_lem), (c.cells, c.ids))
 
     module _ (us vs : List Float) (b : BendsPut a.bx a.by t.bends bs k us vs) where
       abbrev placed : Arrays
       placed = with_placed a us vs
 
       long : Lengths (with_placed a us vs)
-      long = placed_long a r.long bs k t.bends lk in_use us vs b
+      long = placed_long a r.long bs k t.bends lk in_use_lem us vs b
 
       pub edge_obeyed : {kind s e : ℕ} → EdgeRow kind s e → Passed (sheet_of (held_by a)) (create (edge_by kind s e bs)) → (o : Arrays)
           → o ≡ with_row (with_placed a us vs) kind s e k 0 a.px a.py → (l : Line) → l ≡ one_new a.next → Obeyed a (create (edge_by kind s e bs)) o l
       edge_obeyed (open_row {s} {e}) p =
           let c = came_room a t r (open_edge s e bs) p n said z in
           obeyed_came a t r (open_edge s e bs) p n said z (with_open placed s e k) (open_long placed long s e k) refl refl
-          (open_normal placed long s e k c.cells (ready_rows a t r)) (open_grew a r.long bs k t.bends lk in_use us vs b s e c)
+          (open_normal placed long s e k c.cells (ready_rows a t r)) (open_grew a r.long bs k t.bends lk in_use_lem us vs b s e c)
       edge_obeyed closed_row p =
           let c = came_room a t r (closed_edge bs) p n said z in
           obeyed_came a t r (closed_edge bs) p n said z (with_closed placed k) (closed_long placed long k) refl refl
-          (closed_normal placed long k c.cells (ready_rows a t r)) (closed_grew a r.long bs k t.bends lk in_use us vs b c)
+          (closed_normal placed long k c.cells (ready_rows a t r)) (closed_grew a r.long bs k t.bends lk in_use_lem us vs b c)

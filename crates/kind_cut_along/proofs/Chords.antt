@@ -39,7 +39,7 @@ use Rattle.kernel_part.proofs.Coming.{same_arrays}
 pub record ChordRoom (a : Arrays) (row : ℕ) (s : Spans) (numbers : List ℕ) (u : Used) (places : List ℕ) (at : ℕ)
     (script : List ℕ) (v w k first : ℕ) : Type 0 where
   pub replaces : ReplacesIn a row s numbers u.cycles places u.steps
-  pub in_use_lem : at ≡ (totals_of a).bends
+  pub in_use : at ≡ (totals_of a).bends
   pub bytes : first + 16 * k ≤ length script
   pub others : List Figure
   pub room : RoomIn (sheet_with_row (sheet_of (held_by a)) row (face (built numbers u places))) (open_edge v w (positions_at script first k) ∷ others)
@@ -59,7 +59,7 @@ module _ (a : Arrays) (row : ℕ) (s : Spans) (numbers : List ℕ) (u : Used) (p
       (subst (λ (t : Sheet). RoomIn t (edge ∷ x.others)) (sym q.sheet) x.room)
 
   bends_are : at ≡ bend_total (held_by b)
-  bends_are = x.in_use_lem ∙ sym (ap (λ (t : Totals). t.bends) q.sums) ∙ bends_held b q.long q.rows
+  bends_are = x.in_use ∙ sym (ap (λ (t : Totals). t.bends) q.sums) ∙ bends_held b q.long q.rows
 
   pub chord_bends : at + k ≤ 2048
   chord_bends = omega (arith, bends_are, chord_comes.bends, positions_length script first k)
@@ -134,7 +134,7 @@ module _ (a : Arrays) (t : Totals) (f : ℕ) (ks : List Cycle) (x : Figure) (oth
             record {
               replaces =
                   replaces a t f ks (x ∷ others) c row e s (es ∙ ap (λ (r : ℕ). spans_of a.counts t.cells r a.cycles) (sym e)) numbers u places b ek;
-              in_use_lem = ap (λ (q : Totals). q.bends) c.ready.sums;
+              in_use = ap (λ (q : Totals). q.bends) c.ready.sums;
               bytes = h;
               others = others;
               room =

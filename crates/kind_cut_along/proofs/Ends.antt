@@ -17,11 +17,11 @@ use Rattle.answer.proofs.Asked.{next_in_lem}
 use Rattle.decode_parts.specs.Lists.{numbers_read}
 use Rattle.rows_corners.specs.Faces.{Spanned}
 use Rattle.rows_corners.proofs.Rows.{spanned}
-use Rattle.rows_corners.proofs.Edits.{rows_in}
+use Rattle.rows_corners.proofs.Edits.{rows_in_lem}
 use Rattle.rows_split.specs.Along.{Along}
 use Rattle.rows_split.specs.Parts.{place_of}
 use Rattle.rows_split.proofs.Corners.{cycles_count, cornered, vertex_is}
-use Rattle.rows_split.proofs.Cuts.{in_first, in_second, at_first, at_second, moves}
+use Rattle.rows_split.proofs.Cuts.{in_first, in_second, at_first_lem, at_second_lem, moves}
 use Rattle.lent.specs.Arrays.{Arrays, held_by, rows_by}
 use Rattle.lent.specs.Replies.{Ready}
 use Rattle.lent.proofs.Sums.{ready_sizes, ready_cells}
@@ -43,14 +43,14 @@ module _ (a : Arrays) (t : Totals) (y : Ready a t) (script : List ℕ) (f : ℕ)
 
   pub chorded : Chorded a.ids a.starts a.ends a.count a.cycles a.steps s script moved place c1 s1 c2 s2 a.next
   chorded =
-      let r = rows_in (held_by a) sizes g.sound (rows_by a) g.named.index in
+      let r = rows_in_lem (held_by a) sizes g.sound (rows_by a) g.named.index in
       let n = cycles_count sizes g.sound g.named span in
       let ms = numbers_read script place moved in
       record {
         starts = record { few = r.few; ids = r.ids; values = r.starts; rising = r.rising };
         ends = record { few = r.few; ids = r.ids; values = r.ends; rising = r.rising };
-        from = cornered sizes g.sound g.named span c1 (in_first g) s1 (at_first g) refl;
-        to = cornered sizes g.sound g.named span c2 (in_second g) s2 (at_second g) refl;
+        from = cornered sizes g.sound g.named span c1 (in_first g) s1 (at_first_lem g) refl;
+        to = cornered sizes g.sound g.named span c2 (in_second g) s2 (at_second_lem g) refl;
         stand = g.stand;
         rise = λ e. ap (places 0 ms) n ∙ true_of (places 0 ms _) (moves g e).0;
         stays = λ e. not_of (holds c1 ms) (moves g e).1;
@@ -59,8 +59,8 @@ module _ (a : Arrays) (t : Totals) (y : Ready a t) (script : List ℕ) (f : ℕ)
 
   pub first_vertex : (v : ℕ) → v ≡ vertex_in a.ids a.starts a.ends a.count a.steps (place_of a.cycles s c1) s1
       → v ≡ corner (cell_at (sheet_of (held_by a))) (get_or ks c1 no_cycle) s1
-  first_vertex = vertex_is sizes g.sound g.named span c1 (in_first g) s1 (at_first g) refl
+  first_vertex = vertex_is sizes g.sound g.named span c1 (in_first g) s1 (at_first_lem g) refl
 
   pub second_vertex : (v : ℕ) → v ≡ vertex_in a.ids a.starts a.ends a.count a.steps (place_of a.cycles s c2) s2
       → v ≡ corner (cell_at (sheet_of (held_by a))) (get_or ks c2 no_cycle) s2
-  second_vertex = vertex_is sizes g.sound g.named span c2 (in_second g) s2 (at_second g) refl
+  second_vertex = vertex_is sizes g.sound g.named span c2 (in_second g) s2 (at_second_lem g) refl

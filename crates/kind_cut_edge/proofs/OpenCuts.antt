@@ -48,12 +48,12 @@ use Rattle.kind_cut_edge.proofs.Parting as part
 use Rattle.kind_cut_edge.proofs.Parting.{SwapAsks, Parted, cut_obeyed}
 
 module _ (a : Arrays) (l : Lengths a) (w : T (sound_arrays a)) (e q : ℕ) (r : Plan) (g : OpenGoes a e q r) where
-  pub place_in_lem : q / 2 + q % 2 ≤ r.m
-  place_in_lem = place_below (held_by a) (held_sizes a l) e r.row r.base r.m q g.cuts r.s r.f g.ends
+  pub place_in : q / 2 + q % 2 ≤ r.m
+  place_in = place_below (held_by a) (held_sizes a l) e r.row r.base r.m q g.cuts r.s r.f g.ends
 
   -- what the swap asks
-  pub edge_in : e < 65536
-  edge_in = edge_small (held_by a) (held_sizes a l) e r.row r.base r.m q g.cuts r.s r.f g.ends
+  pub edge_in_lem : e < 65536
+  edge_in_lem = edge_small (held_by a) (held_sizes a l) e r.row r.base r.m q g.cuts r.s r.f g.ends
 
   pub swap_asks : (t : Swap) → t ≡ two_for e (a.next + 1) (a.next + 2) → SwapAsks a r.cycles r.steps r.uses t
   swap_asks t et =
@@ -105,10 +105,10 @@ module _ (a : Arrays) (l : Lengths a) (w : T (sound_arrays a)) (e q : ℕ) (r : 
       moved = moved_last r.base r.m (q / 2) (q / 2 + q % 2) r.bends (held_by a).bends
 
       left : sheet_of (held_by b) ≡ remade (others e) (rewired same_vertex (in_two e (a.next + 1) (a.next + 2))) (sheet_of (held_by a))
-      left = part.left a l w e q r g.cuts g.row _ cy st sw (q / 2) (q / 2 + q % 2) (omega arith) place_in_lem b gone _ (two_for_lem e (a.next + 1) (a.next + 2))
+      left = part.left a l w e q r g.cuts g.row _ cy st sw (q / 2) (q / 2 + q % 2) (omega arith) place_in b gone _ (two_for_lem e (a.next + 1) (a.next + 2))
 
       bends_are : positions_in b.bx b.by ≡ moved
-      bends_are = part.bends_are a l w e q r g.cuts g.row _ cy st sw (q / 2) (q / 2 + q % 2) (omega arith) place_in_lem b gone
+      bends_are = part.bends_are a l w e q r g.cuts g.row _ cy st sw (q / 2) (q / 2 + q % 2) (omega arith) place_in b gone
 
       below : r.base + r.m ≤ r.bends
       below = part.below a l w e q r g.cuts g.row
@@ -122,14 +122,14 @@ module _ (a : Arrays) (l : Lengths a) (w : T (sound_arrays a)) (e q : ℕ) (r : 
       first_are : run_at (r.bends - r.m) (q / 2) (positions_in b.bx b.by) ≡ bs
       first_are =
           ap (run_at (r.bends - r.m) (q / 2)) bends_are
-          ∙ twice_first r.base r.m (q / 2) (q / 2 + q % 2) r.bends (held_by a).bends (omega arith) place_in_lem below
+          ∙ twice_first r.base r.m (q / 2) (q / 2 + q % 2) r.bends (held_by a).bends (omega arith) place_in below
           (omega (arith, most, all_bends))
           ∙ sym (runs_single (held_by a).bends (part_run r.p r.base (q / 2)) refl refl)
 
       second_are : run_at (r.bends - r.m + q / 2) (r.m - (q / 2 + q % 2)) (positions_in b.bx b.by) ≡ cs
       second_are =
           ap (run_at (r.bends - r.m + q / 2) (r.m - (q / 2 + q % 2))) bends_are
-          ∙ twice_second r.base r.m (q / 2) (q / 2 + q % 2) r.bends (held_by a).bends (omega arith) place_in_lem below
+          ∙ twice_second r.base r.m (q / 2) (q / 2 + q % 2) r.bends (held_by a).bends (omega arith) place_in below
           (omega (arith, most, all_bends))
           ∙ sym (runs_single (held_by a).bends (part_run r.p (r.base + (q / 2 + q % 2)) (r.m - (q / 2 + q % 2))) refl refl)
 
@@ -139,9 +139,9 @@ module _ (a : Arrays) (l : Lengths a) (w : T (sound_arrays a)) (e q : ℕ) (r : 
 
       begun : Parted b r.p a.next r.s bs (y ∷ []) (r.bends - r.m + q / 2) b2
       begun =
-          part.parted a l w e q r g.cuts g.row _ cy st sw (q / 2) (q / 2 + q % 2) (omega arith) place_in_lem b gone r.s (q / 2) bs (y ∷ [])
+          part.parted a l w e q r g.cuts g.row _ cy st sw (q / 2) (q / 2 + q % 2) (omega arith) place_in b gone r.s (q / 2) bs (y ∷ [])
           (parts_room (held_by a) (held_sizes a l) e r.row r.base r.m q g.cuts r.s r.f g.ends r.p g.placed (sheet_of (held_by b)) left)
-          first_are (omega (arith, below, most, place_in_lem))
+          first_are (omega (arith, below, most, place_in))
 
       room3 : CellRoom (held_by b2) y
       room3 = room_first (held_by b2) (held_sizes b2 begun.long) begun.fits y [] begun.room
@@ -157,7 +157,7 @@ module _ (a : Arrays) (l : Lengths a) (w : T (sound_arrays a)) (e q : ℕ) (r : 
       ended =
           open_comes b2 begun.long a.next r.f (r.m - (q / 2 + q % 2)) cs room3
           (ap length (sym second_are) ∙ run_length (r.bends - r.m + q / 2) (r.m - (q / 2 + q % 2)) (positions_in b.bx b.by)
-          (omega (arith, b_bends, below, most, place_in_lem)))
+          (omega (arith, b_bends, below, most, place_in)))
           (ap (λ (n : ℕ). run_at n (r.m - (q / 2 + q % 2)) (positions_in b.bx b.by)) begun.used ∙ second_are)
 
       -- what put_parts asks

@@ -97,8 +97,8 @@ module _ (a : Arrays) (l : Lengths a) (w : T (sound_arrays a)) (e q : ℕ) (r : 
           (sw.sheet ∙ ap (λ (y : Halfedge → List Halfedge). with_entries (sheet_of (held_by a)) (reshape (rewired same_vertex y) (sheet_of (held_by a)).cells)) h)
           (set (replicate 256 false) r.row true) refl (held_by b) gone.keeps.sheet
 
-      in_use : bend_total (held_by b) ≡ r.bends - r.m
-      in_use =
+      in_use_lem : bend_total (held_by b) ≡ r.bends - r.m
+      in_use_lem =
           sym (ap (total (places_of 0)) (held_indexes b gone.long gone.keeps.rows).bends
           ∙ places_sum (λ (y : Cell). bend_count y.shape) (take b.count (held_by b).cells))
           ∙ gone.less
@@ -133,7 +133,7 @@ module _ (a : Arrays) (l : Lengths a) (w : T (sound_arrays a)) (e q : ℕ) (r : 
         room2 = room_first (held_by b1) (held_sizes b1 long1) came1.1 x ys rooms2
 
         used1 : bend_total (held_by b1) ≡ r.bends - r.m
-        used1 = vertex_bends b gone.long r.p room1.cells ∙ in_use
+        used1 = vertex_bends b gone.long r.p room1.cells ∙ in_use_lem
 
         all_bends : length (positions_in b.bx b.by) ≡ 2048
         all_bends = (held_sizes b gone.long).bends

@@ -38,12 +38,12 @@ use Rattle.kind_cut_edge.proofs.Parting as part
 use Rattle.kind_cut_edge.proofs.Parting.{SwapAsks, Parted, cut_obeyed}
 
 module _ (a : Arrays) (l : Lengths a) (w : T (sound_arrays a)) (e q : ℕ) (r : Plan) (g : RingGoes a e q r) where
-  pub place_in_lem : q / 2 < r.m
-  place_in_lem = half_below (held_by a) (held_sizes a l) e r.row r.base r.m q g.cuts g.closed
+  pub place_in : q / 2 < r.m
+  place_in = half_below (held_by a) (held_sizes a l) e r.row r.base r.m q g.cuts g.closed
 
   -- what the swap asks
-  pub edge_in : e < 65536
-  edge_in = edge_small (held_by a) (held_sizes a l) e r.row r.base r.m q g.cuts g.closed
+  pub edge_in_lem : e < 65536
+  edge_in_lem = edge_small (held_by a) (held_sizes a l) e r.row r.base r.m q g.cuts g.closed
 
   pub swap_asks : (t : Swap) → t ≡ one_for e (a.next + 1) false → SwapAsks a r.cycles r.steps r.uses t
   swap_asks t et =
@@ -60,7 +60,7 @@ module _ (a : Arrays) (l : Lengths a) (w : T (sound_arrays a)) (e q : ℕ) (r : 
       moved = moved_last r.base r.m 0 (q / 2 + 1) r.bends (held_by a).bends
 
       in_place : q / 2 + 1 ≤ r.m
-      in_place = omega (arith, place_in_lem)
+      in_place = omega (arith, place_in)
 
       left : sheet_of (held_by b) ≡ remade (others e) (rewired same_vertex (in_place_of e (a.next + 1) false)) (sheet_of (held_by a))
       left = part.left a l w e q r g.cuts g.row _ cy st sw 0 (q / 2 + 1) (omega arith) in_place b gone _ (one_for_lem e (a.next + 1) false)
@@ -79,7 +79,7 @@ module _ (a : Arrays) (l : Lengths a) (w : T (sound_arrays a)) (e q : ℕ) (r : 
       onward =
           let n : r.bends - r.m ≡ r.bends - r.m + 0 = omega arith in
           ap (λ (k : ℕ). run_at k (r.m - (q / 2 + 1)) moved) n
-          ∙ twice_second r.base r.m 0 (q / 2 + 1) r.bends (held_by a).bends (omega arith) (omega (arith, place_in_lem)) below
+          ∙ twice_second r.base r.m 0 (q / 2 + 1) r.bends (held_by a).bends (omega arith) (omega (arith, place_in)) below
           (omega (arith, most, all_bends))
 
       -- those before it
@@ -91,14 +91,14 @@ module _ (a : Arrays) (l : Lengths a) (w : T (sound_arrays a)) (e q : ℕ) (r : 
           run_take (r.bends - r.m + (r.m - (q / 2 + 1))) (q / 2 + 1) (q / 2 + (1 - q % 2)) moved (omega arith)
           ∙ ap (take (q / 2 + (1 - q % 2)))
           (ap₂ (λ (u v : ℕ). run_at u v moved) n k
-          ∙ twice_last r.base r.m 0 (q / 2 + 1) r.bends (held_by a).bends (omega arith) (omega (arith, place_in_lem)) below
+          ∙ twice_last r.base r.m 0 (q / 2 + 1) r.bends (held_by a).bends (omega arith) (omega (arith, place_in)) below
           (omega (arith, most, all_bends))
           ∙ ap₂ (λ (u v : ℕ). run_at u v (held_by a).bends) o (sym k))
           ∙ sym (run_take r.base (q / 2 + 1) (q / 2 + (1 - q % 2)) (held_by a).bends (omega arith))
 
       round_are : run_at (r.bends - r.m) (r.m - q % 2) (positions_in b.bx b.by) ≡ round
       round_are =
-          let n : r.m - q % 2 ≡ r.m - (q / 2 + 1) + (q / 2 + (1 - q % 2)) = omega (arith, place_in_lem) in
+          let n : r.m - q % 2 ≡ r.m - (q / 2 + 1) + (q / 2 + (1 - q % 2)) = omega (arith, place_in) in
           ap₂ (λ (k : ℕ) (y : List Position). run_at (r.bends - r.m) k y) n
           (part.bends_are a l w e q r g.cuts g.row _ cy st sw 0 (q / 2 + 1) (omega arith) in_place b gone)
           ∙ run_add (r.bends - r.m) (r.m - (q / 2 + 1)) (q / 2 + (1 - q % 2)) moved

@@ -38,14 +38,14 @@ use Rattle.lent.specs.Replies.{line_of, answer_by, Ready, Obeyed, Holds}
 use Rattle.lent.proofs.Held.{held_sizes}
 use Rattle.lent.proofs.Grown.{vertex_long, vertex_normal, vertex_comes}
 use Rattle.lent.proofs.Sums.{ready_sizes, ready_rows, ready_drawing, ready_indexes, ready_totals}
-use Rattle.kernel_cycles.specs.Replacing.{and_one_lem, ReplacedIn}
+use Rattle.kernel_cycles.specs.Replacing.{and_one, ReplacedIn}
 use Rattle.kind_cut_face.specs.Cuts.{FaceCuts}
 use Rattle.kind_cut_face.proofs.Cuts.{new_line, new_outcome, sizes_in}
 
 -- the cycles at a span, and then a vertex alone
 pub lone_built : (cycles steps : List ℕ) (t : Spans) → Within cycles steps t → t.cycles.count < cycles_most → t.steps.count < steps_most → (v : ℕ)
-    → Built (cycles_at cycles steps t ++ one (lone v)) (and_one_lem cycles_most cycles t.cycles 0)
-    (record { cycles = t.cycles.count + 1; steps = t.steps.count + 1 }) (and_one_lem steps_most steps t.steps v)
+    → Built (cycles_at cycles steps t ++ one (lone v)) (and_one cycles_most cycles t.cycles 0)
+    (record { cycles = t.cycles.count + 1; steps = t.steps.count + 1 }) (and_one steps_most steps t.steps v)
 lone_built cycles steps t w hc hs v =
     let b = runs_built cycles steps t w (replicate {A = ℕ} 512 0) (replicate {A = ℕ} 2048 0)
     (length-replicate {A = ℕ} 512 0) (length-replicate {A = ℕ} 2048 0) _ _ refl refl in
@@ -121,7 +121,7 @@ module _ (a : Arrays) (t : Totals) (y : Ready a t) (f : ℕ) (p : Position) (b :
         more = record { cells = 1; cycles = 1; steps = 1; bends = 0 };
         less = record { cells = 0; cycles = 0; steps = 0; bends = 0 };
         passed = vertex_passed (sheet_of (held_by a)) f p b g;
-        new_is_lem = vertex_new (sheet_of (held_by a)) f p;
+        new_is = vertex_new (sheet_of (held_by a)) f p;
         change_is = vertex_more (sheet_of (held_by a)) f p;
         totals_are = ready_totals a t y;
         says = er;

@@ -9,7 +9,7 @@ use lib.ListN.{length, get_or, take}
 use Rattle.coordinate.specs.declared.Position.{Position}
 use Rattle.coordinate.specs.Bounds.{within}
 use Rattle.complex.specs.Lists.{all, total}
-use Rattle.complex.specs.Cells.{Figure, vertex, open_edge, closed_edge, face, Sheet, cell_at, is_vertex, is_open_lem, is_live_lem, start_of, end_of, bends_of}
+use Rattle.complex.specs.Cells.{Figure, vertex, open_edge, closed_edge, face, Sheet, cell_at, is_vertex, is_open, is_live, start_of, end_of, bends_of}
 use Rattle.complex.specs.Cells.{cycles_of as cyclesHeld, origin}
 use Rattle.complex.specs.Edits.{keep_ids, reshape, others}
 use Rattle.complex.specs.Sound.{steps_in, over}
@@ -41,7 +41,7 @@ use Rattle.answer.proofs.Asked.{sound_in, Asked, asked_six}
 use Rattle.rows_gone.proofs.Dropped.{live_below}
 use Rattle.ask_cut_edge.specs.Cuts.{EdgeCuts, OpenEnds, CutPlaced, vertex_place, no_cell, point_place, open_between}
 use Rattle.ask_cut_edge.proofs.Found.{own_figure, read_row}
-use Rattle.ask_cut_edge.proofs.Opened.{vertex_live_lem, open_figure, point_below, part_step, part_cells, first, second, parts_are, steps_after, steps_by, placed_read}
+use Rattle.ask_cut_edge.proofs.Opened.{vertex_live, open_figure, point_below, part_step, part_cells, first, second, parts_are, steps_after, steps_by, placed_read}
 use Rattle.ask_cut_edge.proofs.OpenAnswer.{uses_are, open_live, ends_found, asked, open_cuts}
 use Rattle.lent.specs.Arrays.{Arrays, shape_by, shape_at, position_in, held_by, rows_by, sound_arrays, Lengths}
 use Rattle.lent.proofs.Held.{held_sizes, held_indexes, positions_at_lem}
@@ -77,8 +77,8 @@ module _ (a : Arrays) (l : Lengths a) (w : T (sound_arrays a)) where
   x = held_indexes a l (rows_of a w)
 
   module _ (v row : ℕ) (er : row ≡ row_of v (take a.count a.ids)) (t : T (is_vertex (cell_at (sheet_of (held_by a)) v))) where
-    live : is_live_lem (cell_at (sheet_of (held_by a)) v) ≡ true
-    live = vertex_live_lem (cell_at (sheet_of (held_by a)) v) t
+    live : is_live (cell_at (sheet_of (held_by a)) v) ≡ true
+    live = vertex_live (cell_at (sheet_of (held_by a)) v) t
 
     below : row < a.count
     below = live_below d z s (rows_by a) x v row er live
@@ -97,7 +97,7 @@ module _ (a : Arrays) (l : Lengths a) (w : T (sound_arrays a)) where
         (position_in a.px a.py row) k
         ∙ ap vertex_place (sym c)
 
-  module _ (e : ℕ) (op : is_open_lem (cell_at (sheet_of (held_by a)) e) ≡ true) where
+  module _ (e : ℕ) (op : is_open (cell_at (sheet_of (held_by a)) e) ≡ true) where
     pub ends_are : T (is_vertex (cell_at (sheet_of (held_by a)) (start_of (cell_at (sheet_of (held_by a)) e))))
         × T (is_vertex (cell_at (sheet_of (held_by a)) (end_of (cell_at (sheet_of (held_by a)) e))))
     ends_are =
@@ -140,11 +140,11 @@ module _ (a : Arrays) (l : Lengths a) (w : T (sound_arrays a)) where
       sizes_are : sizes_by t ≡ sizes_of (sheet_of (held_by a)).cells
       sizes_are = ap sizes_by et ∙ totals_are_lem d z (sound_fits d s) (rows_by a) x
 
-      change_is_lem : change_of (sheet_of (held_by a)) (cut_edge e q)
+      change_is : change_of (sheet_of (held_by a)) (cut_edge e q)
           ≡ more_less (sized 2 0 (total (step_use e) (cycles_from (take t.cycles a.cycles) a.steps)) 0)
           (sized 0 0 0 (q % 2))
       unfolding change_of
-      change_is_lem =
+      change_is =
           ap (cut_change (uses_by (step_use e) (sheet_of d).cells) q) (open_figure (cell_at (sheet_of d) e) op)
           ∙ ap (λ (u : ℕ). more_less (sized 2 0 u 0) (sized 0 0 0 (q % 2))) (uses_are d z s (rows_by a) x t et e q op)
 
@@ -192,7 +192,7 @@ module _ (a : Arrays) (l : Lengths a) (w : T (sound_arrays a)) where
               let b1 = steps_by d z e row base m q cuts u f ends p ep cs in
               let b2 = steps_by d z e row base m q cuts u f ends p ep k in
               let sz = cut_edge_sizes (sheet_of d) (sound_in d s) e q (asked_six (sheet_of d) (cut_edge e q) pass.passed) ∙ after_is
-              ∙ ap (changed_by (sizes_of cs)) change_is_lem in
+              ∙ ap (changed_by (sizes_of cs)) change_is in
               let ss : over steps_in (result (sheet_of d) (cut_edge e q)).cells ≡ over steps_in cs + total (step_use e)
               (cycles_from (take t.cycles a.cycles) a.steps) - 0 = ap (λ (i : whole.SheetSizes). i.steps) sz in
               let st : t.steps ≡ over steps_in cs = ap (λ (i : whole.SheetSizes). i.steps) sizes_are in

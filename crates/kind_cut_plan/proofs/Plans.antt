@@ -9,7 +9,7 @@ use lib.ListN.{length, get_or, take}
 use borrow.Author.Tests.{ltb-true, ltb-false, leb-true, leb-false, ne_eqb}
 use Rattle.coordinate.specs.declared.Position.{Position}
 use Rattle.complex.specs.Lists.{total}
-use Rattle.complex.specs.Cells.{Figure, Sheet, cell_at, is_open_lem, is_closed, is_live_lem}
+use Rattle.complex.specs.Cells.{Figure, Sheet, cell_at, is_open, is_closed, is_live}
 use Rattle.complex.specs.Decode.{cut_edge}
 use Rattle.complex.specs.Commands.{question4}
 use Rattle.complex.specs.Answer.{no, asked3}
@@ -39,7 +39,7 @@ use Rattle.kind_cut_plan.proofs.OpenPlans as opens
 use Rattle.kind_cut_plan.proofs.RingPlans as rings
 
 -- ---- the kind of a cell
-edge_kind : (k : ℕ) (c : Option Figure) → eqb k 1 ≡ is_open_lem c → eqb k 2 ≡ is_closed c → (new_by k ≡ 0 → ⊥)
+edge_kind : (k : ℕ) (c : Option Figure) → eqb k 1 ≡ is_open c → eqb k 2 ≡ is_closed c → (new_by k ≡ 0 → ⊥)
     → (edge_on (eqb k 1) c ≡ true) × (new_by k ≡ new_on (eqb k 1))
 edge_kind zero c f g nz = absurd (nz refl)
 edge_kind (suc zero) c f g nz = (sym f, refl)
@@ -52,7 +52,7 @@ no_kind (suc zero) h = absurd (omega (arith, h))
 no_kind (suc (suc zero)) h = absurd (omega (arith, h))
 no_kind (suc (suc (suc k))) h = (ne_eqb (suc (suc (suc k))) 1 (λ z. omega (arith, z)), ne_eqb (suc (suc (suc k))) 2 (λ z. omega (arith, z)))
 
-no_edge : (s : Sheet) (e q : ℕ) → is_open_lem (cell_at s e) ≡ false → is_closed (cell_at s e) ≡ false → asked3 s (cut_edge e q) ≡ no 4 s
+no_edge : (s : Sheet) (e q : ℕ) → is_open (cell_at s e) ≡ false → is_closed (cell_at s e) ≡ false → asked3 s (cut_edge e q) ≡ no 4 s
 unfolding question4
 no_edge s e q a b = no_4 s (cut_edge e q) (cut_bytes e q) (ap₂ ◌||◌ a b)
 
@@ -75,7 +75,7 @@ module _ (a : Arrays) (t : Totals) (y : Ready a t) (e q : ℕ) where
   Is o = edge_on o (cell_at (sheet_of (held_by a)) e) ≡ true
 
   module _ (k : ℕ) (ek : k ≡ index_value 4 (held_by a) (rows_by a) a.kinds e) where
-    open_is : eqb k 1 ≡ is_open_lem (cell_at (sheet_of (held_by a)) e)
+    open_is : eqb k 1 ≡ is_open (cell_at (sheet_of (held_by a)) e)
     open_is = ap (λ (n : ℕ). eqb n 1) ek ∙ open_at (ready_looks a t y) e
 
     closed_is : eqb k 2 ≡ is_closed (cell_at (sheet_of (held_by a)) e)
@@ -115,7 +115,7 @@ module _ (a : Arrays) (t : Totals) (y : Ready a t) (e q : ℕ) where
         ),
       )
 
-  live : (o : Bool) → Is o → is_live_lem (cell_at (sheet_of (held_by a)) e) ≡ true
+  live : (o : Bool) → Is o → is_live (cell_at (sheet_of (held_by a)) e) ≡ true
   live true h = opened.open_live (held_by a) (ready_sizes a t y) (ready_drawing a t y) (rows_by a) (ready_indexes a t y) t (ready_totals a t y) e q h
   live false h = closed.closed_live (held_by a) (ready_sizes a t y) (ready_drawing a t y) e q h
 

@@ -3,7 +3,7 @@ use Rattle.std.specs.Prelude.{ℕ, zero, suc, ◌+◌, ◌/◌, ◌%◌, Bool, t
 use Rattle.std.proofs.Math.Option.{Option}
 use Rattle.coordinate.specs.declared.Position.{Position}
 use Rattle.complex.specs.Lists.{total}
-use Rattle.complex.specs.Cells.{Figure, is_open_lem, is_closed}
+use Rattle.complex.specs.Cells.{Figure, is_open, is_closed}
 use Rattle.complex.specs.Uses.{step_use}
 use Rattle.store.specs.Index.{row_of}
 use Rattle.store.specs.View.{cycles_from}
@@ -18,7 +18,7 @@ new_by (suc (suc zero)) = 2
 new_by (suc (suc (suc k))) = 0
 
 abbrev pub edge_on : Bool → Option Figure → Bool
-edge_on true = is_open_lem
+edge_on true = is_open
 edge_on false = is_closed
 
 abbrev pub new_on : Bool → ℕ

@@ -60,7 +60,7 @@ module _ (a : Arrays) (t : Totals) (y : Ready a t) (script : List ℕ) (f k firs
           less = less_of;
           passed = (round_passes (held_by a) (ready_sizes a t y) (ready_drawing a t y) (rows_by a) (ready_indexes a t y) script f k first
               (numbers_read script place moved) 0 e q refl).1.1;
-          new_is_lem = round_new (sheet_of (held_by a)) f (positions_at script first k) (numbers_read script place moved);
+          new_is = round_new (sheet_of (held_by a)) f (positions_at script first k) (numbers_read script place moved);
           change_is = round_more (sheet_of (held_by a)) f (positions_at script first k) (numbers_read script place moved) m
               (positions_length script first k ∙ sym em);
           totals_are = ready_totals a t y;
@@ -94,7 +94,7 @@ module _ (a : Arrays) (t : Totals) (y : Ready a t) (script : List ℕ) (f k firs
             stand = s;
             rise = p.1.0;
             cycle_room = omega (arith, o.0);
-            step_room_lem = omega (arith, o.1);
+            step_room = omega (arith, o.1);
             room =
                 room d (ready_sizes a t y) (ready_drawing a t y) (cut_face_closed f (positions_at script first k) (numbers_read script place moved)) r asked z
                 every_id _ _

@@ -52,7 +52,7 @@ spans_all counts cycles row t w s e =
     let x : c.first + c.count + c.rest ≡ t.cycles = span_sum 0 counts (row_span t.cells row)
     ∙ ap (λ (k : ℕ). total (places_of 0) (take k counts)) n ∙ sym w.cycle_sum in
     let y : (span_of 1 cycles c).first + (span_of 1 cycles c).count + (span_of 1 cycles c).rest ≡ t.steps = span_sum 1 cycles c
-    ∙ ap (λ (k : ℕ). total (places_of 1) (take k cycles)) x ∙ sym w.step_sum_lem in
+    ∙ ap (λ (k : ℕ). total (places_of 1) (take k cycles)) x ∙ sym w.step_sum in
     let all : Span → ℕ = λ (q : Span). q.first + q.count + q.rest in
     (ap (λ (q : Spans). all q.cycles) e ∙ x, ap (λ (q : Spans). all q.steps) e ∙ y)
 
@@ -92,7 +92,7 @@ module _ (a : Arrays) (t : Totals) (y : Ready a t) (script : List ℕ) (f k firs
             rise = g.1.1.1.1.0;
             id = g.1.1.1.1.1;
             cycle_room = omega (arith, n.0, ready_cycles a t y, r.cycle_room);
-            step_room_lem = omega (arith, n.1, ready_steps a t y, r.step_room_lem);
+            step_room = omega (arith, n.1, ready_steps a t y, r.step_room);
           }
 
       -- cs and ss have the cycles parted

@@ -9,7 +9,7 @@ use lib.Seq.{sets, length-sets, sets-eq, take_at, length-take-le}
 use Rattle.number.specs.Readers.{spread}
 use Rattle.complex.specs.Lists.{total}
 use Rattle.complex.specs.Cells.{Cycle, face}
-use Rattle.complex.specs.Sound.{step_count_lem}
+use Rattle.complex.specs.Sound.{step_count}
 use Rattle.complex.specs.Decode.{create, read_cycle}
 use Rattle.complex.proofs.Asked.{Passed}
 use Rattle.store.specs.Sheet.{all_real}
@@ -82,12 +82,12 @@ module _ (a : Arrays) (t : Totals) (r : Ready a t) (s : List ℕ) (first k : ℕ
         (face_refuses (held_by a) (ready_sizes a t r) (ready_drawing a t r) (rows_by a) (ready_indexes a t r) s first k stand n en z)
 
     -- m is what `count_cycle_steps` and q what `cell_no` answers
-    module _ (z : n ≡ 0) (w m q : ℕ) (ew : w ≡ k) (em : m ≡ min 2049 (total step_count_lem (cycles_read s first k)))
+    module _ (z : n ≡ 0) (w m q : ℕ) (ew : w ≡ k) (em : m ≡ min 2049 (total step_count (cycles_read s first k)))
         (eq : q ≡ late_no a.next 1 (changed_by (sizes_by t) (more_less (sized 1 w m 0) nothing))) where
       passed : Passed (sheet_of (held_by a)) (create (face (cycles_read s first k)))
       passed = face_passed (held_by a) (ready_sizes a t r) (ready_drawing a t r) (rows_by a) (ready_indexes a t r) s first k stand n en z
 
-      late : q ≡ late_no a.next 1 (changed_by (sizes_by t) (more_less (sized 1 (length ks) (total step_count_lem ks) 0) nothing))
+      late : q ≡ late_no a.next 1 (changed_by (sizes_by t) (more_less (sized 1 (length ks) (total step_count ks) 0) nothing))
       late = no_by_steps a.next t q w m ks (ew ∙ sym count) em eq
 
       pub obeyed_face_full : (q ≡ 0 → ⊥) → (x : Line) → x ≡ line_of q → Obeyed a (create (face (cycles_read s first k))) a x

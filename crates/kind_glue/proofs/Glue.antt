@@ -11,7 +11,7 @@ use lib.ListN.{length, get_or, take, set, replicate}
 use lib.Seq.{get_or-take}
 use borrow.Author.Tests.{eqb-true}
 use Rattle.complex.specs.Lists.{total}
-use Rattle.complex.specs.Cells.{Figure, Halfedge, vertex, open_edge, closed_edge, face, cell_at, is_live_lem, bends_of, cycles_of}
+use Rattle.complex.specs.Cells.{Figure, Halfedge, vertex, open_edge, closed_edge, face, cell_at, is_live, bends_of, cycles_of}
 use Rattle.complex.specs.Sound.{over, steps_in}
 use Rattle.complex.specs.Edits.{reshape, rewired, same_vertex, in_place_of}
 use Rattle.complex.specs.Decode.{Command}
@@ -83,7 +83,7 @@ module _ (a : Arrays) (t : Totals) (y : Ready a t) where
       (omega (arith, (ready_fits a t y).cells, y.long.bends), omega (arith, sum_le (places_of 0) a.bends i a.count h, (ready_summed a t y).bend_sum))
 
   -- ---- the row of b
-  module _ (b row : ℕ) (er : row ≡ row_of b (take a.count a.ids)) (live : is_live_lem (cell_at (sheet_of (held_by a)) b) ≡ true) where
+  module _ (b row : ℕ) (er : row ≡ row_of b (take a.count a.ids)) (live : is_live (cell_at (sheet_of (held_by a)) b) ≡ true) where
     pub row_below : row < a.count
     row_below = live_below (held_by a) (ready_sizes a t y) (ready_drawing a t y) (rows_by a) (ready_indexes a t y) b row er live
 

@@ -27,10 +27,10 @@ use Rattle.lent.proofs.Sums.{ready_sizes, ready_fits, ready_drawing, ready_index
 use Rattle.kind_uncut.specs.Found.{AsksIn, FoundIn}
 
 -- an edge of kind k with the uses x
-pub edge_in : (n : ℕ) (is ks ss es cs ns : List ℕ) (m : ℕ) (st : List ℕ) (i k : ℕ) → k ≡ value_at 4 (take n is) (take n ks) i → (k ≡ 0 → ⊥) → k ≤ 2
+pub edge_in_lem : (n : ℕ) (is ks ss es cs ns : List ℕ) (m : ℕ) (st : List ℕ) (i k : ℕ) → k ≡ value_at 4 (take n is) (take n ks) i → (k ≡ 0 → ⊥) → k ≤ 2
     → (x : Uses) → x ≡ uses_two (row_uses i (take n is) (take n cs) (cycles_from ns st))
     → (c : AtEdge) → EdgeSays c (cond (eqb k 2) (closed_case x) (open_case x)) → FoundIn n is ks ss es cs ns m st i (Edge c)
-edge_in n is ks ss es cs ns m st i k ek z h x ex c s =
+edge_in_lem n is ks ss es cs ns m st i k ek z h x ex c s =
     ((λ q. z (ek ∙ q), omega (arith, ek, h)), λ e. s e ∙ ap₂ (λ (j : ℕ) (y : Uses). cond (eqb j 2) (closed_case y) (open_case y) e) ek ex)
 
 module _ (a : Arrays) (t : Totals) (y : Ready a t) where

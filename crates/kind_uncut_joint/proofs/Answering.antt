@@ -11,8 +11,8 @@ use lib.Seq.{get_or-take}
 use borrow.Author.Tests.{eqb-true, eqb-false, eq-eqb, ltb-true, ltb-false}
 use Rattle.coordinate.specs.declared.Position.{Position}
 use Rattle.complex.specs.Lists.{total}
-use Rattle.complex.specs.Cells.{Figure, open_edge, Sheet, LiveCell, cell_at, is_live_lem, is_open_lem, bends_of, cycles_of as cyclesHeld, ids}
-use Rattle.complex.specs.Edits.{none_of_lem, reshape, rewired, same_vertex}
+use Rattle.complex.specs.Cells.{Figure, open_edge, Sheet, LiveCell, cell_at, is_live, is_open, bends_of, cycles_of as cyclesHeld, ids}
+use Rattle.complex.specs.Edits.{none_of, reshape, rewired, same_vertex}
 use Rattle.complex.specs.Uncut.{joint, in_one, uncut_case}
 use Rattle.complex.specs.Sound.{ids_end}
 use Rattle.complex.specs.Decode.{uncut}
@@ -49,7 +49,7 @@ use Rattle.ask_uncut_vertex.specs.declared.Side.{Side}
 use Rattle.ask_uncut_vertex.specs.Needs.{Merged, leaving, Sided, joint_runs, Joint}
 use Rattle.ask_uncut_vertex.proofs.Told.{AtJoint, joint_told}
 use Rattle.ask_uncut_vertex.proofs.Dropping.{three_left}
-use Rattle.ask_uncut_vertex.proofs.Answering.{new_outcome, sided, at_first, at_second, joint_made, joint_needs, joint_asked, joint_meets}
+use Rattle.ask_uncut_vertex.proofs.Answering.{new_outcome, sided, at_first_lem, at_second_lem, joint_made, joint_needs, joint_asked, joint_meets}
 use Rattle.lent.specs.Arrays.{Arrays, position_in, positions_in, shape_by, shape_at, held_by, rows_by}
 use Rattle.lent.proofs.Held.{held_sizes}
 use Rattle.lent.proofs.Sums.{ready_rows, ready_drawing, ready_sheet}
@@ -94,12 +94,12 @@ three_of a s u true back2 bare t es eu ne h b c = record { one = es; two = eu; a
 three_of a s u false back2 bare t es eu ne h b c = record { one = eu; two = es; apart = λ q. ne (sym q); bare_in = h; bare_bends = b; bare_cycles = c }
 
 -- the id of a live cell is below the next
-live_before : (s : Sheet) → Sound s → (i : ℕ) → is_live_lem (cell_at s i) ≡ true → i < s.next
+live_before : (s : Sheet) → Sound s → (i : ℕ) → is_live (cell_at s i) ≡ true → i < s.next
 live_before s S i l = go (ltb i s.next) refl
   where
     go : (b : Bool) → ltb i s.next ≡ b → i < s.next
     go true e = ltb-true i s.next e
-    go false e = absurd (false≢true (sym (ap is_live_lem (lookup_from 0 s.cells s.next i S.rises (ltb-false i s.next e))) ∙ l))
+    go false e = absurd (false≢true (sym (ap is_live (lookup_from 0 s.cells s.next i S.rises (ltb-false i s.next e))) ∙ l))
 
 module _ (a : Arrays) (t : Totals) (r : Ready a t) (v x : ℕ) (back1 : Bool) (y : ℕ) (back2 : Bool)
     (h : uncut_case (sheet_of (held_by a)) v ≡ joint (leaving x back1) (leaving y back2)) where
@@ -109,7 +109,7 @@ module _ (a : Arrays) (t : Totals) (r : Ready a t) (v x : ℕ) (back1 : Bool) (y
   tells : AtJoint (sheet_of (held_by a)) v (leaving x back1) (leaving y back2)
   tells = joint_told (sheet_of (held_by a)) (sound_in (held_by a) (ready_drawing a t r)) v (leaving x back1) (leaving y back2) h
 
-  opens : T (is_open_lem (cell_at (sheet_of (held_by a)) x)) × T (is_open_lem (cell_at (sheet_of (held_by a)) y))
+  opens : T (is_open (cell_at (sheet_of (held_by a)) x)) × T (is_open (cell_at (sheet_of (held_by a)) y))
   opens =
       let m = tells in
       let e = real_ends (sheet_of (held_by a)) (sound_in (held_by a) (ready_drawing a t r)) v m.place m.at (leaving x back1) (leaving y back2) m.ends
@@ -130,19 +130,19 @@ module _ (a : Arrays) (t : Totals) (r : Ready a t) (v x : ℕ) (back1 : Bool) (y
       meets : Joint (held_by a) (rows_by a) v x back1 y back2
       meets = joint_meets (held_by a) (ready_sizes a t r) (ready_drawing a t r) v x back1 y back2 h no asks yes (rows_by a) (ready_indexes a t r)
 
-      live1 : is_live_lem (cell_at (sheet_of (held_by a)) x) ≡ true
-      live1 = at_first (held_by a) (ready_sizes a t r) (rows_by a) v x back1 y back2 meets
+      live1 : is_live (cell_at (sheet_of (held_by a)) x) ≡ true
+      live1 = at_first_lem (held_by a) (ready_sizes a t r) (rows_by a) v x back1 y back2 meets
 
-      live2 : is_live_lem (cell_at (sheet_of (held_by a)) y) ≡ true
-      live2 = at_second (held_by a) (ready_sizes a t r) (rows_by a) v x back1 y back2 meets
+      live2 : is_live (cell_at (sheet_of (held_by a)) y) ≡ true
+      live2 = at_second_lem (held_by a) (ready_sizes a t r) (rows_by a) v x back1 y back2 meets
 
-      live0 : is_live_lem (cell_at (sheet_of (held_by a)) v) ≡ true
-      live0 = ap is_live_lem tells.at
+      live0 : is_live (cell_at (sheet_of (held_by a)) v) ≡ true
+      live0 = ap is_live tells.at
 
       pub vertex_row : (row : ℕ) → row ≡ row_of v (take a.count a.ids) → row < 256
       vertex_row row e = row_below (held_by a) (ready_sizes a t r) (ready_drawing a t r) (rows_by a) (ready_indexes a t r) v row e live0
 
-      side_asks : (e : ℕ) → is_live_lem (cell_at (sheet_of (held_by a)) e) ≡ true → (a.count ≤ 256) × ((length a.ids ≡ 256) × (Rising (take a.count a.ids)
+      side_asks : (e : ℕ) → is_live (cell_at (sheet_of (held_by a)) e) ≡ true → (a.count ≤ 256) × ((length a.ids ≡ 256) × (Rising (take a.count a.ids)
           × ((row_of e (take a.count a.ids) < 256)
           × ((total (places_of 0) (take (row_of e (take a.count a.ids)) a.bends) ≤ 2048) × (length a.bends ≡ 256)))))
       side_asks e l =
@@ -172,14 +172,14 @@ module _ (a : Arrays) (t : Totals) (r : Ready a t) (v x : ℕ) (back1 : Bool) (y
       second_asks = side_asks y live2
 
       -- an edge's row
-      side_is : (e : ℕ) → is_live_lem (cell_at (sheet_of (held_by a)) e) ≡ true → (back : Bool) (s : Side)
+      side_is : (e : ℕ) → is_live (cell_at (sheet_of (held_by a)) e) ≡ true → (back : Bool) (s : Side)
           → s ≡ side_from (row_of e (take a.count a.ids)) a.starts a.ends a.bends back → Sided (held_by a) e back s
       side_is e l back s es =
           subst (Sided (held_by a) e back) (sym es)
           (sided (held_by a) (ready_sizes a t r) (ready_drawing a t r) (rows_by a) (ready_indexes a t r) e
           (row_of e (take a.count a.ids)) refl l back _ _ _ refl refl refl)
 
-      edge_row : (e : ℕ) → is_live_lem (cell_at (sheet_of (held_by a)) e) ≡ true → T (is_open_lem (cell_at (sheet_of (held_by a)) e)) → (back : Bool) (s : Side)
+      edge_row : (e : ℕ) → is_live (cell_at (sheet_of (held_by a)) e) ≡ true → T (is_open (cell_at (sheet_of (held_by a)) e)) → (back : Bool) (s : Side)
           → s ≡ side_from (row_of e (take a.count a.ids)) a.starts a.ends a.bends back
           → EdgeRow a s.row s.first s.count t.bends
       edge_row e l op back s es =
@@ -292,7 +292,7 @@ module _ (a : Arrays) (t : Totals) (r : Ready a t) (v x : ℕ) (back1 : Bool) (y
                 bare_cycles = k.bare_cycles;
               }
 
-          left : left_of (with_pools a cy st) (order_of s back1 u back2) row ≡ remade (none_of_lem v x y) step (sheet_of (held_by a))
+          left : left_of (with_pools a cy st) (order_of s back1 u back2) row ≡ remade (none_of v x y) step (sheet_of (held_by a))
           left =
               three_left (held_by a) (ready_sizes a t r) v row x s.row y u.row need.triple step (held_by mid) (held_sizes mid g.long) g.fits
               (g.sheet ∙ ap (λ (n : ℕ). with_entries (sheet_of (held_by a)) (reshape (rewired same_vertex (in_one x y n)) (sheet_of (held_by a)).cells))

@@ -8,7 +8,7 @@ use lib.Dec.{T, leb, leb→le}
 use lib.ListN.{length, get_or, take}
 use Rattle.coordinate.specs.declared.Position.{Position}
 use Rattle.complex.specs.Lists.{total}
-use Rattle.complex.specs.Cells.{Figure, vertex, open_edge, closed_edge, face, cell_at, is_live_lem, is_open_lem, is_vertex, bends_of, cycles_of}
+use Rattle.complex.specs.Cells.{Figure, vertex, open_edge, closed_edge, face, cell_at, is_live, is_open, is_vertex, bends_of, cycles_of}
 use Rattle.complex.specs.Sound.{ids_end, cells_most, cycles_most, steps_most, bends_most}
 use Rattle.complex.specs.Decode.{uncut}
 use Rattle.complex.specs.Uncut.{loop, uncut_case}
@@ -36,7 +36,7 @@ use Rattle.kind_uncut_loop.specs.Uncutting.{LoopGoes}
 
 -- the row of a cell that is there
 pub live_row : (a : Arrays) (t : Totals) → Ready a t → (i row : ℕ) → row ≡ row_of i (take a.count a.ids)
-    → is_live_lem (cell_at (sheet_of (held_by a)) i) ≡ true → row < 256
+    → is_live (cell_at (sheet_of (held_by a)) i) ≡ true → row < 256
 live_row a t r i row e h = row_below (held_by a) (ready_sizes a t r) (ready_drawing a t r) (rows_by a) (ready_indexes a t r) i row e h
 
 -- questions 7 and 8 got a yes: the bends keep their ceiling
@@ -52,7 +52,7 @@ late_bends next new z = go (leb (next + new) ids_end) (sizes_fit z) refl
     go true false q e = absurd (omega (arith, e))
     go false k q e = absurd (omega (arith, e))
 
-open_bare : (o : Option Figure) → T (is_open_lem o) → length (cycles_of o) ≡ 0
+open_bare : (o : Option Figure) → T (is_open o) → length (cycles_of o) ≡ 0
 open_bare none t = absurd t
 open_bare (some (vertex p)) t = absurd t
 open_bare (some (open_edge a b bs)) t = refl
@@ -86,10 +86,10 @@ module _ (a : Arrays) (t : Totals) (y : Ready a t) (v e : ℕ) (h : uncut_case (
           let x = ready_indexes a t y in
           let k = ready_looks a t y in
           record {
-            below = live_below d z s (rows_by a) x v rv ev told.vertex_live;
-            bends = read_row d z s (rows_by a) x v rv ev told.vertex_live a.bends ∙ k.bends v ∙ ap (λ (o : Option Figure). length (bends_of o)) told.at;
+            below = live_below d z s (rows_by a) x v rv ev told.vertex_live_lem;
+            bends = read_row d z s (rows_by a) x v rv ev told.vertex_live_lem a.bends ∙ k.bends v ∙ ap (λ (o : Option Figure). length (bends_of o)) told.at;
             cycles =
-                read_row d z s (rows_by a) x v rv ev told.vertex_live a.counts ∙ k.cycles v ∙ ap (λ (o : Option Figure). length (cycles_of o)) told.at;
+                read_row d z s (rows_by a) x v rv ev told.vertex_live_lem a.counts ∙ k.cycles v ∙ ap (λ (o : Option Figure). length (cycles_of o)) told.at;
           }
 
       edge : EdgeRow a re base m t.bends

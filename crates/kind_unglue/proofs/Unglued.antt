@@ -9,7 +9,7 @@ use lib.Dec.{T, eqb, ltb}
 use lib.ListN.{get_or, take}
 use lib.Seq.{get_or-take}
 use Rattle.complex.specs.Lists.{total}
-use Rattle.complex.specs.Cells.{Figure, Sheet, cell_at, is_vertex, is_open_lem, is_closed, is_live_lem}
+use Rattle.complex.specs.Cells.{Figure, Sheet, cell_at, is_vertex, is_open, is_closed, is_live}
 use Rattle.complex.specs.Decode.{unglue}
 use Rattle.complex.specs.Commands.{question4}
 use Rattle.complex.specs.Answer.{no, asked3}
@@ -37,11 +37,11 @@ use Rattle.kernel_copies.specs.Copies.{UsesCopied, CopiesCome}
 use Rattle.kernel_copies.proofs.Answering.{obeyed_refused, obeyed_more}
 
 -- ---- by the number k of the kind
-no_uses_lem : (s : Sheet) (i : ℕ) → is_vertex (cell_at s i) ≡ false → is_open_lem (cell_at s i) ≡ false → is_closed (cell_at s i) ≡ false → asked3 s (unglue i) ≡ no 4 s
+no_uses_lem : (s : Sheet) (i : ℕ) → is_vertex (cell_at s i) ≡ false → is_open (cell_at s i) ≡ false → is_closed (cell_at s i) ≡ false → asked3 s (unglue i) ≡ no 4 s
 unfolding question4
 no_uses_lem s i a b c = no_4 s (unglue i) (early_none (unglue i) refl) (ap₂ ◌||◌ a (ap₂ ◌||◌ b c))
 
-uses_by_lem : (k : ℕ) (o : Option Figure) → (k ≡ 0 → ⊥) → k ≤ 2 → eqb k 1 ≡ is_open_lem o → eqb k 2 ≡ is_closed o
+uses_by_lem : (k : ℕ) (o : Option Figure) → (k ≡ 0 → ⊥) → k ≤ 2 → eqb k 1 ≡ is_open o → eqb k 2 ≡ is_closed o
     → (u : Use) → u ≡ cond (eqb k 1) Step Ring → T (has_uses u o)
 uses_by_lem zero o n h a b u e = absurd (n refl)
 uses_by_lem (suc zero) o n h a b u e = subst (λ (x : Use). T (has_uses x o)) (sym e) (truth (sym a))
@@ -66,7 +66,7 @@ module _ (a : Arrays) (t : Totals) (r : Ready a t) (i k : ℕ) (e : k ≡ index_
       uses_by_lem k (cell_at (sheet_of (held_by a)) i) n h (ap (λ (m : ℕ). eqb m 1) e ∙ open_at L i) (ap (λ (m : ℕ). eqb m 2) e ∙ closed_at L i)
 
 -- an edge that has uses is live
-uses_live : (u : Use) (o : Option Figure) → T (has_uses u o) → is_live_lem o ≡ true
+uses_live : (u : Use) (o : Option Figure) → T (has_uses u o) → is_live o ≡ true
 uses_live Step none h = absurd h
 uses_live Step (some f) h = refl
 uses_live Ring none h = absurd h

@@ -92,8 +92,8 @@ module _ (d : Drawing) (z : Sizes d) (ix : Index) (script : List ℕ) (f bends f
   abbrev edge : Figure
   edge = closed_edge (positions_at script first bends)
 
-  abbrev both_cells_lem : List Figure
-  both_cells_lem = edge ∷ face new_list ∷ []
+  abbrev both_cells : List Figure
+  both_cells = edge ∷ face new_list ∷ []
 
   module _ (t : Spans) (s : Spanned d f t) where
     own_length : t.cycles.count ≡ length ks
@@ -106,7 +106,7 @@ module _ (d : Drawing) (z : Sizes d) (ix : Index) (script : List ℕ) (f bends f
         let a = s.few_cycles in
         let b = s.few_steps in
         let c = r.cycle_room in
-        let e = r.step_room_lem in
+        let e = r.step_room in
         (s.within, (omega arith, (omega arith, (r.stand, (ap (places 0 ms) own_length ∙ r.rise, next_in_lem d r.sound)))))
 
     pub old_list_lem : (counts : List ℕ) (u : Used) (steps : List ℕ) → Built (stayed ms (cycles_at d.cycles d.steps t) d.next) counts u steps
@@ -120,24 +120,24 @@ module _ (d : Drawing) (z : Sizes d) (ix : Index) (script : List ℕ) (f bends f
   -- the old face's cycles
   module _ (counts : List ℕ) (u : Used) (steps : List ℕ) (e : built counts u steps ≡ old_list) where
     pub round_room : Roomy (recycled (sheet_of d) f (built counts u steps))
-    round_room = room_listed d z ix f r.named old_list both_cells_lem r.room counts u steps e
+    round_room = room_listed d z ix f r.named old_list both_cells r.room counts u steps e
 
     module _ (a : Drawing) (ea : sheet_of a ≡ recycled (sheet_of d) f (built counts u steps)) where
       ea_old : sheet_of a ≡ recycled (sheet_of d) f old_list
-      ea_old = sheet_listed d z ix f r.named old_list both_cells_lem r.room counts u steps e (sheet_of a) ea
+      ea_old = sheet_listed d z ix f r.named old_list both_cells r.room counts u steps e (sheet_of a) ea
 
       pub edge_room : Sizes a → Fits a → BytesRoom a script first bends edge
-      edge_room za fa = record { room = first_room d z ix f r.named old_list both_cells_lem r.room edge (face new_list) refl a ea_old za fa; range = r.bytes }
+      edge_room za fa = record { room = first_room d z ix f r.named old_list both_cells r.room edge (face new_list) refl a ea_old za fa; range = r.bytes }
 
       -- the new face's
       module _ (b : Drawing) (eb : sheet_of b ≡ appended (sheet_of a) edge) (ls : List Cycle) (el : ls ≡ new_list) where
         pub face_room : Sizes b → Fits b → CellRoom b (face ls)
         face_room zb fb = subst (λ (l : List Cycle). CellRoom b (face l)) (sym el)
-            (second_room d z ix f r.named old_list both_cells_lem r.room edge (face new_list) refl a ea_old b eb zb fb)
+            (second_room d z ix f r.named old_list both_cells r.room edge (face new_list) refl a ea_old b eb zb fb)
 
         pub round_done : (s : Sheet) → s ≡ appended (sheet_of b) (face ls) → s ≡ face_cut_round (sheet_of d) f (positions_at script first bends) ms
         unfolding face_cut_round
-        round_done s g = both_done d z ix f r.named old_list both_cells_lem r.room edge (face new_list) refl a ea_old b eb s
+        round_done s g = both_done d z ix f r.named old_list both_cells r.room edge (face new_list) refl a ea_old b eb s
             (g ∙ ap (λ (l : List Cycle). appended (sheet_of b) (face l)) el)
 
 -- ---- the questions

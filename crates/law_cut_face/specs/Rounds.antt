@@ -31,7 +31,7 @@ pub record RoundCut (d : Drawing) (ix : Index) (script : List ℕ) (f bends firs
   pub stand : Stand read_number script place moved
   pub rise : places 0 (numbers_read script place moved) (length (cycles_of (cell_at (sheet_of d) f))) ≡ true
   pub cycle_room : cycle_total d + 2 ≤ cycles_most
-  pub step_room_lem : step_total d + 2 ≤ steps_most
+  pub step_room : step_total d + 2 ≤ steps_most
   pub room : RoomIn (recycled (sheet_of d) f (stayed (numbers_read script place moved) (cycles_of (cell_at (sheet_of d) f)) (sheet_of d).next))
       (closed_edge (positions_at script first bends)
       ∷ face (left (numbers_read script place moved) (cycles_of (cell_at (sheet_of d) f)) (sheet_of d).next) ∷ [])

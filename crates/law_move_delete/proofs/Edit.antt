@@ -12,7 +12,7 @@ use borrow.Author.Tests.{eq-eqb, ne_eqb}
 use Rattle.coordinate.specs.declared.Position.{Position}
 use Rattle.coordinate.specs.Bounds.{within}
 use Rattle.complex.specs.Lists.{rising, cons_if, filter}
-use Rattle.complex.specs.Cells.{Figure, vertex, LiveCell, ids, lookup, some_if, cell_at, is_vertex, is_live_lem}
+use Rattle.complex.specs.Cells.{Figure, vertex, LiveCell, ids, lookup, some_if, cell_at, is_vertex, is_live}
 use Rattle.complex.specs.Boundary.{bounds, bounds_at, rests}
 use Rattle.complex.specs.Sound.{ceilings}
 use Rattle.complex.specs.Decode.{Command, move, delete}
@@ -134,7 +134,7 @@ same_chosen p q lo (c ∷ cs) hi t h =
         → some_if (eqb c.id y.id) c.figure (lookup cs y.id) ≡ some y.figure
     later y e t true q =
         let g = eqb→eq c.id y.id (truth q) in
-        absurd (subst (λ (o : Option Figure). T (is_live_lem o)) (sym e ∙ lookup_upto c.id cs hi y.id t (omega arith)) tt)
+        absurd (subst (λ (o : Option Figure). T (is_live o)) (sym e ∙ lookup_upto c.id cs hi y.id t (omega arith)) tt)
     later y e t false q = ap (λ (u : Bool). some_if u c.figure (lookup cs y.id)) q ∙ e
 
 module _ (i : ℕ) (q : LiveCell → Bool) where
@@ -172,11 +172,11 @@ kept_chosen h (c ∷ cs) = go (h c) (kept_chosen h cs)
     go false e = ap (λ (l : List LiveCell). c ∷ l) e
 
 module _ (d : Drawing) (i : ℕ) where
-  pub delete_passed : is_live_lem (cell_at (sheet_of d) i) ≡ true → Passed (sheet_of d) (delete i)
+  pub delete_passed : is_live (cell_at (sheet_of d) i) ≡ true → Passed (sheet_of d) (delete i)
   unfolding question4 question5 question6
   delete_passed e = record { bytes = early_none (delete i) refl; four = e; five = refl; six = refl }
 
-  pub delete_four : is_live_lem (cell_at (sheet_of d) i) ≡ false → question4 (sheet_of d) (delete i) ≡ false
+  pub delete_four : is_live (cell_at (sheet_of d) i) ≡ false → question4 (sheet_of d) (delete i) ≡ false
   unfolding question4
   delete_four e = e
 
@@ -192,7 +192,7 @@ module _ (d : Drawing) (z : Sizes d) (w : T (sound_drawing d)) (ix : Index) (x :
   sheet_sound : Sound (sheet_of d)
   sheet_sound = sound_parts (sheet_of d) (sound_sheet_lem d w)
 
-  pub delete_live : (row : ℕ) → row ≡ row_of i (take d.count ix.ids) → ltb row d.count ≡ is_live_lem (cell_at (sheet_of d) i)
+  pub delete_live : (row : ℕ) → row ≡ row_of i (take d.count ix.ids) → ltb row d.count ≡ is_live (cell_at (sheet_of d) i)
   delete_live row e = ap (λ (r : ℕ). ltb r d.count) e ∙ live_row d z (sound_fits d w) ix x i
 
   -- of a sound drawing a cell rests on i if its boundary holds i

@@ -113,7 +113,7 @@ module _ (d : Drawing) (z : Sizes d) (w : T (sound_drawing d)) (ix : Index) (x :
           more = totals_of change.more;
           less = totals_of change.less;
           passed = uncut_passed (sheet_of d) e k h a;
-          new_is_lem = uncut_new (sheet_of d) e k h ∙ n;
+          new_is = uncut_new (sheet_of d) e k h ∙ n;
           change_is = uncut_change_lem (sheet_of d) e k h;
           totals_are = refl;
           says = q;

@@ -9,7 +9,7 @@ use borrow.Author.Tests.{eq-eqb}
 use lib.Dec.{T, eqb}
 use lib.ListN.{length, get_or, set}
 use Rattle.complex.specs.Lists.{one, without}
-use Rattle.complex.specs.Cells.{Cycle, Figure, face, LiveCell, Sheet, some_if, lookup, cell_at, cycles_of, steps_of, head_of, is_edge, is_live_lem}
+use Rattle.complex.specs.Cells.{Cycle, Figure, face, LiveCell, Sheet, some_if, lookup, cell_at, cycles_of, steps_of, head_of, is_edge, is_live}
 use Rattle.complex.specs.Edits.{others, neither, replaced, rebuild}
 use Rattle.complex.specs.Sound.{cycles_in, steps_in, over}
 use Rattle.complex.specs.Cut.{no_cycle, stretch}
@@ -39,7 +39,7 @@ use Rattle.ask_uncut_uses.specs.declared.Between.{Between}
 use Rattle.ask_uncut_uses.specs.declared.Between.TheVariants.{TwoFaces, OneCycle, Rings}
 use Rattle.ask_uncut_uses.specs.Uses.{use_at, case_of}
 use Rattle.law_uncut_edge.specs.Needs.{head_by, left_cycles, gone_with, Case, Takes, Has, CycleFound, Going}
-use Rattle.law_uncut_edge.proofs.Told.{Alike, Pair, told_pair, edge_in, face_of_lem, cycle_of_lem, some_of, stays_with}
+use Rattle.law_uncut_edge.proofs.Told.{Alike, Pair, told_pair, edge_in_lem, face_of_lem, cycle_of, some_of, stays_with}
 use Rattle.law_uncut_edge.proofs.Finding.{found_steps, head_is}
 
 -- ---- where there is room for the cycles of a sheet, there is room for those of a face
@@ -71,7 +71,7 @@ module _ (d : Drawing) (z : Sizes d) (ix : Index) (e : ℕ) (w : T (sound_drawin
   has =
       record {
         named = named_in d z w ix x u.face (face_of_lem (sheet_of d) e t (use_at e u) p);
-        cycle = cycle_of_lem (sheet_of d) e t (use_at e u) p;
+        cycle = cycle_of (sheet_of d) e t (use_at e u) p;
         some = some_of (sheet_of d) e t (use_at e u) p;
       }
 
@@ -133,8 +133,8 @@ module _ (d : Drawing) (z : Sizes d) (ix : Index) (e : ℕ) (k : Between) (u w :
         record {
           sound = c.sound;
           index = c.index;
-          first = edge_in (sheet_of d) e pair.edge;
-          second = subst (λ (i : ℕ). is_live_lem (cell_at (sheet_of d) i) ≡ true) (sym ej) pair.goes;
+          first = edge_in_lem (sheet_of d) e pair.edge;
+          second = subst (λ (i : ℕ). is_live (cell_at (sheet_of d) i) ≡ true) (sym ej) pair.goes;
           building = b.building;
           stays = subst (λ (i : ℕ). neither e i u.face ≡ true) (sym ej) stays;
           room = subst Roomy (sym left_result) c.room;

@@ -8,7 +8,7 @@ use native.Mathlib.Omega.{arith}
 use borrow.Author.Tests.{ne_eqb}
 use lib.Dec.{T}
 use lib.ListN.{length, get_or}
-use Rattle.complex.specs.Cells.{Figure, vertex, open_edge, closed_edge, face, Sheet, cell_at, cycles_of, steps_of, is_edge, is_face, is_live_lem}
+use Rattle.complex.specs.Cells.{Figure, vertex, open_edge, closed_edge, face, Sheet, cell_at, cycles_of, steps_of, is_edge, is_face, is_live}
 use Rattle.complex.specs.Edits.{neither}
 use Rattle.complex.specs.Uses.{Use as Used, uses_of}
 use Rattle.complex.specs.Cut.{no_cycle}
@@ -16,7 +16,7 @@ use Rattle.complex.specs.Uncut.{Uncut, refused, lonely, loop, joint, two_faces, 
 use Rattle.complex.proofs.Bools.{truth}
 use Rattle.complex.proofs.Keep.{Sound}
 use Rattle.complex.proofs.UncutFaces.{Placed, real_u, real_w, placed_use}
-use Rattle.complex.proofs.Uncut.{Holds, is_lonely, is_loop, is_joint, is_two, is_one, is_rings, uncut_holds}
+use Rattle.complex.proofs.Uncut.{Holds, is_lonely, is_loop, is_joint, is_two, is_one_lem, is_rings, uncut_holds}
 use Rattle.law_uncut.proofs.Passing.{uncut_passed}
 use Rattle.ask_uncut_uses.specs.declared.Between.{Between}
 use Rattle.ask_uncut_uses.specs.declared.Between.TheVariants.{TwoFaces, OneCycle, Rings}
@@ -24,9 +24,9 @@ use Rattle.ask_uncut_uses.specs.Uses.{case_of}
 use Rattle.law_uncut_edge.specs.Needs.{gone_with}
 
 -- ---- the cells
-edge_live_lem : (o : Option Figure) → T (is_edge o) → is_live_lem o ≡ true
-edge_live_lem none t = absurd t
-edge_live_lem (some x) t = refl
+edge_live : (o : Option Figure) → T (is_edge o) → is_live o ≡ true
+edge_live none t = absurd t
+edge_live (some x) t = refl
 
 edge_no_face : (o : Option Figure) → T (is_edge o) → is_face o ≡ true → ⊥
 edge_no_face none t e = t
@@ -36,18 +36,18 @@ edge_no_face (some (closed_edge bs)) t e = false≢true e
 edge_no_face (some (face ks)) t e = t
 
 module _ (s : Sheet) (e : ℕ) (t : T (is_edge (cell_at s e))) where
-  pub edge_in : is_live_lem (cell_at s e) ≡ true
-  edge_in = edge_live_lem (cell_at s e) t
+  pub edge_in_lem : is_live (cell_at s e) ≡ true
+  edge_in_lem = edge_live (cell_at s e) t
 
   module _ (u : Used) (p : Placed (cell_at s) e u) where
     pub face_of_lem : is_face (cell_at s u.face) ≡ true
     face_of_lem = ap is_face p.0
 
-    pub face_in : is_live_lem (cell_at s u.face) ≡ true
-    face_in = ap is_live_lem p.0
+    pub face_in : is_live (cell_at s u.face) ≡ true
+    face_in = ap is_live p.0
 
-    pub cycle_of_lem : u.cycle < length (cycles_of (cell_at s u.face))
-    cycle_of_lem = p.1
+    pub cycle_of : u.cycle < length (cycles_of (cell_at s u.face))
+    cycle_of = p.1
 
     pub some_of : 1 ≤ length (steps_of (get_or (cycles_of (cell_at s u.face)) u.cycle no_cycle))
     some_of = let l = p.2 in omega arith
@@ -72,7 +72,7 @@ pub record Pair (s : Sheet) (e : ℕ) (k : Between) (u w : Used) : Type 0 where
   pub second : Placed (cell_at s) e w
   pub alike : Alike k u w
   pub apart : gone_with k e w.face ≡ u.face → ⊥
-  pub goes : is_live_lem (cell_at s (gone_with k e w.face)) ≡ true
+  pub goes : is_live (cell_at s (gone_with k e w.face)) ≡ true
 
 abbrev Told : Sheet → ℕ → Uncut → Type 0
 Told s e refused = Unit {0}
@@ -101,9 +101,9 @@ holds_told s S e k (is_lonely p at x n) = tt
 holds_told s S e k (is_loop p at x y q n t z) = tt
 holds_told s S e k (is_joint p at x y q n t z) = tt
 holds_told s S e k (is_two a b bs at u w q t n) = apart_pair s S e (rw at tt) u w q n
-holds_told s S e k (is_one a b bs at u w ru rw' L t ef ec) =
+holds_told s S e k (is_one_lem a b bs at u w ru rw' L t ef ec) =
     let E : T (is_edge (cell_at s e)) = rw at tt in
-    record { edge = E; first = ru; second = rw'; alike = (ef, ec); apart = other_cell s e E u ru; goes = edge_in s e E }
+    record { edge = E; first = ru; second = rw'; alike = (ef, ec); apart = other_cell s e E u ru; goes = edge_in_lem s e E }
 holds_told s S e k (is_rings bs at u w q t n) =
     let p = apart_pair s S e (rw at tt) u w q n in
     record { edge = p.edge; first = p.first; second = p.second; alike = tt; apart = p.apart; goes = p.goes }

@@ -1,7 +1,7 @@
 -- 0E at an edge: its uses, what the results need of a drawing, and the cycles of the face that stays. Definitions only.
 use Rattle.std.specs.Prelude.{ℕ, ◌≤◌, ◌<◌, ◌≡◌, Bool, true, cond, List, [], ◌++◌, T, length, get_or, take}
 use Rattle.complex.specs.Lists.{one}
-use Rattle.complex.specs.Cells.{Cycle, face, Sheet, Look, cell_at, cycles_of, steps_of, is_live_lem, is_face}
+use Rattle.complex.specs.Cells.{Cycle, face, Sheet, Look, cell_at, cycles_of, steps_of, is_live, is_face}
 use Rattle.complex.specs.Sound.{cycles_in, steps_in, over}
 use Rattle.complex.specs.Edits.{neither, replaced, cycle_replaced, without_cycle, rebuild}
 use Rattle.complex.specs.Uses.{Use as Used}
@@ -17,7 +17,7 @@ use Rattle.rows_spans.specs.Building.{Building, built}
 use Rattle.rows_corners.specs.Faces.{Named, Roomy}
 use Rattle.answer.specs.declared.Totals.{Totals}
 use Rattle.rows_stretches.specs.declared.Place.{Place}
-use Rattle.rows_stretches.specs.Paths.{Lies, list_at_lem}
+use Rattle.rows_stretches.specs.Paths.{Lies, list_at}
 use Rattle.ask_uncut_uses.specs.declared.Between.{Between}
 use Rattle.ask_uncut_uses.specs.declared.Between.TheVariants.{TwoFaces, OneCycle, Rings}
 
@@ -76,14 +76,14 @@ pub record Has (d : Drawing) (ix : Index) (f c : ℕ) : Type 0 where
 pub record CycleFound (d : Drawing) (f c : ℕ) (p : Place) : Type 0 where
   pub lies : Lies d.cycles d.steps p
   pub cycle : p.cycle ≡ c
-  pub list : list_at_lem d.cycles d.steps p ≡ cycles_of (cell_at (sheet_of d) f)
+  pub list : list_at d.cycles d.steps p ≡ cycles_of (cell_at (sheet_of d) f)
 
 -- the cells i and j go; the face f stays, and there is room for the cycles of a list
 pub record Going (d : Drawing) (ix : Index) (i j f : ℕ) (counts : List ℕ) (u : Taken) (steps : List ℕ) : Type 0 where
   pub sound : T (sound_drawing d)
   pub index : Indexes d ix
-  pub first : is_live_lem (cell_at (sheet_of d) i) ≡ true
-  pub second : is_live_lem (cell_at (sheet_of d) j) ≡ true
+  pub first : is_live (cell_at (sheet_of d) i) ≡ true
+  pub second : is_live (cell_at (sheet_of d) j) ≡ true
   pub building : Building counts u steps
   pub stays : neither i j f ≡ true
   pub room : Roomy (rebuild (neither i j) (replaced f (face (built counts u steps))) [] (sheet_of d))

@@ -15,7 +15,7 @@ use Rattle.complex.proofs.RenumberSound.{renumber_sound}
 use Rattle.complex.proofs.Demand.{keeps}
 use Rattle.store.specs.declared.Drawing.{Drawing}
 use Rattle.store.specs.View.{sheet_of, Fits, bend_total, cycle_total, step_total}
-use Rattle.sound.specs.Soundness.{sums_fit, fits_in_lem, sound_drawing}
+use Rattle.sound.specs.Soundness.{sums_fit, fits_in, sound_drawing}
 use Rattle.sound.proofs.Meaning.{sound_fits, sound_sheet_lem}
 use Rattle.answer.specs.Answers.{said_by}
 use Rattle.answer.proofs.Laws.{answers_no}
@@ -24,8 +24,8 @@ use Rattle.lent.proofs.Held.{and_first, and_second}
 use Rattle.lent.specs.declared.Line.{Line}
 use Rattle.lent.specs.Replies.{line_of, answer_by, Replied, Obeyed, Carried}
 
-fits_in : (d : Drawing) → Fits d → T (fits_in_lem d)
-fits_in d f =
+fits_in_lem : (d : Drawing) → Fits d → T (fits_in d)
+fits_in_lem d f =
     pair (leb d.count cells_most) (sums_fit (bend_total d) (cycle_total d) (step_total d)) (le→leb d.count cells_most f.cells)
     (pair (leb (bend_total d) bends_most) (leb (cycle_total d) cycles_most && leb (step_total d) steps_most) (le→leb (bend_total d) bends_most f.bends)
     (pair (leb (cycle_total d) cycles_most) (leb (step_total d) steps_most) (le→leb (cycle_total d) cycles_most f.cycles)
@@ -94,6 +94,6 @@ module _ (a : Arrays) where
         back = carried_back o b l h;
         sound =
             λ t. pair (normal b) (sound_drawing d) (truth (carried_rows o b l h))
-            (pair (fits_in_lem d) (sound (sheet_of d)) (fits_in d (carried_fits o b l h))
+            (pair (fits_in d) (sound (sheet_of d)) (fits_in_lem d (carried_fits o b l h))
             (subst (λ (x : Said). T (sound x.sheet)) (sym s) (ordered_sound (sheet_of (held_by a)) o (sound_sheet_lem (held_by a) (drawing_of t)))));
       }

@@ -20,7 +20,7 @@ use Rattle.lent_table.specs.Table.{Table}
 use Rattle.lent_cycles.specs.Ring.{Looked, steps_upto, cycle_right, cycles_right, steps_say}
 use Rattle.lent_cycles.specs.declared.Steps.{Steps}
 use Rattle.lent_cycles.specs.declared.Steps.TheVariants.{Upto as Summed, Fault as Stop}
-use Rattle.lent_row.specs.Row.{places_upto, rows_in_lem, row_right, totals_upto, Upto}
+use Rattle.lent_row.specs.Row.{places_upto, rows_in, row_right, totals_upto, Upto}
 use Rattle.lent_figure.specs.Figure.{figure_right}
 
 -- ---- an answer of 0 or 1
@@ -39,7 +39,7 @@ places_more l i h = sum_more (places_of 0) l i 0 h ∙ ap (λ (x : ℕ). places_
 
 -- ---- the row i: what is left of its rules after each of them
 abbrev pub after_cycles : Arrays → ℕ → Bool
-after_cycles a i = cycles_right (rows_in_lem a) a.cycles a.steps (places_upto a.counts i) (get_or a.counts i 0)
+after_cycles a i = cycles_right (rows_in a) a.cycles a.steps (places_upto a.counts i) (get_or a.counts i 0)
 
 abbrev pub after_bends : Arrays → ℕ → Bool
 after_bends a i = leb (places_upto a.counts (i + 1)) cycles_most && after_cycles a i
@@ -48,7 +48,7 @@ abbrev pub after_figure : Arrays → ℕ → Bool
 after_figure a i = leb (places_upto a.bends (i + 1)) bends_most && after_bends a i
 
 abbrev pub after_normal : Arrays → ℕ → Bool
-after_normal a i = figure_right (rows_in_lem a) (take a.count a.bends) i (position_in a.px a.py i) && after_figure a i
+after_normal a i = figure_right (rows_in a) (take a.count a.bends) i (position_in a.px a.py i) && after_figure a i
 
 abbrev pub after_id : Arrays → ℕ → Bool
 after_id a i = normal_at a.kinds a.starts a.ends a.bends a.counts i && after_normal a i
@@ -94,32 +94,32 @@ module _ {a : Arrays} {i : ℕ} {t : Totals} (u : Upto a i t) (h : i < a.count) 
   -- the cycles are left
   module _ (c : ℕ) (ec : c ≡ get_or a.counts i 0)
       (left : row_right a i ≡ after_cycles a i) where
-    right_is : row_right a i ≡ cycles_right (rows_in_lem a) a.cycles a.steps t.cycles c
-    right_is = left ∙ ap₂ (cycles_right (rows_in_lem a) a.cycles a.steps) (sym cycles_so) (sym ec)
+    right_is : row_right a i ≡ cycles_right (rows_in a) a.cycles a.steps t.cycles c
+    right_is = left ∙ ap₂ (cycles_right (rows_in a) a.cycles a.steps) (sym cycles_so) (sym ec)
 
     abbrev Stepped : Steps → Type 0
-    Stepped w = steps_say w ≡ cond (cycles_right (rows_in_lem a) a.cycles a.steps t.cycles c) (done (steps_upto a.cycles (t.cycles + c))) (no 1)
+    Stepped w = steps_say w ≡ cond (cycles_right (rows_in a) a.cycles a.steps t.cycles c) (done (steps_upto a.cycles (t.cycles + c))) (no 1)
 
     -- a row without cycles: nothing is wrong with them, and the steps are those before it
     none_right : c ≡ 0 → Stepped (Summed t.steps)
     none_right z =
         let p : t.cycles ≡ t.cycles + c = omega (arith, z) in
         let q : t.steps ≡ steps_upto a.cycles (t.cycles + c) = steps_so ∙ ap (steps_upto a.cycles) p in
-        let b : cycles_right (rows_in_lem a) a.cycles a.steps t.cycles c ≡ true =
+        let b : cycles_right (rows_in a) a.cycles a.steps t.cycles c ≡ true =
         ap₂ ◌&&◌ (le-leb (steps_upto a.cycles (t.cycles + c)) steps_most (omega (arith, q, u.steps)))
-        (ap (all_from (cycle_right (rows_in_lem a) a.cycles a.steps) t.cycles) z) in
+        (ap (all_from (cycle_right (rows_in a) a.cycles a.steps) t.cycles) z) in
         ap done q ∙ sym (ap (λ x. cond x (done (steps_upto a.cycles (t.cycles + c))) (no 1)) b)
 
     pub row_stop : (w : Steps) → Stepped w → w ≡ Stop → no 1 ≡ said (row_right a i)
     row_stop w ew q =
         sym (ap said
-        (right_is ∙ said_no (cycles_right (rows_in_lem a) a.cycles a.steps t.cycles c) (steps_upto a.cycles (t.cycles + c)) (ap steps_say (sym q) ∙ ew)))
+        (right_is ∙ said_no (cycles_right (rows_in a) a.cycles a.steps t.cycles c) (steps_upto a.cycles (t.cycles + c)) (ap steps_say (sym q) ∙ ew)))
 
     module _ (b : ℕ) (eb : b ≡ get_or a.bends i 0) where
       pub row_done : (w : Steps) → Stepped w → (s : ℕ) → w ≡ Summed s
           → done (record { cells = i + 1; cycles = t.cycles + c; steps = s; bends = t.bends + b }) ≡ said (row_right a i)
       row_done w ew s q =
-          let d = said_done (cycles_right (rows_in_lem a) a.cycles a.steps t.cycles c) s (steps_upto a.cycles (t.cycles + c))
+          let d = said_done (cycles_right (rows_in a) a.cycles a.steps t.cycles c) s (steps_upto a.cycles (t.cycles + c))
           (ap steps_say (sym q) ∙ ew) in
           let k = cycles_with c ec in
           let st : s ≡ steps_upto a.cycles (places_upto a.counts (i + 1)) = d.1 ∙ ap (steps_upto a.cycles) k in

@@ -19,18 +19,18 @@ use Rattle.lent_row.specs.declared.Row.TheVariants.{Sums, Fault}
 abbrev pub places_upto : List ℕ → ℕ → ℕ
 places_upto l i = total (places_of 0) (take i l)
 
-abbrev pub rows_in_lem : Arrays → Rows
-rows_in_lem a = rows_of a.count a.ids a.kinds a.starts a.ends
+abbrev pub rows_in : Arrays → Rows
+rows_in a = rows_of a.count a.ids a.kinds a.starts a.ends
 
 -- the row i is right: its id, its normal form, its own rules, the totals so far, its cycles
 abbrev pub row_right : Arrays → ℕ → Bool
 row_right a i =
     id_right a.next a.ids i
     && (normal_at a.kinds a.starts a.ends a.bends a.counts i
-    && (figure_right (rows_in_lem a) (take a.count a.bends) i (position_in a.px a.py i)
+    && (figure_right (rows_in a) (take a.count a.bends) i (position_in a.px a.py i)
     && (leb (places_upto a.bends (i + 1)) bends_most
     && (leb (places_upto a.counts (i + 1)) cycles_most
-    && cycles_right (rows_in_lem a) a.cycles a.steps (places_upto a.counts i) (get_or a.counts i 0)))))
+    && cycles_right (rows_in a) a.cycles a.steps (places_upto a.counts i) (get_or a.counts i 0)))))
 
 -- ---- the arrays without the bends' places
 -- a with no place of a bend

@@ -18,7 +18,7 @@ use Rattle.lent.specs.Arrays.{Arrays, position_in, normal_at, totals_of, Lengths
 use Rattle.lent_cycles.specs.Ring.{steps_upto}
 use Rattle.lent_row.specs.declared.Row.{Row}
 use Rattle.lent_row.specs.declared.Row.TheVariants.{Sums, Fault}
-use Rattle.lent_row.specs.Row.{places_upto, rows_in_lem, row_right, bare_of, row_says, totals_upto, RowLengths, Upto}
+use Rattle.lent_row.specs.Row.{places_upto, rows_in, row_right, bare_of, row_says, totals_upto, RowLengths, Upto}
 use Rattle.lent_figure.specs.Figure.{figure_right}
 use Rattle.lent_row.proofs.Rows.{said_no, said_done, places_more}
 use Rattle.lent_sound.specs.declared.Walked.{Walked}
@@ -52,7 +52,7 @@ module _ (a : Arrays) (l : RowLengths a) (few : a.count ≤ cells_most) where
           let w = told in
           let b1 = both_true (id_right a.next a.ids i) _ w.0 in
           let b2 = both_true (normal_at a.kinds a.starts a.ends a.bends a.counts i) _ b1.1 in
-          let b3 = both_true (figure_right (rows_in_lem a) (take a.count a.bends) i (position_in a.px a.py i)) _ b2.1 in
+          let b3 = both_true (figure_right (rows_in a) (take a.count a.bends) i (position_in a.px a.py i)) _ b2.1 in
           let b4 = both_true (leb (places_upto a.bends (i + 1)) bends_most) _ b3.1 in
           let b5 = both_true (leb (places_upto a.counts (i + 1)) cycles_most) _ b4.1 in
           let k = both_true (leb (steps_upto a.cycles (places_upto a.counts i + get_or a.counts i 0)) steps_most) _ b5.1 in

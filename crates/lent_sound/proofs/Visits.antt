@@ -34,7 +34,7 @@ use Rattle.lent.specs.Arrays.{Arrays, shape_by, shape_at, position_in, cells_by,
 use Rattle.lent.proofs.Held.{Told, row_told, numbered, numbered_long, all_intro, cells_ids, cells_shape, held_sizes}
 use Rattle.lent.proofs.Sums.{bends_held, cycles_held, steps_held}
 use Rattle.lent_cycles.specs.Ring.{steps_upto, cycle_right}
-use Rattle.lent_row.specs.Row.{places_upto, rows_in_lem}
+use Rattle.lent_row.specs.Row.{places_upto, rows_in}
 use Rattle.lent_row.proofs.Rows.{places_more}
 use Rattle.lent_sound.specs.Walk.{bend_right, right_at}
 use Rattle.lent_sound.specs.Visits.{right_on}
@@ -97,7 +97,7 @@ module _ (a : Arrays) (l : Lengths a) (few : a.count ≤ cells_most) where
       let k : get_or a.kinds r 0 ≡ 1 = sym (kind_in_lem a.count a.kinds r (omega (arith, l.kinds, few)) u) ∙ eqb-true _ 1 o in
       get_or-take a.count es r 0 u ∙ same b c p ∙ ap (λ (x : ℕ). g (shape_by x (get_or a.starts r 0) (get_or a.ends r 0) b c p)) (sym k))
 
-  rows_alike : Alike (rows_in_lem a) (shape_rows (held_by a))
+  rows_alike : Alike (rows_in a) (shape_rows (held_by a))
   rows_alike =
       record {
         ids = cells_ids (shape_at a) a.count a.ids;
@@ -178,25 +178,25 @@ module _ (a : Arrays) (l : Lengths a) (few : a.count ≤ cells_most) where
 
         edge_same : (x : Shape) → x ≡ shape_at a i
             → edge_good (cell_rows cells).ids (cell_rows cells).kinds (kind_of x) (shape_start x) (shape_end x) (bend_count x)
-            ≡ row_good (rows_in_lem a) (take a.count a.bends) i
+            ≡ row_good (rows_in a) (take a.count a.bends) i
         edge_same x e =
             ap₂ (λ (t : Rows) (y : Shape). edge_good t.ids t.kinds (kind_of y) (shape_start y) (shape_end y) (bend_count y)) (sheet_rows (held_by a)) e
             ∙ sym (edge_alike rows_alike (kind_of (shape_at a i)) (shape_start (shape_at a i)) (shape_end (shape_at a i)) (bend_count (shape_at a i)))
-            ∙ ap₂ (λ (k s : ℕ). edge_good (rows_in_lem a).ids (rows_in_lem a).kinds k s (shape_end (shape_at a i)) (bend_count (shape_at a i))) told.kind told.start
-            ∙ ap₂ (λ (e m : ℕ). edge_good (rows_in_lem a).ids (rows_in_lem a).kinds (get_or a.kinds i 0) (get_or a.starts i 0) e m) told.end told.bends
+            ∙ ap₂ (λ (k s : ℕ). edge_good (rows_in a).ids (rows_in a).kinds k s (shape_end (shape_at a i)) (bend_count (shape_at a i))) told.kind told.start
+            ∙ ap₂ (λ (e m : ℕ). edge_good (rows_in a).ids (rows_in a).kinds (get_or a.kinds i 0) (get_or a.starts i 0) e m) told.end told.bends
             ∙ sym (row_test a.count a.ids a.kinds a.starts a.ends a.bends i h)
 
         cycle_same : (j : ℕ) → cycle_good (cell_rows cells) (get_or a.cycles j 0) (drop (width_sum (take j a.cycles)) a.steps)
-            ≡ cycle_right (rows_in_lem a) a.cycles a.steps j
+            ≡ cycle_right (rows_in a) a.cycles a.steps j
         cycle_same j =
             ap₂ (λ (t : Rows) (n : ℕ). cycle_good t (get_or a.cycles j 0) (drop n a.steps)) (sheet_rows (held_by a)) (sym (width_places (take j a.cycles)))
             ∙ sym (cycle_alike rows_alike (get_or a.cycles j 0) (drop (steps_upto a.cycles j) a.steps))
 
         figure_same : figure_ok (lookup cells) (figure_in cells i)
             ≡ (cond (eqb (get_or (take a.count a.kinds) i 0) 0) (within (position_in a.px a.py i)) true
-            && row_good (rows_in_lem a) (take a.count a.bends) i)
+            && row_good (rows_in a) (take a.count a.bends) i)
             && (all_from (bend_right a.bx a.by) (places_upto a.bends i) (get_or a.bends i 0)
-            && all_from (cycle_right (rows_in_lem a) a.cycles a.steps) (places_upto a.counts i) (get_or a.counts i 0))
+            && all_from (cycle_right (rows_in a) a.cycles a.steps) (places_upto a.counts i) (get_or a.counts i 0))
         figure_same =
             figure_tests (held_by a) (held_sizes a l) few i h f none (position_in a.px a.py 0)
             ∙ ap₂ ◌&&◌
@@ -223,7 +223,7 @@ module _ (a : Arrays) (l : Lengths a) (few : a.count ≤ cells_most) where
     -- ---- the row is right as its cell is
     right_on_lem : Parts a i → right_on a i ≡ true
     right_on_lem q =
-        let f : fits_upto (held_by a) (suc i) ≡ true = fits_same q.row ∙ ap₂ ◌&&◌ q.bend_sum (ap₂ ◌&&◌ q.cycle_sum q.step_sum_lem) in
+        let f : fits_upto (held_by a) (suc i) ≡ true = fits_same q.row ∙ ap₂ ◌&&◌ q.bend_sum (ap₂ ◌&&◌ q.cycle_sum q.step_sum) in
         ap₂ ◌&&◌ q.row
         (ap₂ ◌&&◌ f
         (ap₂ ◌&&◌ (id_same ∙ q.id)
@@ -238,7 +238,7 @@ module _ (a : Arrays) (l : Lengths a) (few : a.count ≤ cells_most) where
         let s0 = both_true (leb (places_upto a.bends (i + 1)) bends_most) _ (sym (fits_same b0.0) ∙ b1.0) in
         let s1 = both_true (leb (places_upto a.counts (i + 1)) cycles_most) _ s0.1 in
         let g = both_true (cond (eqb (get_or (take a.count a.kinds) i 0) 0) (within (position_in a.px a.py i)) true
-        && row_good (rows_in_lem a) (take a.count a.bends) i) _ (sym (figure_same b0.0 b1.0) ∙ r.figure) in
+        && row_good (rows_in a) (take a.count a.bends) i) _ (sym (figure_same b0.0 b1.0) ∙ r.figure) in
         let g0 = both_true (cond (eqb (get_or (take a.count a.kinds) i 0) 0) (within (position_in a.px a.py i)) true) _ g.0 in
         let g1 = both_true (all_from (bend_right a.bx a.by) (places_upto a.bends i) (get_or a.bends i 0)) _ g.1 in
         record {
@@ -249,7 +249,7 @@ module _ (a : Arrays) (l : Lengths a) (few : a.count ≤ cells_most) where
           edge = g0.1;
           vertex = g0.0;
           bends = g1.0;
-          step_sum_lem = s1.1;
+          step_sum = s1.1;
           cycles = g1.1;
         }
 

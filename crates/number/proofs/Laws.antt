@@ -196,9 +196,9 @@ more_read (suc k) n (b ∷ s) t B e =
     (omega arith, spelled_of_next k b n r.above s t h (B 0) p v q.1))
     (more_cases k b s t n e)
 
-number_read : (n : ℕ) (s t : List ℕ) → Bytes s → read_number s ≡ got n t → Spelled number_bytes n s t
-number_read n [] t B e = absurd (not_bad n t e)
-number_read n (b ∷ s) t B e =
+number_read_lem : (n : ℕ) (s t : List ℕ) → Bytes s → read_number s ≡ got n t → Spelled number_bytes n s t
+number_read_lem n [] t B e = absurd (not_bad n t e)
+number_read_lem n (b ∷ s) t B e =
     let k = number_bytes - 1 in
     ⊎_elim
     (λ r. spelled_of_last k b n s t r)
@@ -209,10 +209,10 @@ number_read n (b ∷ s) t B e =
 
 -- one spelling
 pub spell_read : (s t : List ℕ) (n : ℕ) → Bytes s → read_number s ≡ got n t → s ≡ spell n ++ t
-spell_read s t n B e = (number_read n s t B e).bytes
+spell_read s t n B e = (number_read_lem n s t B e).bytes
 
 pub read_small : (s t : List ℕ) (n : ℕ) → Bytes s → read_number s ≡ got n t → n < numbers_end
-read_small s t n B e = (number_read n s t B e).small
+read_small s t n B e = (number_read_lem n s t B e).small
 
 -- ---- what is left is an end of the bytes
 record Suffix (s t : List ℕ) : Type 0 where

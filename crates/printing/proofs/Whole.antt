@@ -7,7 +7,7 @@ use lib.Dec.{leb}
 use lib.ListN.{length, take, drop}
 use Rattle.complex.specs.Cells.{Sheet, empty}
 use Rattle.complex.specs.Euler.{euler}
-use Rattle.complex.specs.Program.{Run, run, Output, too_long_lem, printed_run, script_most, edit_output, newline, too_long_text, output_text}
+use Rattle.complex.specs.Program.{Run, run, Output, too_long, printed_run, script_most, edit_output, newline, too_long_text, output_text}
 use Rattle.store.specs.View.{sheet_of}
 use Rattle.lent.specs.Arrays.{Arrays, held_by}
 use Rattle.run_turns.specs.Runs.{run_from}
@@ -19,7 +19,7 @@ use Rattle.printing.specs.Texts.{to_print, PieceCall, Pieces, printed_by, Prints
 -- ---- at the start
 abbrev chosen : List ℕ → Bool → Output
 chosen bytes b = elim b [
-  | false ↦ too_long_lem
+  | false ↦ too_long
   | true ↦ printed_run (run bytes)
 ]
 

@@ -25,7 +25,7 @@ use Rattle.store.specs.Pools.{Held, dealt_figure, dealt}
 use Rattle.number.specs.Readers.{spread}
 use Rattle.store.proofs.Lists.{sum_append}
 use Rattle.store.proofs.Encode.{numbers, places, cycles_real, length_cycles}
-use Rattle.store.proofs.Stands.{stands, used_cycles_lem, cycle_total_lem}
+use Rattle.store.proofs.Stands.{stands, used_cycles, cycle_total_lem}
 use Rattle.rows_steps.proofs.Rewired.{changed_is}
 use Rattle.rows_uses.proofs.Dealing.{uses_by_lem}
 
@@ -184,5 +184,5 @@ pub copied_cells : (d : Drawing) → Sizes d → Fits d → (uses : Cycle → �
     → cycles_from (take (cycle_total d) d.cycles) st ≡ counting uses f k (cycles_from (take (cycle_total d) d.cycles) d.steps)
     → dealt (cycles_from (take (cycle_total d) d.cycles) st) (sheet_of d).cells ≡ reshape (on_uses uses f k (sheet_of d).cells) (sheet_of d).cells
 copied_cells d z g uses f k st t e =
-    ap (λ (ks : List Cycle). dealt ks (sheet_of d).cells) (e ∙ ap (counting uses f k) (sym (used_cycles_lem d z g)))
+    ap (λ (ks : List Cycle). dealt ks (sheet_of d).cells) (e ∙ ap (counting uses f k) (sym (used_cycles d z g)))
     ∙ dealt_uses uses f k 0 (sheet_of d).next (sheet_of d).cells t

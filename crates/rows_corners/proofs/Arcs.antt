@@ -106,7 +106,7 @@ module _ (steps : List ℕ) (base n from len : ℕ) (out : List ℕ) (at : ℕ) 
 module _ (steps : List ℕ) (base n from len : ℕ) (counts : List ℕ) (u : Used) (out : List ℕ) (a : ArcRoom steps base n from len counts u out) where
   pub arc_asks : Arc steps base n from len out u.steps
   arc_asks =
-      let r = a.step_room_lem in
+      let r = a.step_room in
       record { steps_size = a.steps_size; cycle = a.cycle; start = a.start; least = a.least; room = omega arith }
 
   pub arc_built : (h : ℕ) (mid st counts' : List ℕ) (end : ℕ) (w : Used) → end ≡ u.steps + len → Pasted out u.steps (arc_of steps base n from len) mid
@@ -115,7 +115,7 @@ module _ (steps : List ℕ) (base n from len : ℕ) (counts : List ℕ) (u : Use
   arc_built h mid st counts' end w ee p es c ew =
       let xs = arc_of steps base n from len in
       let j = u.steps in
-      let r = a.step_room_lem in
+      let r = a.step_room in
       let zm : length mid ≡ length out = p.size in
       let li = length_is steps base n from len out j arc_asks in
       let lt = length-take-le j out (omega arith) in

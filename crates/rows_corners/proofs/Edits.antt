@@ -24,8 +24,8 @@ use Rattle.rows_corners.specs.Faces.{Named, recycled, Roomy, IndexRows}
 use Rattle.rows_corners.proofs.Rows.{roomy}
 
 -- ---- which ids are faces
-pub rows_in : (d : Drawing) → Sizes d → T (sound_drawing d) → (ix : Index) → Indexes d ix → IndexRows ix d.count
-rows_in d z w ix x =
+pub rows_in_lem : (d : Drawing) → Sizes d → T (sound_drawing d) → (ix : Index) → Indexes d ix → IndexRows ix d.count
+rows_in_lem d z w ix x =
     record {
       few = (sound_fits d w).cells;
       ids = x.sizes.0;

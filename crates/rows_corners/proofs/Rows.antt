@@ -9,10 +9,10 @@ use borrow.Author.Tests.{ltb-true, eqb-true}
 use lib.ListN.{length, take, drop, get_or, set, length-map, length-drop}
 use lib.Seq.{length-take-le}
 use Rattle.complex.specs.Lists.{total}
-use Rattle.complex.specs.Cells.{Cycle, Figure, vertex, open_edge, closed_edge, face, LiveCell, Sheet, cell_at, is_face, is_live_lem}
+use Rattle.complex.specs.Cells.{Cycle, Figure, vertex, open_edge, closed_edge, face, LiveCell, Sheet, cell_at, is_face, is_live}
 use Rattle.complex.specs.Cells as cells
 use Rattle.complex.specs.Edits.{reshape, numbered, every_id, replaced}
-use Rattle.complex.specs.Sound.{step_count_lem, cycles_in, steps_in, over}
+use Rattle.complex.specs.Sound.{step_count, cycles_in, steps_in, over}
 use Rattle.complex.proofs.Lookup.{kept_all}
 use Rattle.store.specs.declared.Drawing.{Drawing}
 use Rattle.store.specs.declared.Index.{Index}
@@ -44,17 +44,17 @@ total_set h [] i v z k = absurd (omega arith)
 total_set h (x ∷ l) zero v z k = omega arith
 total_set h (x ∷ l) (suc i) v z k = let e = total_set h l i v z (omega arith) in omega arith
 
-cycle_steps : (n : ℕ) (st : List ℕ) → width n ≤ length st → step_count_lem (cycle_of n st) ≡ width n
+cycle_steps : (n : ℕ) (st : List ℕ) → width n ≤ length st → step_count (cycle_of n st) ≡ width n
 cycle_steps zero st h = refl
 cycle_steps (suc n) st h = length-map (take (suc n) st) halfedge_of ∙ length-take-le (suc n) st h
 
 -- cycles that are read have as many steps as their counts are wide
-pub list_steps : (ns st : List ℕ) → width_sum ns ≤ length st → total step_count_lem (cycles_from ns st) ≡ width_sum ns
+pub list_steps : (ns st : List ℕ) → width_sum ns ≤ length st → total step_count (cycles_from ns st) ≡ width_sum ns
 list_steps [] st h = refl
 list_steps (n ∷ ns) st h = ap₂ ◌+◌ (cycle_steps n st (omega arith)) (list_steps ns (drop (width n) st) (omega (arith, length-drop (width n) st)))
 
 -- ---- a face
-face_live : (o : Option Figure) → is_face o ≡ true → is_live_lem o ≡ true
+face_live : (o : Option Figure) → is_face o ≡ true → is_live o ≡ true
 face_live none e = absurd (false≢true e)
 face_live (some x) e = refl
 
@@ -117,7 +117,7 @@ module _ (d : Drawing) (z : Sizes d) (ix : Index) (f : ℕ) (m : Named d ix f) w
       let l = live in
       let s = k.cycle_sum in
       let r = k.cycle_room in
-      (k.cycle_rows, (omega arith, (omega arith, (omega arith, k.step_sum_lem))))
+      (k.cycle_rows, (omega arith, (omega arith, (omega arith, k.step_sum))))
 
   -- ---- where the cycles stand
   cycles_read_lem : span_of 0 ix.cycles (row_span d.count row_in) ≡ cycle_span d row_in
@@ -164,10 +164,10 @@ module _ (d : Drawing) (z : Sizes d) (ix : Index) (f : ℕ) (m : Named d ix f) w
       ∙ length-take-le (cycle_span d row_in).count (drop (cycle_span d row_in).first l)
       (omega (arith, w.in_cycles, w.cycles_size, length-drop (cycle_span d row_in).first l))
 
-  own_steps : total step_count_lem own ≡ (step_span d row_in).count
+  own_steps : total step_count own ≡ (step_span d row_in).count
   own_steps =
       let w = within in
-      ap (total step_count_lem) own_list
+      ap (total step_count) own_list
       ∙ list_steps (take (cycle_span d row_in).count (drop (cycle_span d row_in).first d.cycles)) (drop (step_span d row_in).first d.steps)
       (omega (arith, w.in_steps, w.steps_size, w.wide, length-drop (step_span d row_in).first d.steps))
       ∙ w.wide
@@ -179,10 +179,10 @@ module _ (d : Drawing) (z : Sizes d) (ix : Index) (f : ℕ) (m : Named d ix f) w
       ∙ ap (λ (l : List LiveCell). record { next = (sheet_of d).next; cells = reshape (replaced f y) l }) (sym (kept_all (sheet_of d).cells))
 
   in_sheet : row_in < length (sheet_of d).cells
-  in_sheet = let l = live in let c = length-map (sheet_of d).cells (λ (c : LiveCell). c.id) in omega (arith, rows_in)
+  in_sheet = let l = live in let c = length-map (sheet_of d).cells (λ (c : LiveCell). c.id) in omega (arith, rows_in_lem)
     where
-      rows_in : d.count ≡ length (sheet_of d).cells
-      rows_in = count_is d (sheet_of d).cells (stands d z fits) z fits.cells
+      rows_in_lem : d.count ≡ length (sheet_of d).cells
+      rows_in_lem = count_is d (sheet_of d).cells (stands d z fits) z fits.cells
 
   own_figure : (get_or (sheet_of d).cells row_in (record { id = 0; figure = face [] })).figure ≡ face own
   own_figure =
@@ -207,7 +207,7 @@ module _ (d : Drawing) (z : Sizes d) (ix : Index) (f : ℕ) (m : Named d ix f) w
         let h = r.cycles in
         omega arith
 
-    pub spare_steps : step_total d + total step_count_lem ks ≤ 2048 + total step_count_lem own
+    pub spare_steps : step_total d + total step_count ks ≤ 2048 + total step_count own
     spare_steps =
         let a = sums steps_in (face ks) in
         let b = over_steps (sheet_of d).cells in
@@ -226,17 +226,17 @@ module _ (d : Drawing) (z : Sizes d) (ix : Index) (f : ℕ) (m : Named d ix f) w
       let oc = own_length in
       let os = own_steps in
       let lk = length_cycles (take u.cycles counts) steps ∙ length-take-le u.cycles counts b.cycle_room in
-      let sk = list_steps (take u.cycles counts) steps (omega (arith, b.width, b.step_room_lem)) in
+      let sk = list_steps (take u.cycles counts) steps (omega (arith, b.width, b.step_room)) in
       let w = b.width in
       record {
         fits = fits;
         live = live;
         face = kind;
         in_counts = b.cycle_room;
-        in_steps = b.step_room_lem;
+        in_steps = b.step_room;
         width = w;
         cycle_room = omega arith;
-        step_room_lem = omega arith;
+        step_room = omega arith;
       })
 
   pub replaced_with : (counts : List ℕ) (u : Used) (steps : List ℕ) (row : ℕ) → row ≡ row_in → (t : Sheet)

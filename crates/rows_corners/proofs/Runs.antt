@@ -59,6 +59,6 @@ runs_built cycles steps t w bc bs lc ls cs ps ec ep =
             steps_size = omega arith;
             width = wide;
             cycle_room = omega (arith, w.in_cycles);
-            step_room_lem = omega (arith, w.in_steps);
+            step_room = omega (arith, w.in_steps);
           };
     }

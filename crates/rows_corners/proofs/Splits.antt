@@ -8,7 +8,7 @@ use native.Mathlib.Numerals.{add-one}
 use lib.ListN.{length, take, drop, get_or, length-drop}
 use lib.Seq.{length-take-le, take_all, split_at, take-take, get_or-take}
 use Rattle.complex.specs.Lists.{total}
-use Rattle.complex.specs.Sound.{step_count_lem}
+use Rattle.complex.specs.Sound.{step_count}
 use Rattle.store.specs.View.{width, cycle_of, cycles_from, width_sum}
 use Rattle.store.specs.Edits.{kept}
 use Rattle.rows_spans.proofs.Splicing.{run_take}
@@ -35,14 +35,14 @@ front_about {A} l z i k h g =
     ∙ ap (λ (n : ℕ). take (k - (i + 1)) (drop n l)) (sym (add-one i))))
 
 -- what is kept of cycles that are read has as many steps as its counts are wide
-pub kept_steps : (bs : List Bool) (ns st : List ℕ) → width_sum ns ≤ length st → total step_count_lem (kept bs (cycles_from ns st)) ≡ width_sum (kept bs ns)
+pub kept_steps : (bs : List Bool) (ns st : List ℕ) → width_sum ns ≤ length st → total step_count (kept bs (cycles_from ns st)) ≡ width_sum (kept bs ns)
 kept_steps [] ns st h = refl
 kept_steps (b ∷ bs) [] st h = refl
 kept_steps (b ∷ bs) (n ∷ ns) st h = go b (list_steps (n ∷ []) st (omega arith)) (kept_steps bs ns (drop (width n) st) (omega (arith, length-drop (width n) st)))
   where
-    go : (b : Bool) → total step_count_lem (cycle_of n st ∷ []) ≡ width_sum (n ∷ [])
-        → total step_count_lem (kept bs (cycles_from ns (drop (width n) st))) ≡ width_sum (kept bs ns)
-        → total step_count_lem (cond b (kept bs (cycles_from ns (drop (width n) st))) (cycle_of n st ∷ kept bs (cycles_from ns (drop (width n) st))))
+    go : (b : Bool) → total step_count (cycle_of n st ∷ []) ≡ width_sum (n ∷ [])
+        → total step_count (kept bs (cycles_from ns (drop (width n) st))) ≡ width_sum (kept bs ns)
+        → total step_count (cond b (kept bs (cycles_from ns (drop (width n) st))) (cycle_of n st ∷ kept bs (cycles_from ns (drop (width n) st))))
         ≡ width_sum (cond b (kept bs ns) (n ∷ kept bs ns))
     go true e f = f
     go false e f = omega arith

@@ -33,7 +33,7 @@ pub record ArcRoom (steps : List ℕ) (base n from len : ℕ) (counts : List ℕ
   pub start : from ≤ n
   pub least : len ≤ n
   pub cycle_room : u.cycles < length counts
-  pub step_room_lem : u.steps + len < length out
+  pub step_room : u.steps + len < length out
 
 -- a list of cycles has room for those of k others that are not skipped
 pub record CopyRoom (cycles steps : List ℕ) (from k step : ℕ) (skip : List Bool) (counts : List ℕ) (u : Used) (out : List ℕ) : Type 0 where
@@ -44,7 +44,7 @@ pub record CopyRoom (cycles steps : List ℕ) (from k step : ℕ) (skip : List B
   pub in_steps : step + width_sum (take k (drop from cycles)) ≤ 2048
   pub flags : k ≤ length skip
   pub cycle_room : u.cycles + length (kept (take k skip) (take k (drop from cycles))) ≤ length counts
-  pub step_room_lem : u.steps + width_sum (kept (take k skip) (take k (drop from cycles))) ≤ length out
+  pub step_room : u.steps + width_sum (kept (take k skip) (take k (drop from cycles))) ≤ length out
 
 -- whether a cycle of m steps at a place has the corner s, by the rows of an index
 abbrev pub corner_in : Index → ℕ → ℕ → List ℕ → ℕ → ℕ → Bool

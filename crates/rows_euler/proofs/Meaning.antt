@@ -20,7 +20,7 @@ use Rattle.store.specs.View.{sheet_of, Fits, cycle_count}
 use Rattle.store.specs.Places.{shape_of}
 use Rattle.store.specs.Index.{kind_of, Indexes}
 use Rattle.sound.specs.Soundness.{sound_drawing}
-use Rattle.sound.proofs.Parts.{kind_row_lem, cycle_row}
+use Rattle.sound.proofs.Parts.{kind_row, cycle_row}
 use Rattle.sound.proofs.Meaning.{kinds_are, cycles_are}
 use Rattle.rows_euler.specs.Shares.{gain_in, loss_in, losses_in, euler_in}
 use Rattle.rows_euler.specs.Calls.{euler_of}
@@ -37,15 +37,15 @@ loss_shape (open_edge a b bs) = refl
 loss_shape (closed_edge bs) = refl
 loss_shape (face ks) = refl
 
-gains_row : (xs : List LiveCell) → total gain_in (kind_row_lem xs) ≡ over gain xs
+gains_row : (xs : List LiveCell) → total gain_in (kind_row xs) ≡ over gain xs
 gains_row [] = refl
 gains_row (x ∷ xs) = ap₂ ◌+◌ (gain_shape x.figure) (gains_row xs)
 
-losses_row : (xs : List LiveCell) → losses_in (kind_row_lem xs) (cycle_row xs) ≡ over loss xs
+losses_row : (xs : List LiveCell) → losses_in (kind_row xs) (cycle_row xs) ≡ over loss xs
 losses_row [] = refl
 losses_row (x ∷ xs) = ap₂ ◌+◌ (loss_shape x.figure) (losses_row xs)
 
-euler_row : (xs : List LiveCell) → euler_in (kind_row_lem xs) (cycle_row xs) ≡ euler xs
+euler_row : (xs : List LiveCell) → euler_in (kind_row xs) (cycle_row xs) ≡ euler xs
 euler_row xs = ap₂ sub_ℕ (gains_row xs) (losses_row xs) ∙ sym (euler_sub xs)
 
 module _ (d : Drawing) (z : Sizes d) (f : Fits d) (t : Index) (x : Indexes d t) where

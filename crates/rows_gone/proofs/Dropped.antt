@@ -9,7 +9,7 @@ use lib.Seq.{get_or-set_same, get_or-set_other, get_or-take, length-take-le}
 use lib.Dec.{T, eqb, ltb, leb→le}
 use borrow.Author.Tests.{ltb-true, ltb-false, eqb-true, eqb-false, eq-eqb, ne_eqb}
 use Rattle.complex.specs.Lists.{cons_if}
-use Rattle.complex.specs.Cells.{Figure, LiveCell, Sheet, ids, cell_at, is_live_lem}
+use Rattle.complex.specs.Cells.{Figure, LiveCell, Sheet, ids, cell_at, is_live}
 use Rattle.complex.specs.Edits.{keep_ids, reshape, rebuild, others}
 use Rattle.complex.specs.Sound.{ids_end}
 use Rattle.complex.proofs.Keep.{Sound}
@@ -107,7 +107,7 @@ dropped_row d z w i row er h f mid zm gm em dead ed out eo =
 
 -- the same, where the row is found in an index
 module _ (d : Drawing) (z : Sizes d) (w : T (sound_drawing d)) (ix : Index) (x : Indexes d ix) (i row : ℕ) (er : row ≡ row_of i (take d.count ix.ids))
-    (l : is_live_lem (cell_at (sheet_of d) i) ≡ true) where
+    (l : is_live (cell_at (sheet_of d) i) ≡ true) where
   pub live_below : row < d.count
   live_below = ltb-true row d.count (ap (λ (n : ℕ). ltb n d.count) er ∙ live_row d z (sound_fits d w) ix x i ∙ l)
 
@@ -124,12 +124,12 @@ pub remade_rebuild : (p : ℕ → Bool) (f : ℕ → Figure → Figure) (s : She
 remade_rebuild p f s = sym (appended_none (remade p f s))
 
 -- the id of a live cell is below the end of the ids
-pub live_id : (s : Sheet) → Sound s → (i : ℕ) → is_live_lem (cell_at s i) ≡ true → i < ids_end
+pub live_id : (s : Sheet) → Sound s → (i : ℕ) → is_live (cell_at s i) ≡ true → i < ids_end
 live_id s S i l = go (ltb i s.next) refl
   where
     h : s.next ≤ ids_end
-    h = leb→le s.next ids_end S.in_ids_lem
+    h = leb→le s.next ids_end S.in_ids
 
     go : (b : Bool) → ltb i s.next ≡ b → i < ids_end
     go true e = let k = ltb-true i s.next e in let g = h in omega arith
-    go false e = absurd (false≢true (sym (ap is_live_lem (lookup_from 0 s.cells s.next i S.rises (ltb-false i s.next e))) ∙ l))
+    go false e = absurd (false≢true (sym (ap is_live (lookup_from 0 s.cells s.next i S.rises (ltb-false i s.next e))) ∙ l))

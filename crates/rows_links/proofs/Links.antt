@@ -18,7 +18,7 @@ use Rattle.store.specs.View.{halfedge_of, width, width_sum, cycle_of, cycles_fro
 use Rattle.store.proofs.Lists.{map_append}
 use Rattle.store.proofs.Encode.{flat_append}
 use Rattle.rows_sides.proofs.Passing.{cycles_more}
-use Rattle.rows_links.specs.Links.{place_at_lem, turns_of, link_kept, left_places, right_places, Paired, LinksPut, next_step}
+use Rattle.rows_links.specs.Links.{place_at, turns_of, link_kept, left_places, right_places, Paired, LinksPut, next_step}
 
 -- ---- a pair more
 pub pair_none : (x y used : ℕ) (xs ys : List ℕ) → Paired false x y used xs ys used xs ys
@@ -68,12 +68,12 @@ module _ (is : List ℕ) (at : List Bool) where
             b.lefts ∙ ap (λ (l : List ℕ). l ++ left_places is (filter k us)) a.lefts
             ∙ append_assoc (take used xs) (left_places is (filter k ts)) (left_places is (filter k us))
             ∙ ap (λ (l : List ℕ). take used xs ++ l) (sym (ap (left_places is) e
-            ∙ map_append (λ (t : Passage). place_at_lem is t.arrives) (filter k ts) (filter k us)));
+            ∙ map_append (λ (t : Passage). place_at is t.arrives) (filter k ts) (filter k us)));
         rights =
             b.rights ∙ ap (λ (l : List ℕ). l ++ right_places is (filter k us)) a.rights
             ∙ append_assoc (take used ys) (right_places is (filter k ts)) (right_places is (filter k us))
             ∙ ap (λ (l : List ℕ). take used ys ++ l) (sym (ap (right_places is) e
-            ∙ map_append (λ (t : Passage). place_at_lem is t.leaves) (filter k ts) (filter k us)));
+            ∙ map_append (λ (t : Passage). place_at is t.leaves) (filter k ts) (filter k us)));
       }
 
   pub put_as : (ts us : List Passage) → ts ≡ us → (used : ℕ) (xs ys : List ℕ) (r : ℕ) (xs' ys' : List ℕ) → LinksPut is at ts used xs ys r xs' ys'
@@ -116,10 +116,10 @@ module _ (is : List ℕ) (at : List Bool) where
     abbrev turn : Passage
     turn = passage (halfedge_of h) (halfedge_of k)
 
-    left_is : x ≡ place_at_lem is turn.arrives
+    left_is : x ≡ place_at is turn.arrives
     left_is = ex ∙ ap (λ (n : ℕ). row_of (h / 2) is * 2 + n) (other_side h)
 
-    right_is : y ≡ place_at_lem is turn.leaves
+    right_is : y ≡ place_at is turn.leaves
     right_is = ey ∙ ap (λ (n : ℕ). row_of (k / 2) is * 2 + n) (side_is k)
 
     pub put_one : (b : Bool) → b ≡ (get_or at x false && get_or at y false) → (used : ℕ) (xs ys : List ℕ) (r : ℕ) (xs' ys' : List ℕ)

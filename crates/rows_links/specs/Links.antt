@@ -13,8 +13,8 @@ pub record IdRows (is : List ℕ) (n : ℕ) : Type 0 where
   pub size : length is ≡ 256
   pub rising : Rising (take n is)
 
-abbrev pub place_at_lem : List ℕ → Halfedge → ℕ
-place_at_lem is h = row_of h.edge is * 2 + cond h.backward 1 0
+abbrev pub place_at : List ℕ → Halfedge → ℕ
+place_at is h = row_of h.edge is * 2 + cond h.backward 1 0
 
 -- the passages of some cycles, cycle by cycle
 abbrev pub turns_of : List Cycle → List Passage
@@ -22,13 +22,13 @@ turns_of ks = spread (λ (k : Cycle). passages (steps_of k)) ks
 
 -- a passage between marked places
 abbrev pub link_kept : List ℕ → List Bool → Passage → Bool
-link_kept is at t = get_or at (place_at_lem is t.arrives) false && get_or at (place_at_lem is t.leaves) false
+link_kept is at t = get_or at (place_at is t.arrives) false && get_or at (place_at is t.leaves) false
 
 abbrev pub left_places : List ℕ → List Passage → List ℕ
-left_places is ts = map (λ (t : Passage). place_at_lem is t.arrives) ts
+left_places is ts = map (λ (t : Passage). place_at is t.arrives) ts
 
 abbrev pub right_places : List ℕ → List Passage → List ℕ
-right_places is ts = map (λ (t : Passage). place_at_lem is t.leaves) ts
+right_places is ts = map (λ (t : Passage). place_at is t.leaves) ts
 
 -- one pair of places more, if b
 pub record Paired (b : Bool) (x y used : ℕ) (xs ys : List ℕ) (r : ℕ) (xs' ys' : List ℕ) : Type 0 where

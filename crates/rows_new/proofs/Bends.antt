@@ -6,7 +6,7 @@ use native.Mathlib.Omega.{arith}
 use lib.ListN.{length, take, get_or}
 use lib.Seq.{paste, length-paste, take-paste, take-length}
 use Rattle.coordinate.specs.declared.Position.{Position}
-use Rattle.coordinate.specs.Positions.{position_at_lem}
+use Rattle.coordinate.specs.Positions.{position_at}
 use Rattle.bends.specs.Bends.{positions_at}
 use Rattle.store.specs.declared.Shape.{Shape}
 use Rattle.store.specs.declared.Drawing.{Drawing}
@@ -38,9 +38,9 @@ edge_grown d z x h e r s t f =
     (take-length bs)))
 
 -- the k-th of the positions in bytes
-pub positions_get : (s : List ℕ) (at n k : ℕ) (z : Position) → k < n → get_or (positions_at s at n) k z ≡ position_at_lem s (at + 16 * k)
+pub positions_get : (s : List ℕ) (at n k : ℕ) (z : Position) → k < n → get_or (positions_at s at n) k z ≡ position_at s (at + 16 * k)
 positions_get s at zero k z h = absurd (omega arith)
-positions_get s at (suc n) zero z h = let e : at ≡ at + 16 * 0 = omega arith in ap (position_at_lem s) e
+positions_get s at (suc n) zero z h = let e : at ≡ at + 16 * 0 = omega arith in ap (position_at s) e
 positions_get s at (suc n) (suc k) z h =
     let e : at + 16 + 16 * k ≡ at + 16 * suc k = omega arith in
-    positions_get s (at + 16) n k z (omega arith) ∙ ap (position_at_lem s) e
+    positions_get s (at + 16) n k z (omega arith) ∙ ap (position_at s) e

@@ -54,27 +54,27 @@ held counts n st h k =
 -- no cycle yet
 pub built_none : (counts steps : List ℕ) → length counts ≤ 512 → length steps ≤ 2048 → Built [] counts (record { cycles = 0; steps = 0 }) steps
 built_none counts steps h k =
-    record { list = refl; building = record { counts_size = h; steps_size = k; width = refl; cycle_room = omega arith; step_room_lem = omega arith } }
+    record { list = refl; building = record { counts_size = h; steps_size = k; width = refl; cycle_room = omega arith; step_room = omega arith } }
 
 pub built_held : (ks : List Cycle) (counts : List ℕ) (u : Used) (steps : List ℕ) → Built ks counts u steps → Held ks counts u.cycles steps u.steps
 built_held ks counts u steps b =
     let g = b.building in
     subst₂ (λ (l : List Cycle) (m : ℕ). Held l counts u.cycles steps m) b.list g.width
-    (held counts u.cycles steps g.cycle_room (omega (arith, g.width, g.step_room_lem)))
+    (held counts u.cycles steps g.cycle_room (omega (arith, g.width, g.step_room)))
 
 -- ---- other numbers after the places in use
 module _ (counts : List ℕ) (u : Used) (steps : List ℕ) (b : Building counts u steps) where
   same_list : (st : List ℕ) → length st ≡ length steps → take u.steps st ≡ take u.steps steps → built counts u st ≡ built counts u steps
   same_list st l e =
       let w = b.width in
-      let h = held counts u.cycles steps b.cycle_room (omega (arith, b.step_room_lem)) in
+      let h = held counts u.cycles steps b.cycle_room (omega (arith, b.step_room)) in
       held_cycles (built counts u steps) counts u.cycles st (width_sum (take u.cycles counts))
       (record {
         lengths = h.lengths;
         places = ap (λ (k : ℕ). take k st) w ∙ e ∙ ap (λ (k : ℕ). take k steps) (sym w) ∙ h.places;
         real = h.real;
         lengths_room = h.lengths_room;
-        places_room = omega (arith, b.step_room_lem);
+        places_room = omega (arith, b.step_room);
       })
 
   pub built_same : (st : List ℕ) → length st ≡ length steps → take u.steps st ≡ take u.steps steps → Built (built counts u steps) counts u st
@@ -87,7 +87,7 @@ module _ (counts : List ℕ) (u : Used) (steps : List ℕ) (b : Building counts 
               steps_size = omega (arith, b.steps_size);
               width = b.width;
               cycle_room = b.cycle_room;
-              step_room_lem = omega (arith, b.step_room_lem);
+              step_room = omega (arith, b.step_room);
             };
       }
 
@@ -111,7 +111,7 @@ module _ (counts : List ℕ) (u : Used) (steps : List ℕ) (b : Building counts 
               steps_size = omega (arith, b.steps_size);
               width = ap width_sum ec ∙ sum_append width (take u.cycles counts) (c ∷ []) ∙ omega (arith, w);
               cycle_room = omega arith;
-              step_room_lem = omega arith;
+              step_room = omega arith;
             };
       }
 

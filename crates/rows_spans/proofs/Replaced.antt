@@ -264,7 +264,7 @@ module _ (d : Drawing) (z : Sizes d) (f : Fits d) (row : ℕ) (p : List Entry) (
         let t = step_total_lem d (sheet_of d).cells (stands d z f) ∙ ap (λ (l : List Cycle). length (spread cycle_words l)) all_cycles_lem
         ∙ ap length (three_parts cycle_words a b c)
         ∙ length-append (spread cycle_words a) (spread cycle_words b ++ spread cycle_words c) in
-        omega (arith, t, length-append (spread cycle_words b) (spread cycle_words c), ap (λ (s : Span). s.count) step_span_lem, w.step_room_lem)
+        omega (arith, t, length-append (spread cycle_words b) (spread cycle_words c), ap (λ (s : Span). s.count) step_span_lem, w.step_room)
 
     widths : width_sum (take n counts) ≤ length steps
     widths = omega (arith, w.width, w.in_steps)
@@ -418,10 +418,10 @@ module _ (d : Drawing) (z : Sizes d) (row : ℕ) (at counts steps : List ℕ) (n
       let k = cycles_in_use d z w.fits row w.live in
       (omega (arith, w.fits.cycles), omega (arith, w.cycle_room, w.fits.cycles))
 
-  pub step_room : (s : Span) → s ≡ step_span d row → (s.first + s.count + s.rest ≤ 2048) × (s.first + m + s.rest ≤ 2048)
-  step_room s g =
+  pub step_room_lem : (s : Span) → s ≡ step_span d row → (s.first + s.count + s.rest ≤ 2048) × (s.first + m + s.rest ≤ 2048)
+  step_room_lem s g =
       let u = ap (λ (q : Span). q.first) g in
       let v = ap (λ (q : Span). q.count) g in
       let t = ap (λ (q : Span). q.rest) g in
       let k = steps_in_use d z w.fits row w.live in
-      (omega (arith, w.fits.steps), omega (arith, w.step_room_lem, w.fits.steps))
+      (omega (arith, w.fits.steps), omega (arith, w.step_room, w.fits.steps))

@@ -2,7 +2,7 @@
 use Rattle.std.specs.Prelude.{ℕ, ◌+◌, ◌≤◌, ◌≡◌, List, [], ◌∷◌, ◌++◌, map, length, take, drop}
 use Rattle.complex.specs.Lists.{total}
 use Rattle.complex.specs.Cells.{Cycle, path}
-use Rattle.complex.specs.Sound.{step_count_lem}
+use Rattle.complex.specs.Sound.{step_count}
 use Rattle.store.specs.View.{halfedge_of, cycles_from, width_sum}
 use Rattle.rows_spans.specs.declared.Used.{Used}
 
@@ -16,7 +16,7 @@ pub record Building (counts : List ℕ) (u : Used) (steps : List ℕ) : Type 0 w
   pub steps_size : length steps ≤ 2048
   pub width : width_sum (take u.cycles counts) ≡ u.steps
   pub cycle_room : u.cycles ≤ length counts
-  pub step_room_lem : u.steps ≤ length steps
+  pub step_room : u.steps ≤ length steps
 
 -- the arrays hold the cycles ks
 pub record Built (ks : List Cycle) (counts : List ℕ) (u : Used) (steps : List ℕ) : Type 0 where
@@ -28,7 +28,7 @@ pub record RoomFor (n m : ℕ) (ks : List Cycle) : Type 0 where
   pub few_counts : n ≤ 512
   pub few_steps : m ≤ 2048
   pub cycles : length ks ≤ n
-  pub steps : total step_count_lem ks ≤ m
+  pub steps : total step_count ks ≤ m
 
 -- a cycle more, of w places
 abbrev pub more_cycle : Used → ℕ → Used

@@ -55,7 +55,7 @@ pub record Replaces (d : Drawing) (row : ℕ) (counts : List ℕ) (n : ℕ) (ste
   pub in_steps : m ≤ length steps
   pub width : width_sum (take n counts) ≡ m
   pub cycle_room : cycle_total d + n ≤ 512 + (cycle_span d row).count
-  pub step_room_lem : step_total d + m ≤ 2048 + (step_span d row).count
+  pub step_room : step_total d + m ≤ 2048 + (step_span d row).count
 
 -- the sheet with another figure in a row
 abbrev pub sheet_with_row : Sheet → ℕ → Figure → Sheet

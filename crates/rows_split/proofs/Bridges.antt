@@ -10,7 +10,7 @@ use lib.ListN.{length, take, get_or, set, replicate, length-append, length-set, 
 use lib.Seq.{get_or-set_same, get_or-set_other}
 use Rattle.complex.specs.Lists.{one, rotated, without}
 use Rattle.complex.specs.Cells.{Halfedge, Cycle, along, against, steps_of}
-use Rattle.complex.specs.Sound.{step_count_lem}
+use Rattle.complex.specs.Sound.{step_count}
 use Rattle.complex.proofs.Split.{length_rotated}
 use Rattle.store.specs.View.{halfedge_of, width}
 use Rattle.store.specs.Edits.{kept}
@@ -119,7 +119,7 @@ module _ {cycles steps : List ℕ} {t : Spans} {c1 : ℕ} {p : Place} {s1 c2 : �
   room2 : q.at + width q.m ≤ 2048
   room2 = cornered_room cycles steps t c2 q s2 r.end
 
-  pub both_steps : step_count_lem both ≡ p.m + q.m + 2
+  pub both_steps : step_count both ≡ p.m + q.m + 2
   both_steps =
       let z = r.start.within.steps_size in
       let a = rotated s1 (steps_of (cycle_at steps p)) in

@@ -8,7 +8,7 @@ use borrow.Author.Tests.{eqb-true, ne_eqb}
 use lib.Dec.{T, eqb, ltb, ltb→lt}
 use lib.ListN.{length, take, drop, get_or, length-map, length-drop, get_or-map}
 use lib.Seq.{length-take-le, get_or-take, get_or-drop}
-use Rattle.complex.specs.Cells.{Cycle, Look, cell_at, is_open_lem, tail_of}
+use Rattle.complex.specs.Cells.{Cycle, Look, cell_at, is_open, tail_of}
 use Rattle.complex.specs.Cells as cells
 use Rattle.complex.specs.Cut.{no_cycle, no_step, corner, corner_exists}
 use Rattle.complex.proofs.Bools.{true_of, both}
@@ -32,7 +32,7 @@ corner_width : (look : Look) (m s : ℕ) (st : List ℕ) → m ≤ length st →
 corner_width look zero s st h x = let e = eqb-true s 0 (true_of (eqb s 0) x) in omega arith
 corner_width look (suc m) s st h x =
     let hs = map halfedge_of (take (suc m) st) in
-    let a = ltb→lt s (length hs) (both (ltb s (length hs)) (is_open_lem (look (get_or hs s no_step).edge)) x).0 in
+    let a = ltb→lt s (length hs) (both (ltb s (length hs)) (is_open (look (get_or hs s no_step).edge)) x).0 in
     let l = length-map (take (suc m) st) halfedge_of ∙ length-take-le (suc m) st h in
     omega arith
 

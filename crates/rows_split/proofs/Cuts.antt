@@ -12,7 +12,7 @@ use Rattle.complex.specs.Lists.{total, holds, places, is_empty}
 use Rattle.complex.specs.Cells.{Cycle, Figure, vertex, face, LiveCell, Sheet, Look, cell_at, origin}
 use Rattle.complex.specs.Cells as cells
 use Rattle.complex.specs.Edits.{numbered, every_id, replaced}
-use Rattle.complex.specs.Sound.{step_count_lem, cycles_in, steps_in, over}
+use Rattle.complex.specs.Sound.{step_count, cycles_in, steps_in, over}
 use Rattle.complex.specs.Cut.{no_cycle, corner_exists}
 use Rattle.complex.proofs.Bools.{truth, both}
 use Rattle.complex.proofs.Sums.{total_set}
@@ -48,26 +48,26 @@ module _ {d : Drawing} {ix : Index} {script : List ℕ} {f c1 s1 c2 s2 bends fir
   abbrev look : Look
   look = cell_at (sheet_of d)
 
-  abbrev at_first_lem : Bool
-  at_first_lem = corner_exists look (get_or own c1 no_cycle) s1
+  abbrev at_first : Bool
+  at_first = corner_exists look (get_or own c1 no_cycle) s1
 
-  abbrev at_second_lem : Bool
-  at_second_lem = corner_exists look (get_or own c2 no_cycle) s2
+  abbrev at_second : Bool
+  at_second = corner_exists look (get_or own c2 no_cycle) s2
 
   abbrev rest : Bool
   rest = cond (eqb c1 c2) (places 0 ms (length own) && not (holds c1 ms)) (is_empty ms)
 
-  after_first : T (ltb c1 (length own)) × T (ltb c2 (length own) && (at_first_lem && (at_second_lem && rest)))
-  after_first = both (ltb c1 (length own)) (ltb c2 (length own) && (at_first_lem && (at_second_lem && rest))) (truth g.corners)
+  after_first : T (ltb c1 (length own)) × T (ltb c2 (length own) && (at_first && (at_second && rest)))
+  after_first = both (ltb c1 (length own)) (ltb c2 (length own) && (at_first && (at_second && rest))) (truth g.corners)
 
-  after_second : T (ltb c2 (length own)) × T (at_first_lem && (at_second_lem && rest))
-  after_second = both (ltb c2 (length own)) (at_first_lem && (at_second_lem && rest)) after_first.1
+  after_second : T (ltb c2 (length own)) × T (at_first && (at_second && rest))
+  after_second = both (ltb c2 (length own)) (at_first && (at_second && rest)) after_first.1
 
-  after_corner : T at_first_lem × T (at_second_lem && rest)
-  after_corner = both at_first_lem (at_second_lem && rest) after_second.1
+  after_corner : T at_first × T (at_second && rest)
+  after_corner = both at_first (at_second && rest) after_second.1
 
-  after_corners : T at_second_lem × T rest
-  after_corners = both at_second_lem rest after_corner.1
+  after_corners : T at_second × T rest
+  after_corners = both at_second rest after_corner.1
 
   pub in_first : c1 < length own
   in_first = ltb→lt c1 (length own) after_first.0
@@ -75,11 +75,11 @@ module _ {d : Drawing} {ix : Index} {script : List ℕ} {f c1 s1 c2 s2 bends fir
   pub in_second : c2 < length own
   in_second = ltb→lt c2 (length own) after_second.0
 
-  pub at_first : T at_first_lem
-  at_first = after_corner.0
+  pub at_first_lem : T at_first
+  at_first_lem = after_corner.0
 
-  pub at_second : T at_second_lem
-  at_second = after_corners.0
+  pub at_second_lem : T at_second
+  at_second_lem = after_corners.0
 
   -- the moved cycles, where there is one cycle
   pub moves : eqb c1 c2 ≡ true → T (places 0 ms (length own)) × T (not (holds c1 ms))
@@ -89,7 +89,7 @@ module _ {d : Drawing} {ix : Index} {script : List ℕ} {f c1 s1 c2 s2 bends fir
 
 -- ---- the steps that stand at the spans of a face
 module _ {d : Drawing} {f : ℕ} {t : Spans} (s : Spanned d f t) where
-  listed_steps : total step_count_lem (cycles_at d.cycles d.steps t) ≡ t.steps.count
+  listed_steps : total step_count (cycles_at d.cycles d.steps t) ≡ t.steps.count
   listed_steps =
       let w = s.within in
       list_steps (take t.cycles.count (drop t.cycles.first d.cycles)) (drop t.steps.first d.steps)
@@ -105,10 +105,10 @@ module _ {d : Drawing} {ix : Index} {f : ℕ} {t : Spans} (z : Sizes d) (n : Nam
       let l = sym (ap length s.list) ∙ at_length d.cycles d.steps t s.within in
       omega (arith, s.few_cycles)
 
-  steps_most_lem : total step_count_lem ks ≤ 2048
+  steps_most_lem : total step_count ks ≤ 2048
   steps_most_lem =
       let a = spare_steps d z ix f n ks (roomy (recycled (sheet_of d) f ks) new r) in
-      let e = ap (total step_count_lem) (sym s.list) in
+      let e = ap (total step_count) (sym s.list) in
       let l = listed_steps s in
       omega (arith, s.few_steps)
 
@@ -201,7 +201,7 @@ module _ {d : Drawing} {ix : Index} {script : List ℕ} {f c1 s1 c2 s2 bends fir
 
       go : (q : Bool) → eqb c1 c2 ≡ q
           → (length (old_by q d.next ks) + length (new_by q d.next ks) ≤ length ks + 1)
-          × (total step_count_lem (old_by q d.next ks) + total step_count_lem (new_by q d.next ks) ≤ total step_count_lem ks + 2)
+          × (total step_count (old_by q d.next ks) + total step_count (new_by q d.next ks) ≤ total step_count ks + 2)
       go true e =
           let y = moves cut e in
           sides_few ks d.next c1 (here (in_first cut)) s1 s2 (ms cut)

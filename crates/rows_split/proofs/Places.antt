@@ -8,7 +8,7 @@ use lib.ListN.{length, take, drop, get_or, length-append, length-drop}
 use lib.Seq.{length-take-le, take-take, get_or-take, get_or-drop, drop-drop}
 use Rattle.complex.specs.Lists.{total, one, rotated, distance}
 use Rattle.complex.specs.Cells.{Cycle, path, along, steps_of}
-use Rattle.complex.specs.Sound.{step_count_lem}
+use Rattle.complex.specs.Sound.{step_count}
 use Rattle.complex.specs.Cut.{no_cycle, remainder}
 use Rattle.complex.proofs.Split.{length_rotated}
 use Rattle.store.specs.View.{halfedge_of, width, width_sum, cycle_of, cycles_from}
@@ -31,14 +31,14 @@ use Rattle.rows_split.proofs.Arcs.{corner_most, halves_length, far_is}
 
 -- ---- a list of cycles says how much of the arrays it takes
 pub built_size : {ks : List Cycle} {counts : List ℕ} {u : Used} {steps : List ℕ} → Built ks counts u steps
-    → (u.cycles ≡ length ks) × (u.steps ≡ total step_count_lem ks)
+    → (u.cycles ≡ length ks) × (u.steps ≡ total step_count ks)
 built_size {ks} {counts} {u} {steps} b =
     let g = b.building in
     let w = g.width in
     let l = length_cycles (take u.cycles counts) steps in
     let n = length-take-le u.cycles counts g.cycle_room in
-    let s = list_steps (take u.cycles counts) steps (omega (arith, g.step_room_lem)) in
-    (sym (l ∙ n) ∙ ap length b.list, sym (s ∙ w) ∙ ap (total step_count_lem) b.list)
+    let s = list_steps (take u.cycles counts) steps (omega (arith, g.step_room)) in
+    (sym (l ∙ n) ∙ ap length b.list, sym (s ∙ w) ∙ ap (total step_count) b.list)
 
 -- what is kept of cycles that are read are as many as what is kept of their counts
 pub kept_count : (bs : List Bool) (ns st : List ℕ) → length (kept bs (cycles_from ns st)) ≡ length (kept bs ns)
@@ -104,11 +104,11 @@ module _ (steps : List ℕ) (z : length steps ≡ 2048) (p : Place) (r : p.at + 
           start = corner_most p.m s hs;
           least = hl;
           cycle_room = hc;
-          step_room_lem = omega arith;
+          step_room = omega arith;
         }
 
     -- how many steps the far side's cycle has
-    pub far_steps : (e : ℕ) → step_count_lem (far_cycle e s t (cycle_at steps p)) ≡ p.m - distance p.m s t + 1
+    pub far_steps : (e : ℕ) → step_count (far_cycle e s t (cycle_at steps p)) ≡ p.m - distance p.m s t + 1
     far_steps e =
         let hs = steps_of (cycle_at steps p) in
         let l = halves_length steps p.at p.m steps_within in
@@ -138,7 +138,7 @@ module _ (cycles steps : List ℕ) (t : Spans) (c : ℕ) (p : Place) (s : ℕ) (
 module _ (cycles steps : List ℕ) (t : Spans) (w : Within cycles steps t) (flags : List Bool) (fs : t.cycles.count ≤ length flags)
     (x : Cycle) {counts : List ℕ} {u : Used} {out : List ℕ}
     (hc : length (x ∷ kept (take t.cycles.count flags) (cycles_at cycles steps t)) ≤ length counts)
-    (hs : total step_count_lem (x ∷ kept (take t.cycles.count flags) (cycles_at cycles steps t)) ≤ length out) (b : Built (one x) counts u out) where
+    (hs : total step_count (x ∷ kept (take t.cycles.count flags) (cycles_at cycles steps t)) ≤ length out) (b : Built (one x) counts u out) where
   pub kept_asks : CopyRoom cycles steps t.cycles.first t.cycles.count t.steps.first flags counts u out
   kept_asks =
       let ns = take t.cycles.count (drop t.cycles.first cycles) in
@@ -160,5 +160,5 @@ module _ (cycles steps : List ℕ) (t : Spans) (w : Within cycles steps t) (flag
         in_steps = omega arith;
         flags = omega arith;
         cycle_room = omega arith;
-        step_room_lem = omega arith;
+        step_room = omega arith;
       }

@@ -9,14 +9,14 @@ use lib.Seq.{get_or-set_other}
 use lib.Dec.{T}
 use Rattle.complex.specs.Lists.{total, holds, places, one, rotated, chosen}
 use Rattle.complex.specs.Cells.{Cycle, lone, path, along, against, steps_of}
-use Rattle.complex.specs.Sound.{step_count_lem}
+use Rattle.complex.specs.Sound.{step_count}
 use Rattle.complex.specs.Cut.{no_cycle, stretch, remainder}
 use Rattle.complex.proofs.Split.{length_rotated}
 use Rattle.complex.proofs.Sums.{total_set, total_left, total_but_one, length_left, length_but_one, chosen_set}
 use Rattle.answer.proofs.SizesCut.{parted_length}
 use Rattle.rows_split.specs.Along.{near_side, far_side, bridge}
 
-steps_few : (k : Cycle) → length (steps_of k) ≤ step_count_lem k
+steps_few : (k : Cycle) → length (steps_of k) ≤ step_count k
 steps_few (lone v) = omega arith
 steps_few (path hs) = omega arith
 
@@ -27,7 +27,7 @@ module _ (ks : List Cycle) (e c1 : ℕ) (l1 : c1 < length ks) (s1 s2 : ℕ) wher
   -- both sides of one cycle: a cycle and two steps more than there were
   pub sides_few : (ms : List ℕ) → T (places 0 ms (length ks)) → T (not (holds c1 ms))
       → (length (near_side e c1 s1 s2 ms ks) + length (far_side e c1 s1 s2 ms ks) ≤ length ks + 1)
-      × (total step_count_lem (near_side e c1 s1 s2 ms ks) + total step_count_lem (far_side e c1 s1 s2 ms ks) ≤ total step_count_lem ks + 2)
+      × (total step_count (near_side e c1 s1 s2 ms ks) + total step_count (far_side e c1 s1 s2 ms ks) ≤ total step_count ks + 2)
   sides_few ms there h =
       let P = stretch s1 s2 (steps_of k1) in
       let Q = remainder s1 s2 (steps_of k1) in
@@ -36,9 +36,9 @@ module _ (ks : List Cycle) (e c1 : ℕ) (l1 : c1 < length ks) (s1 s2 : ℕ) wher
       let a = length-set ks c1 y in
       let there' : T (places 0 ms (length x)) = subst (λ (n : ℕ). T (places 0 ms n)) (sym a) there in
       let b = length_left no_cycle ms x there' in
-      let d = total_left step_count_lem no_cycle ms x there' in
-      let n = ap (total step_count_lem) (chosen_set no_cycle ms ks c1 y h) in
-      let g = total_set step_count_lem ks c1 y no_cycle l1 in
+      let d = total_left step_count no_cycle ms x there' in
+      let n = ap (total step_count) (chosen_set no_cycle ms ks c1 y h) in
+      let g = total_set step_count ks c1 y no_cycle l1 in
       let i = steps_few k1 in
       let j = length-append P (one (against e)) in
       let k = length-append Q (one (along e)) in
@@ -48,7 +48,7 @@ module _ (ks : List Cycle) (e c1 : ℕ) (l1 : c1 < length ks) (s1 s2 : ℕ) wher
 
   -- two cycles as one: a cycle less, and at most two steps more
   pub bridge_few : (c2 : ℕ) → c2 < length ks → (c1 ≡ c2 → ⊥)
-      → (length (bridge e c1 s1 c2 s2 ks) ≤ length ks) × (total step_count_lem (bridge e c1 s1 c2 s2 ks) ≤ total step_count_lem ks + 2)
+      → (length (bridge e c1 s1 c2 s2 ks) ≤ length ks) × (total step_count (bridge e c1 s1 c2 s2 ks) ≤ total step_count ks + 2)
   bridge_few c2 l2 ne =
       let k2 = get_or ks c2 no_cycle in
       let R = rotated s2 (steps_of k2) ++ one (against e) in
@@ -57,9 +57,9 @@ module _ (ks : List Cycle) (e c1 : ℕ) (l1 : c1 < length ks) (s1 s2 : ℕ) wher
       let a = length-set ks c1 y in
       let l : c2 < length x = omega arith in
       let b = length_but_one no_cycle c2 x l in
-      let d = total_but_one step_count_lem no_cycle c2 x l in
-      let n = ap step_count_lem (get_or-set_other ks c1 c2 y no_cycle (λ z. ne (sym z))) in
-      let g = total_set step_count_lem ks c1 y no_cycle l1 in
+      let d = total_but_one step_count no_cycle c2 x l in
+      let n = ap step_count (get_or-set_other ks c1 c2 y no_cycle (λ z. ne (sym z))) in
+      let g = total_set step_count ks c1 y no_cycle l1 in
       let i = steps_few k1 in
       let j = steps_few k2 in
       let k = length-append (rotated s1 (steps_of k1)) (along e ∷ R) in

@@ -3,7 +3,7 @@ use Rattle.std.specs.Prelude.{ℕ, ◌+◌, ◌≤◌, ◌<◌, ◌≡◌, true,
 use Rattle.number.specs.Numbers.{read_number}
 use Rattle.complex.specs.Lists.{total, one, rotated, holds, places}
 use Rattle.complex.specs.Cells.{Cycle, path, along, against, steps_of}
-use Rattle.complex.specs.Sound.{ids_end, step_count_lem}
+use Rattle.complex.specs.Sound.{ids_end, step_count}
 use Rattle.complex.specs.Cut.{stretch, remainder}
 use Rattle.store.specs.View.{width, width_sum, cycle_of}
 use Rattle.rows_spans.specs.declared.Spans.{Spans}
@@ -44,7 +44,7 @@ pub record RoomForBoth (n m : ℕ) (ks ls : List Cycle) : Type 0 where
   pub few_counts : n ≤ 512
   pub few_steps : m ≤ 2048
   pub cycles : length ks + length ls ≤ n
-  pub steps : total step_count_lem ks + total step_count_lem ls ≤ m
+  pub steps : total step_count ks + total step_count ls ≤ m
 
 -- two corners of one cycle of the spans; the moved cycles lie in the script
 pub record SplitParting (cycles steps : List ℕ) (t : Spans) (script : List ℕ) (moved place c : ℕ) (p : Place) (s1 s2 e : ℕ) : Type 0 where

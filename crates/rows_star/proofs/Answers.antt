@@ -7,7 +7,7 @@ use native.Mathlib.Omega.{arith}
 use lib.Dec.{T, eqb, ltb, leb-suc-suc}
 use lib.ListN.{length, take}
 use borrow.Author.Tests.{lt-ltb, le-ltb}
-use Rattle.complex.specs.Cells.{LiveCell, lookup, some_if, cell_at, is_live_lem}
+use Rattle.complex.specs.Cells.{LiveCell, lookup, some_if, cell_at, is_live}
 use Rattle.complex.specs.Sound.{sound}
 use Rattle.complex.specs.Boundary.{star}
 use Rattle.complex.specs.Calls.{filled, unfilled, star_call}
@@ -38,12 +38,12 @@ module _ (is ks ss es cs ns st : List ℕ) (i : ℕ) (buffer : List ℕ) (r : �
       (le-ltb (row_of i is) (length is) (omega arith)))
 
 -- an id with a row is live
-live_row : (xs : List LiveCell) (i : ℕ) → ltb (row_of i (id_row xs)) (length (id_row xs)) ≡ is_live_lem (lookup xs i)
+live_row : (xs : List LiveCell) (i : ℕ) → ltb (row_of i (id_row xs)) (length (id_row xs)) ≡ is_live (lookup xs i)
 live_row [] i = refl
 live_row (x ∷ xs) i = go (eqb x.id i) (live_row xs i)
   where
-    go : (b : Bool) → ltb (row_of i (id_row xs)) (length (id_row xs)) ≡ is_live_lem (lookup xs i)
-        → ltb (cond b 0 (suc (row_of i (id_row xs)))) (suc (length (id_row xs))) ≡ is_live_lem (some_if b x.figure (lookup xs i))
+    go : (b : Bool) → ltb (row_of i (id_row xs)) (length (id_row xs)) ≡ is_live (lookup xs i)
+        → ltb (cond b 0 (suc (row_of i (id_row xs)))) (suc (length (id_row xs))) ≡ is_live (some_if b x.figure (lookup xs i))
     go true h = lt-ltb 0 (suc (length (id_row xs))) (omega arith)
     go false h = leb-suc-suc (suc (row_of i (id_row xs))) (length (id_row xs)) ∙ h
 
@@ -60,14 +60,14 @@ module _ (d : Drawing) (z : Sizes d) (t : Index) (x : Indexes d t) (s : T (sound
   sheet_sound : sound (sheet_of d) ≡ true
   sheet_sound = true_of (sound (sheet_of d)) (sound_sheet_lem d s)
 
-  is_live : (i : ℕ) → ltb (row_of i (take d.count t.ids)) (length (take d.count t.ids)) ≡ is_live_lem (cell_at (sheet_of d) i)
+  is_live : (i : ℕ) → ltb (row_of i (take d.count t.ids)) (length (take d.count t.ids)) ≡ is_live (cell_at (sheet_of d) i)
   is_live i = ap (λ (l : List ℕ). ltb (row_of i l) (length l)) (ids_are d z (sound_fits d s) t x) ∙ live_row (sheet_of d).cells i
 
-  star_called : (i : ℕ) (buffer : List ℕ) → cond (is_live_lem (cell_at (sheet_of d) i)) (filled (star (sheet_of d).cells i) buffer) (unfilled 4 buffer)
+  star_called : (i : ℕ) (buffer : List ℕ) → cond (is_live (cell_at (sheet_of d) i)) (filled (star (sheet_of d).cells i) buffer) (unfilled 4 buffer)
       ≡ star_call (sheet_of d) i buffer
   unfolding star_call
   star_called i buffer =
-      sym (ap (λ (b : Bool). cond b (cond (is_live_lem (cell_at (sheet_of d) i)) (filled (star (sheet_of d).cells i) buffer) (unfilled 4 buffer)) (unfilled 1 buffer))
+      sym (ap (λ (b : Bool). cond b (cond (is_live (cell_at (sheet_of d) i)) (filled (star (sheet_of d).cells i) buffer) (unfilled 4 buffer)) (unfilled 1 buffer))
       sheet_sound)
 
   pub star_answer : (i : ℕ) (buffer : List ℕ)

@@ -20,8 +20,8 @@ use Rattle.store.specs.View.{sheet_of, Fits, cycles_from, cycle_count, width_sum
 use Rattle.store.specs.Places.{shape_of, figure_cycles, entry_cycles}
 use Rattle.store.specs.Index.{kind_of, shape_start, shape_end, Indexes, Rising, row_of}
 use Rattle.store.proofs.Lists.{map_append}
-use Rattle.store.proofs.Stands.{used_cycles_lem}
-use Rattle.sound.proofs.Parts.{id_row, kind_row_lem, start_row, end_row_lem, cycle_row}
+use Rattle.store.proofs.Stands.{used_cycles}
+use Rattle.sound.proofs.Parts.{id_row, kind_row, start_row, end_row, cycle_row}
 use Rattle.sound.proofs.Meaning.{ids_are, kinds_are, starts_are, ends_are, cycles_are}
 use Rattle.rows_marks.specs.Marks.{ends_there, edge_marks, mark_at, any_of, sum_of, cell_marks}
 use Rattle.rows_marks.proofs.Marking.{any_map, counts_sum}
@@ -64,7 +64,7 @@ module _ (i : ℕ) where
   ends_shape (closed_edge bs) = refl
   ends_shape (face ks) = refl
 
-  edge_row : (xs : List LiveCell) → edge_marks i (kind_row_lem xs) (start_row xs) (end_row_lem xs) ≡ map ending xs
+  edge_row : (xs : List LiveCell) → edge_marks i (kind_row xs) (start_row xs) (end_row xs) ≡ map ending xs
   edge_row [] = refl
   edge_row (x ∷ xs) = ap₂ (λ (b : Bool) (bs : List Bool). b ∷ bs) (ends_shape x.figure) (edge_row xs)
 
@@ -116,7 +116,7 @@ module _ (i : ℕ) where
 
   -- the marks of cells whose cycles are those of the pools
   stars_row : (xs : List LiveCell) (ns st : List ℕ) → spread entry_cycles xs ≡ cycles_from (take (sum_of (cycle_row xs)) ns) st
-      → star_marks (id_row xs) (kind_row_lem xs) (start_row xs) (end_row_lem xs) (cycle_row xs) ns st i ≡ map (λ (c : LiveCell). bounds (lookup xs) i c.figure) xs
+      → star_marks (id_row xs) (kind_row xs) (start_row xs) (end_row xs) (cycle_row xs) ns st i ≡ map (λ (c : LiveCell). bounds (lookup xs) i c.figure) xs
   unfolding star_marks
   stars_row xs ns st e =
       ap₂ (λ (ms : List Bool) (ks : List Cycle). cell_marks ms (cycle_row xs) (map (cycle_holds (id_row xs) ms i) ks)) (edge_row xs) (sym e)
@@ -152,12 +152,12 @@ module _ (d : Drawing) (z : Sizes d) (f : Fits d) (t : Index) (x : Indexes d t) 
   marks_meant i =
       ap₂ (λ (a b : List ℕ). star_marks a b (take d.count t.starts) (take d.count t.ends) (take d.count t.cycles) d.cycles d.steps i)
       (ids_are d z f t x) (kinds_are d z f t x)
-      ∙ ap₂ (λ (a b : List ℕ). star_marks (id_row (sheet_of d).cells) (kind_row_lem (sheet_of d).cells) a b (take d.count t.cycles) d.cycles d.steps i)
+      ∙ ap₂ (λ (a b : List ℕ). star_marks (id_row (sheet_of d).cells) (kind_row (sheet_of d).cells) a b (take d.count t.cycles) d.cycles d.steps i)
       (starts_are d z f t x) (ends_are d z f t x)
-      ∙ ap (λ (a : List ℕ). star_marks (id_row (sheet_of d).cells) (kind_row_lem (sheet_of d).cells) (start_row (sheet_of d).cells) (end_row_lem (sheet_of d).cells) a
+      ∙ ap (λ (a : List ℕ). star_marks (id_row (sheet_of d).cells) (kind_row (sheet_of d).cells) (start_row (sheet_of d).cells) (end_row (sheet_of d).cells) a
       d.cycles d.steps i) (cycles_are d z f t x)
       ∙ stars_row i (sheet_of d).cells d.cycles d.steps
-      (used_cycles_lem d z f ∙ ap (λ (n : ℕ). cycles_from (take n d.cycles) d.steps) (sym (counts_sum d t x) ∙ ap sum_of (cycles_are d z f t x)))
+      (used_cycles d z f ∙ ap (λ (n : ℕ). cycles_from (take n d.cycles) d.steps) (sym (counts_sum d t x) ∙ ap sum_of (cycles_are d z f t x)))
 
   -- the ids of the marked rows are the star
   pub star_meant : (i : ℕ)

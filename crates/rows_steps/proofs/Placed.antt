@@ -83,14 +83,14 @@ module _ (starts ends : List ℕ) where
       (ended_bends 0 xs)
 
   -- one row more
-  abbrev cell_of_lem : ℕ → Cell → Cell
-  cell_of_lem i c = record { id = c.id; shape = ended_shape (get_or starts i 0) (get_or ends i 0) c.shape }
+  abbrev cell_of : ℕ → Cell → Cell
+  cell_of i c = record { id = c.id; shape = ended_shape (get_or starts i 0) (get_or ends i 0) c.shape }
 
-  ended_snoc : (i : ℕ) (cs : List Cell) (c : Cell) → ended_cells starts ends i (cs ++ (c ∷ [])) ≡ ended_cells starts ends i cs ++ (cell_of_lem (i + length cs) c ∷ [])
-  ended_snoc i [] c = ap (λ (k : ℕ). cell_of_lem k c ∷ []) (omega arith)
+  ended_snoc : (i : ℕ) (cs : List Cell) (c : Cell) → ended_cells starts ends i (cs ++ (c ∷ [])) ≡ ended_cells starts ends i cs ++ (cell_of (i + length cs) c ∷ [])
+  ended_snoc i [] c = ap (λ (k : ℕ). cell_of k c ∷ []) (omega arith)
   ended_snoc i (x ∷ cs) c =
       let e : suc i + length cs ≡ i + suc (length cs) = omega arith in
-      ap (λ (q : List Cell). cell_of_lem i x ∷ q) (ended_snoc (suc i) cs c ∙ ap (λ (k : ℕ). ended_cells starts ends (suc i) cs ++ (cell_of_lem k c ∷ [])) e)
+      ap (λ (q : List Cell). cell_of i x ∷ q) (ended_snoc (suc i) cs c ∙ ap (λ (k : ℕ). ended_cells starts ends (suc i) cs ++ (cell_of k c ∷ [])) e)
 
   -- the first i cells have their new ends
   pub record Ending (cs : List Cell) (i : ℕ) (out : List Cell) : Type 0 where
@@ -105,7 +105,7 @@ module _ (starts ends : List ℕ) where
             ap (λ (n : ℕ). take n (set out i (record { id = (get_or cs i no_cell).id; shape = t }))) (add-one i) ∙ take-suc-set out i _ k
             ∙ ap₂ (λ (x : List Cell) (s : Shape). x ++ (record { id = (get_or cs i no_cell).id; shape = s } ∷ [])) p.front e
             ∙ sym (rw (add-one, take-suc cs i no_cell h)
-            (ended_snoc 0 (take i cs) (get_or cs i no_cell) ∙ ap (λ (n : ℕ). ended_cells starts ends 0 (take i cs) ++ (cell_of_lem n (get_or cs i no_cell) ∷ []))
+            (ended_snoc 0 (take i cs) (get_or cs i no_cell) ∙ ap (λ (n : ℕ). ended_cells starts ends 0 (take i cs) ++ (cell_of n (get_or cs i no_cell) ∷ []))
             (row i (length-take-le i cs (omega arith)))));
       }
     where

@@ -19,7 +19,7 @@ use Rattle.rows_spans.specs.Building.{Built, built, RoomFor}
 use Rattle.rows_corners.proofs.Lists.{take_map, rotated_map}
 use Rattle.rows_stretches.specs.declared.Stretch.{Stretch}
 use Rattle.rows_stretches.specs.declared.Place.{Place}
-use Rattle.rows_stretches.specs.Paths.{stretch_of, path_of, InCycle, list_at_lem, steps_at, others_at, put_at, all_but, between, no_steps_lem, Lies}
+use Rattle.rows_stretches.specs.Paths.{stretch_of, path_of, InCycle, list_at, steps_at, others_at, put_at, all_but, between, no_steps, Lies}
 use Rattle.rows_stretches.specs.Paths.{following_in, merged_list, Merging, parted_list, Parting}
 use Rattle.rows_stretches.proofs.Places.{cycle_in}
 
@@ -72,7 +72,7 @@ module _ (cycles steps : List ℕ) (p : Place) (l : Lies cycles steps p) where
   between_in : (s t : ℕ) → s < p.count → t < p.count → InCycle (between p s t)
   between_in s t h k = record { cycle = cycle_in cycles steps p l; start = omega arith; least = distance_least p.count (s + 1) t (omega arith) k }
 
-  none_in : InCycle (no_steps_lem p)
+  none_in : InCycle (no_steps p)
   none_in = record { cycle = cycle_in cycles steps p l; start = omega arith; least = omega arith }
 
   up_to_asks : (s t : ℕ) → s < p.count → t < p.count → (p.count ≤ 2048) × ((s < p.count) × (t < p.count))
@@ -89,7 +89,7 @@ module _ {cycles steps : List ℕ} {p : Place} {s : ℕ} {q : Place} {t v : ℕ}
     (eb : b ≡ all_but q t) where
   pub merged_is : put_at cycles steps p a b v ++ others_at cycles steps q ≡ merged_list cycles steps p s q t v
   merged_is =
-      ap₂ (λ (x y : List Halfedge). set (list_at_lem cycles steps p) p.cycle (path_or v (x ++ y)) ++ others_at cycles steps q)
+      ap₂ (λ (x y : List Halfedge). set (list_at cycles steps p) p.cycle (path_or v (x ++ y)) ++ others_at cycles steps q)
       (ap (stretch_of steps) ea ∙ all_but_is cycles steps p m.first s m.here)
       (ap (stretch_of steps) eb ∙ all_but_is cycles steps q m.second t m.there)
 
@@ -101,13 +101,13 @@ module _ {cycles steps : List ℕ} {p : Place} {s : ℕ} {q : Place} {t v : ℕ}
 
 -- ---- a cycle becomes two
 module _ {cycles steps : List ℕ} {p : Place} {s t v w : ℕ} (m : Parting cycles steps p s t v w) where
-  stretch_is : (i j : ℕ) {c : Stretch} → c ≡ between p i j → stretch_of steps c ++ stretch_of steps (no_steps_lem p) ≡ stretch (suc i) j (steps_at steps p)
+  stretch_is : (i j : ℕ) {c : Stretch} → c ≡ between p i j → stretch_of steps c ++ stretch_of steps (no_steps p) ≡ stretch (suc i) j (steps_at steps p)
   stretch_is i j {c} e = append-nil (stretch_of steps c) ∙ ap (stretch_of steps) e ∙ between_is cycles steps p m.first i j
 
   pub parted_is : {a b : Stretch} → a ≡ between p s t → b ≡ between p t s
-      → put_at cycles steps p a (no_steps_lem p) v ++ one (path_of steps b (no_steps_lem p) w) ≡ parted_list cycles steps p s t v w
+      → put_at cycles steps p a (no_steps p) v ++ one (path_of steps b (no_steps p) w) ≡ parted_list cycles steps p s t v w
   parted_is ea eb =
-      ap₂ (λ (x y : List Halfedge). set (list_at_lem cycles steps p) p.cycle (path_or v x) ++ one (path_or w y)) (stretch_is s t ea) (stretch_is t s eb)
+      ap₂ (λ (x y : List Halfedge). set (list_at cycles steps p) p.cycle (path_or v x) ++ one (path_or w y)) (stretch_is s t ea) (stretch_is t s eb)
 
   pub here_in : {a : Stretch} → a ≡ between p s t → InCycle a
   here_in ea = subst InCycle (sym ea) (between_in cycles steps p m.first s t m.here m.there)
@@ -115,7 +115,7 @@ module _ {cycles steps : List ℕ} {p : Place} {s t v w : ℕ} (m : Parting cycl
   pub there_in : {b : Stretch} → b ≡ between p t s → InCycle b
   there_in eb = subst InCycle (sym eb) (between_in cycles steps p m.first t s m.there m.here)
 
-  pub nothing_in : InCycle (no_steps_lem p)
+  pub nothing_in : InCycle (no_steps p)
   nothing_in = none_in cycles steps p m.first
 
   -- what is asked of the two stretches

@@ -7,7 +7,7 @@ use lib.ListN.{length, take, drop, length-append, length-map}
 use lib.Seq.{length-take-le, take_at, drop_at, take_all}
 use Rattle.complex.specs.Lists.{total, one}
 use Rattle.complex.specs.Cells.{Halfedge, Cycle, lone, path}
-use Rattle.complex.specs.Sound.{step_count_lem}
+use Rattle.complex.specs.Sound.{step_count}
 use Rattle.complex.specs.Uncut.{path_or}
 use Rattle.store.specs.View.{halfedge_of}
 use Rattle.store.proofs.Encode.{length_cycles}
@@ -28,28 +28,28 @@ module _ {counts : List ℕ} {u : Used} {out : List ℕ} (b : Building counts u 
   pub built_cycles : length (built counts u out) ≡ u.cycles
   built_cycles = length_cycles (take u.cycles counts) out ∙ length-take-le u.cycles counts b.cycle_room
 
-  pub built_steps : total step_count_lem (built counts u out) ≡ u.steps
-  built_steps = list_steps (take u.cycles counts) out (omega (arith, b.width, b.step_room_lem)) ∙ b.width
+  pub built_steps : total step_count (built counts u out) ≡ u.steps
+  built_steps = list_steps (take u.cycles counts) out (omega (arith, b.width, b.step_room)) ∙ b.width
 
 -- where there is room for cycles, there is room for those in front
 pub few_front : (xs ys : List Cycle) {n m : ℕ} → RoomFor n m (xs ++ ys) → RoomFor n m xs
 few_front xs ys f =
     let a = length-append xs ys in
-    let b = sum_append step_count_lem xs ys in
+    let b = sum_append step_count xs ys in
     record { few_counts = f.few_counts; few_steps = f.few_steps; cycles = omega (arith, f.cycles); steps = omega (arith, f.steps) }
 
 -- the list so far leaves that much
 pub few_left : {counts : List ℕ} {u : Used} {out : List ℕ} → Building counts u out → (ks : List Cycle) {n m : ℕ} → RoomFor n m (built counts u out ++ ks)
-    → (u.cycles + length ks ≤ n) × (u.steps + total step_count_lem ks ≤ m)
+    → (u.cycles + length ks ≤ n) × (u.steps + total step_count ks ≤ m)
 few_left {counts} {u} {out} b ks f =
     let a = length-append (built counts u out) ks in
-    let s = sum_append step_count_lem (built counts u out) ks in
+    let s = sum_append step_count (built counts u out) ks in
     let c = built_cycles b in
     let d = built_steps b in
     (omega (arith, f.cycles), omega (arith, f.steps))
 
 -- ---- nothing left means a vertex, alone
-pub path_least : (v : ℕ) (hs : List Halfedge) → (length hs ≤ step_count_lem (path_or v hs)) × (1 ≤ step_count_lem (path_or v hs))
+pub path_least : (v : ℕ) (hs : List Halfedge) → (length hs ≤ step_count (path_or v hs)) × (1 ≤ step_count (path_or v hs))
 path_least v [] = (omega arith, omega arith)
 path_least v (h ∷ hs) = (omega arith, omega arith)
 
@@ -77,7 +77,7 @@ pasted_built : {counts : List ℕ} {u : Used} {out xs st counts' : List ℕ} →
     → u.steps + length xs ≤ length out → Built (built counts u out ++ one (path (map halfedge_of xs))) counts' (more_cycle u (length xs)) st
 pasted_built {counts} {u} {out} {xs} {st} {counts'} b p c room =
     let j = u.steps in
-    let h = b.step_room_lem in
+    let h = b.step_room in
     let z = p.size in
     let lt = length-take-le j out (omega arith) in
     let front : take j st ≡ take j out =

@@ -12,7 +12,7 @@ use Rattle.store.proofs.Lists.{sum_more, sum_le}
 use Rattle.store.proofs.Encode.{cycle_at_lem}
 use Rattle.rows_spans.proofs.Building.{cycle_path, width_some}
 use Rattle.rows_stretches.specs.declared.Place.{Place}
-use Rattle.rows_stretches.specs.Paths.{list_at_lem, steps_at, Lies}
+use Rattle.rows_stretches.specs.Paths.{list_at, steps_at, Lies}
 
 module _ (cycles steps : List ℕ) (p : Place) (l : Lies cycles steps p) where
   abbrev counts_in : List ℕ
@@ -27,7 +27,7 @@ module _ (cycles steps : List ℕ) (p : Place) (l : Lies cycles steps p) where
       (omega (arith, length-drop p.spans.cycles.first cycles, l.within.in_cycles, l.within.cycles_size))
 
   -- ---- its steps
-  pub cycle_is : get_or (list_at_lem cycles steps p) p.cycle no_cycle ≡ path (steps_at steps p)
+  pub cycle_is : get_or (list_at cycles steps p) p.cycle no_cycle ≡ path (steps_at steps p)
   cycle_is =
       let c = p.cycle in
       let f = p.spans.cycles.first in

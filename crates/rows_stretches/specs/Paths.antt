@@ -3,7 +3,7 @@ use Rattle.std.specs.Prelude.{ℕ, suc, ◌+◌, ◌-◌, ◌<◌, ◌≤◌, �
 use Rattle.complex.specs.Lists.{total, one, without, distance}
 use Rattle.complex.specs.Cells.{Halfedge, Cycle}
 use Rattle.complex.specs.Edits.{cycle_replaced, without_cycle}
-use Rattle.complex.specs.Sound.{cycles_most, steps_most, step_count_lem}
+use Rattle.complex.specs.Sound.{cycles_most, steps_most, step_count}
 use Rattle.complex.specs.Cut.{stretch}
 use Rattle.complex.specs.Uncut.{path_or}
 use Rattle.store.specs.View.{halfedge_of, width_sum}
@@ -17,7 +17,7 @@ use Rattle.rows_stretches.specs.declared.Place.{Place}
 -- the cycles are few enough for the arrays of a drawing
 pub record Few (ks : List Cycle) : Type 0 where
   pub cycles : length ks ≤ cycles_most
-  pub steps : total step_count_lem ks ≤ steps_most
+  pub steps : total step_count ks ≤ steps_most
 
 -- ---- stretches of a cycle
 abbrev pub stretch_of : List ℕ → Stretch → List Halfedge
@@ -42,18 +42,18 @@ pub record PathRoom (steps : List ℕ) (a b : Stretch) (v : ℕ) (counts : List 
 
 -- ---- one cycle of a face
 -- the cycles of the face, and the steps of the one
-abbrev pub list_at_lem : List ℕ → List ℕ → Place → List Cycle
-list_at_lem cycles steps p = cycles_at cycles steps p.spans
+abbrev pub list_at : List ℕ → List ℕ → Place → List Cycle
+list_at cycles steps p = cycles_at cycles steps p.spans
 
 abbrev pub steps_at : List ℕ → Place → List Halfedge
 steps_at steps p = map halfedge_of (take p.count (drop p.at steps))
 
 -- the others of the face, and the face with two stretches or v alone in its place
 abbrev pub others_at : List ℕ → List ℕ → Place → List Cycle
-others_at cycles steps p = without (one p.cycle) 0 (list_at_lem cycles steps p)
+others_at cycles steps p = without (one p.cycle) 0 (list_at cycles steps p)
 
 abbrev pub put_at : List ℕ → List ℕ → Place → Stretch → Stretch → ℕ → List Cycle
-put_at cycles steps p a b v = set (list_at_lem cycles steps p) p.cycle (path_of steps a b v)
+put_at cycles steps p a b v = set (list_at cycles steps p) p.cycle (path_of steps a b v)
 
 -- its steps after s, round to before it, and those after s up to t
 abbrev pub all_but : Place → ℕ → Stretch
@@ -63,8 +63,8 @@ abbrev pub between : Place → ℕ → ℕ → Stretch
 between p s t = record { at = p.at; count = p.count; from = s + 1; len = distance p.count (s + 1) t }
 
 -- none of them
-abbrev pub no_steps_lem : Place → Stretch
-no_steps_lem p = record { at = p.at; count = p.count; from = 0; len = 0 }
+abbrev pub no_steps : Place → Stretch
+no_steps p = record { at = p.at; count = p.count; from = 0; len = 0 }
 
 -- the cycle stands there, and has steps
 pub record Lies (cycles steps : List ℕ) (p : Place) : Type 0 where
@@ -88,8 +88,8 @@ following_in n hs = drop (suc n) hs ++ take n hs
 -- two faces become one along the step s of p and the step t of q
 abbrev pub merged_list : List ℕ → List ℕ → Place → ℕ → Place → ℕ → ℕ → List Cycle
 merged_list cycles steps p s q t v =
-    cycle_replaced p.cycle (path_or v (following_in s (steps_at steps p) ++ following_in t (steps_at steps q))) (list_at_lem cycles steps p)
-    ++ without_cycle q.cycle (list_at_lem cycles steps q)
+    cycle_replaced p.cycle (path_or v (following_in s (steps_at steps p) ++ following_in t (steps_at steps q))) (list_at cycles steps p)
+    ++ without_cycle q.cycle (list_at cycles steps q)
 
 pub record Merging (cycles steps : List ℕ) (p : Place) (s : ℕ) (q : Place) (t v : ℕ) : Type 0 where
   pub first : Lies cycles steps p
@@ -101,7 +101,7 @@ pub record Merging (cycles steps : List ℕ) (p : Place) (s : ℕ) (q : Place) (
 -- a cycle becomes two, from its step s up to t and from t up to s
 abbrev pub parted_list : List ℕ → List ℕ → Place → ℕ → ℕ → ℕ → ℕ → List Cycle
 parted_list cycles steps p s t v w =
-    cycle_replaced p.cycle (path_or v (stretch (suc s) t (steps_at steps p))) (list_at_lem cycles steps p)
+    cycle_replaced p.cycle (path_or v (stretch (suc s) t (steps_at steps p))) (list_at cycles steps p)
     ++ one (path_or w (stretch (suc t) s (steps_at steps p)))
 
 pub record Parting (cycles steps : List ℕ) (p : Place) (s t v w : ℕ) : Type 0 where
@@ -112,7 +112,7 @@ pub record Parting (cycles steps : List ℕ) (p : Place) (s t v w : ℕ) : Type 
 
 -- two faces become one without a cycle of each
 abbrev pub ringed_list : List ℕ → List ℕ → Place → Place → List Cycle
-ringed_list cycles steps p q = without_cycle p.cycle (list_at_lem cycles steps p) ++ without_cycle q.cycle (list_at_lem cycles steps q)
+ringed_list cycles steps p q = without_cycle p.cycle (list_at cycles steps p) ++ without_cycle q.cycle (list_at cycles steps q)
 
 pub record Ringing (cycles steps : List ℕ) (p q : Place) : Type 0 where
   pub first : Lies cycles steps p

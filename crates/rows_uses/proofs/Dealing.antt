@@ -13,7 +13,7 @@ use Rattle.store.specs.View.{sheet_of, Fits, cycles_from, cycle_total}
 use Rattle.store.specs.Places.{figure_cycles, entry_cycles}
 use Rattle.number.specs.Readers.{spread}
 use Rattle.store.proofs.Lists.{sum_append}
-use Rattle.store.proofs.Stands.{used_cycles_lem}
+use Rattle.store.proofs.Stands.{used_cycles}
 
 figure_in_lem : (f : Figure) → cyclesIn' (some f) ≡ figure_cycles f
 figure_in_lem (vertex p) = refl
@@ -30,4 +30,4 @@ module _ (uses : Cycle → ℕ) where
 -- how often a drawing's cells use a cell is counted in its arrays
 pub uses_held : (d : Drawing) → Sizes d → Fits d → (uses : Cycle → ℕ)
     → uses_by uses (sheet_of d).cells ≡ total uses (cycles_from (take (cycle_total d) d.cycles) d.steps)
-uses_held d z g uses = uses_by_lem uses (sheet_of d).cells ∙ ap (total uses) (used_cycles_lem d z g)
+uses_held d z g uses = uses_by_lem uses (sheet_of d).cells ∙ ap (total uses) (used_cycles d z g)

@@ -10,7 +10,7 @@ use Rattle.number.specs.Numbers.{read_number}
 use Rattle.number.proofs.Laws.{not_bad, got_thing, got_rest}
 use Rattle.number.proofs.Counted.{times_cases, times_length}
 use Rattle.complex.specs.Cells.{Halfedge, Cycle, lone, path}
-use Rattle.complex.specs.Sound.{step_count_lem}
+use Rattle.complex.specs.Sound.{step_count}
 use Rattle.complex.specs.Decode.{step_of, read_cycle}
 use Rattle.store.specs.Sheet.{real, all_real}
 use Rattle.store.specs.Places.{num_of, cycle_words}
@@ -35,7 +35,7 @@ from_places zero (v ∷ []) e = refl
 from_places zero (v ∷ w ∷ ns) e = absurd (omega arith)
 from_places (suc m) ns e = words ns
 
-pub from_size : (m : ℕ) (ns : List ℕ) → length ns ≡ places_of 1 m → step_count_lem (cycle_from m ns) ≡ places_of 1 m
+pub from_size : (m : ℕ) (ns : List ℕ) → length ns ≡ places_of 1 m → step_count (cycle_from m ns) ≡ places_of 1 m
 from_size zero ns e = refl
 from_size (suc m) ns e = length-map ns step_of ∙ e
 
@@ -76,8 +76,8 @@ cycle_parts m s t u k e f = go (times read_number (places_of 1 m) t) refl (sym (
         record { numbers = ns; read = r; is = sym (got_thing (cycle_from m ns) k v u p); size = times_length read_number (places_of 1 m) t u ns r }
     go bad g p = absurd (not_bad k u p)
 
-pub cycle_size : (m : ℕ) (s t u : List ℕ) (k : Cycle) → read_number s ≡ got m t → read_cycle s ≡ got k u → step_count_lem k ≡ places_of 1 m
-cycle_size m s t u k e f = let p = cycle_parts m s t u k e f in ap step_count_lem p.is ∙ from_size m p.numbers p.size
+pub cycle_size : (m : ℕ) (s t u : List ℕ) (k : Cycle) → read_number s ≡ got m t → read_cycle s ≡ got k u → step_count k ≡ places_of 1 m
+cycle_size m s t u k e f = let p = cycle_parts m s t u k e f in ap step_count p.is ∙ from_size m p.numbers p.size
 
 -- ---- no cycle that was read is empty
 pub real_read : (s u : List ℕ) (k : Cycle) → read_cycle s ≡ got k u → real k ≡ true

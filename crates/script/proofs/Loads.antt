@@ -12,7 +12,7 @@ use Rattle.number.proofs.Counted.{times_length}
 use Rattle.coordinate.proofs.Bytes.{sets_append}
 use Rattle.complex.specs.Lists.{total}
 use Rattle.complex.specs.Cells.{Cycle}
-use Rattle.complex.specs.Sound.{step_count_lem}
+use Rattle.complex.specs.Sound.{step_count}
 use Rattle.complex.specs.Decode.{read_cycle}
 use Rattle.store.specs.Places.{num_of, cycle_words}
 use Rattle.store.specs.Edits.{places_of}
@@ -74,22 +74,22 @@ length_stands {s} {at} {left} stand some = go (read_number (drop at s)) refl
 
 module _ {s : List ℕ} {at left m first : ℕ} (stand : Stand read_cycle s at left) (some : 0 < left) (size : FieldAt read_number s at m first) where
   -- its steps, and those of the cycles after it
-  pub first_steps : (rest : ℕ) × ((total step_count_lem (cycles_read s at left) ≡ places_of 1 m + rest) × (left ≡ 1 → rest ≡ 0))
+  pub first_steps : (rest : ℕ) × ((total step_count (cycles_read s at left) ≡ places_of 1 m + rest) × (left ≡ 1 → rest ≡ 0))
   first_steps =
       let f = first_thing stand some in
       let z = cycle_size m (drop at s) (drop first s) f.between f.head size.read f.one in
-      let w : total step_count_lem (cycles_read s at left) ≡ step_count_lem f.head + total step_count_lem f.tail = ap (total step_count_lem) f.whole in (
-        total step_count_lem f.tail,
-        (omega arith, λ e. ap (total step_count_lem) (none_after read_cycle left e f.between (drop stand.end s) f.tail f.others)),
+      let w : total step_count (cycles_read s at left) ≡ step_count f.head + total step_count f.tail = ap (total step_count) f.whole in (
+        total step_count f.tail,
+        (omega arith, λ e. ap (total step_count) (none_after read_cycle left e f.between (drop stand.end s) f.tail f.others)),
       )
 
   -- the same where it ends
   module _ {next : ℕ} (reach : Reaches read_cycle s at 1 next) where
-    pub steps_after_lem : total step_count_lem (cycles_read s at left) ≡ places_of 1 m + total step_count_lem (cycles_read s next (left - 1))
+    pub steps_after_lem : total step_count (cycles_read s at left) ≡ places_of 1 m + total step_count (cycles_read s next (left - 1))
     steps_after_lem =
         let k = reach_field reach in
         let z = cycle_size m (drop at s) (drop first s) (drop next s) k.0 size.read k.1.read in
-        let w : total step_count_lem (cycles_read s at left) ≡ step_count_lem k.0 + total step_count_lem (cycles_read s next (left - 1)) = ap (total step_count_lem)
+        let w : total step_count (cycles_read s at left) ≡ step_count k.0 + total step_count (cycles_read s next (left - 1)) = ap (total step_count)
         (turn stand some leaves_cycle k.1).0 in
         omega arith
 
@@ -129,7 +129,7 @@ pub record Loading (s : List ℕ) (first n : ℕ) (counts₀ : List ℕ) (row : 
   where
     pub walk : Walking read_cycle s first n at left
     pub rows : i + left ≡ row + n
-    pub sum : used + total step_count_lem (cycles_read s at left) ≡ place + total step_count_lem (cycles_read s first n)
+    pub sum : used + total step_count (cycles_read s at left) ≡ place + total step_count (cycles_read s first n)
     pub counts_size : length counts ≡ length counts₀
     pub steps_size : length steps ≡ length steps₀
     pub lengths : sets counts i (map num_of (cycles_read s at left)) ≡ sets counts₀ row (map num_of (cycles_read s first n))
@@ -175,7 +175,7 @@ module _ {s : List ℕ} {first n : ℕ} {counts₀ : List ℕ} {row : ℕ} {step
             let x = cycle.0 in
             let w = walking_turn l.walk leaves_cycle some cycle.1 in
             let b = steps_after_lem l.walk.stand some size here.reach in
-            let z : step_count_lem x ≡ places_of 1 m = cycle_size m (drop at s) (drop from s) (drop next s) x size.read cycle.1.read in
+            let z : step_count x ≡ places_of 1 m = cycle_size m (drop at s) (drop from s) (drop next s) x size.read cycle.1.read in
             let o : cycles_read s at 1 ≡ x ∷ [] = field_list cycle.1 in
             let stored : set counts i m ≡ set counts i (num_of x) = here.lengths ∙ ap (λ (ks : List Cycle). sets counts i (map num_of ks)) o in
             let written : steps' ≡ sets steps used (cycle_words x) = here.places
@@ -204,9 +204,9 @@ module _ {s : List ℕ} {first n : ℕ} {counts₀ : List ℕ} {row : ℕ} {step
     nothing : cycles_read s at left ≡ []
     nothing = let e : left ≡ 0 = omega arith in ap (cycles_read s at) e
 
-    pub loading_used : used ≡ place + total step_count_lem (cycles_read s first n)
+    pub loading_used : used ≡ place + total step_count (cycles_read s first n)
     loading_used =
-        let z : total step_count_lem (cycles_read s at left) ≡ 0 = ap (total step_count_lem) nothing in
+        let z : total step_count (cycles_read s at left) ≡ 0 = ap (total step_count) nothing in
         let u = l.sum in
         omega arith
 

@@ -3,7 +3,7 @@ use Rattle.std.specs.Prelude.{ℕ, ◌+◌, ◌≤◌, ◌<◌, ◌≡◌, Bool,
 use Rattle.std.proofs.lemmas.List.Edits.{sets}
 use Rattle.number.specs.Numbers.{read_number}
 use Rattle.complex.specs.Lists.{all, total, holds}
-use Rattle.complex.specs.Sound.{step_count_lem}
+use Rattle.complex.specs.Sound.{step_count}
 use Rattle.complex.specs.Decode.{read_cycle}
 use Rattle.decode_parts.specs.Lists.{numbers_read, cycles_read, Reaches, Stand}
 
@@ -25,4 +25,4 @@ pub record Copied (s : List ℕ) (at n to : ℕ) (out₀ out : List ℕ) (next :
 pub record ScriptRoom (s : List ℕ) (at n : ℕ) (counts : List ℕ) (i : ℕ) (steps : List ℕ) (used : ℕ) : Type 0 where
   pub stand : Stand read_cycle s at n
   pub rows : i + n ≤ length counts
-  pub places : used + total step_count_lem (cycles_read s at n) ≤ length steps
+  pub places : used + total step_count (cycles_read s at n) ≤ length steps

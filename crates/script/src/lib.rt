@@ -3,7 +3,7 @@ ghost use Rattle.std.proofs.lemmas.List.Edits.{sets};
 ghost use Rattle.number.specs.Readers.{spread};
 ghost use Rattle.number.specs.Numbers.{read_number};
 ghost use Rattle.complex.specs.Lists.{total, holds, places};
-ghost use Rattle.complex.specs.Sound.{step_count_lem};
+ghost use Rattle.complex.specs.Sound.{step_count};
 ghost use Rattle.complex.specs.Decode.{read_cycle};
 ghost use Rattle.store.specs.Places.{num_of, cycle_words};
 ghost use Rattle.decode_parts.specs.Lists.{FieldAt, numbers_read, cycles_read, Reaches, Stand};
@@ -112,7 +112,7 @@ pub fn mark_moved(script: &[u8], place: usize, count: u32, flags: &mut [bool; 51
 // max. Where the last cycle ends is not asked.
 pub fn count_cycle_steps(script: &[u8], first: usize, count: u32, max: u32) -> usize
     requires { Stand read_cycle script.now first count }
-    ensures { result ≡ min (max + 1) (total step_count_lem (cycles_read script.now first count)) }
+    ensures { result ≡ min (max + 1) (total step_count (cycles_read script.now first count)) }
 {
     let most = store::wide(max);
     let mut at = first;
@@ -168,7 +168,7 @@ pub fn put_cycles(
     requires script_room { ScriptRoom script.now first count counts.old row steps.old place }
     requires counts_len { length counts.old ≡ 512 }
     requires steps_len { length steps.old ≡ 2048 }
-    ensures value { result ≡ place + total step_count_lem (cycles_read script.now first count) }
+    ensures value { result ≡ place + total step_count (cycles_read script.now first count) }
     ensures counts_after { counts.new ≡ sets counts.old row (map num_of (cycles_read script.now first count)) }
     ensures steps_after { steps.new ≡ sets steps.old place (spread cycle_words (cycles_read script.now first count)) }
 {

@@ -31,7 +31,7 @@ use Rattle.store.proofs.Stands.{heads_ids}
 use Rattle.sound.specs.Soundness.{fits_upto, placed}
 use Rattle.sound.specs.Rows.{Rows, edge_good, cycle_good, all_from}
 use Rattle.sound.proofs.Testing.{range_same}
-use Rattle.sound.proofs.Parts.{id_row, kind_row_lem, figure_parts}
+use Rattle.sound.proofs.Parts.{id_row, kind_row, figure_parts}
 use Rattle.sound.proofs.Rings.{cell_rows, cycle_right_lem}
 use Rattle.sound.proofs.Meaning.{fits_is}
 use Rattle.sound.proofs.Ceilings.{in_ceilings}
@@ -186,7 +186,7 @@ module _ (d : Drawing) where
 
       -- it is right if its own numbers are, and the bends and cycles in its places
       pub figure_tests : figure_ok (lookup xs) (figure_in xs j)
-          ≡ (placed shape && edge_good (id_row xs) (kind_row_lem xs) (kind_of shape) (shape_start shape) (shape_end shape) (bend_count shape))
+          ≡ (placed shape && edge_good (id_row xs) (kind_row xs) (kind_of shape) (shape_start shape) (shape_end shape) (bend_count shape))
           && (all_from (λ (i : ℕ). within (get_or d.bends i p)) bends_before (bend_count shape)
           && all_from (λ (i : ℕ). cycle_good (cell_rows xs) (get_or d.cycles i 0) (drop (width_sum (take i d.cycles)) d.steps))
           cycles_before (cycle_count shape))
@@ -196,7 +196,7 @@ module _ (d : Drawing) where
           let b = length_cycles d.cycles d.steps in omega (arith, b, cycles_room, z.cycles) in
           figure_parts xs (figure_in xs j)
           ∙ ap₂ ◌&&◌
-          (ap (λ (s : Shape). placed s && edge_good (id_row xs) (kind_row_lem xs) (kind_of s) (shape_start s) (shape_end s) (bend_count s)) shape_is)
+          (ap (λ (s : Shape). placed s && edge_good (id_row xs) (kind_row xs) (kind_of s) (shape_start s) (shape_end s) (bend_count s)) shape_is)
           (ap₂ ◌&&◌
           (ap (λ (x : Figure). all within (figure_bends x)) figure_is
           ∙ ap (all within) (parts_of_lem shape (drop cycles_before ks) (drop bends_before d.bends)).1

@@ -10,7 +10,7 @@ use lib.Seq.{get_or-take, length-take-le}
 use borrow.Author.Tests.{eq-eqb, ne_eqb}
 use Rattle.store.specs.Index.{Rising, row_of}
 use Rattle.store.proofs.Rows.{row_found, get_d_any, get_d_past, value_found, value_none}
-use Rattle.sound.specs.Rows.{rows_of, is_vertex_in, edge_good, row_good, side_at, goes_on_at, goes_on_lem, row_in, head_in, tail_in}
+use Rattle.sound.specs.Rows.{rows_of, is_vertex_in, edge_good, row_good, side_at, goes_on_at, goes_on, row_in, head_in, tail_in}
 use Rattle.sound.proofs.Testing.{and_true, and_false}
 
 -- the row of an id that stands in it
@@ -76,7 +76,7 @@ module _ (n : ℕ) (ks ss es : List ℕ) (r u s : ℕ) (h : n ≤ length ks) (k 
 
 -- the step s, whose edge is in row r
 module _ (n : ℕ) (is ks ss es : List ℕ) (r s : ℕ) (e : r ≡ row_in (rows_of n is ks ss es) s) where
-  pub step_goes : (u : ℕ) (b : Bool) → b ≡ goes_on_at (take n ks) (take n ss) (take n es) r u s → goes_on_lem (rows_of n is ks ss es) u s ≡ b
+  pub step_goes : (u : ℕ) (b : Bool) → b ≡ goes_on_at (take n ks) (take n ss) (take n es) r u s → goes_on (rows_of n is ks ss es) u s ≡ b
   step_goes u b eb = ap (λ (x : ℕ). goes_on_at (take n ks) (take n ss) (take n es) x u s) (sym e) ∙ sym eb
 
   pub step_head : (v : ℕ) → v ≡ side_at (take n es) (take n ss) r s → v ≡ head_in (rows_of n is ks ss es) s
@@ -91,5 +91,5 @@ module _ (n : ℕ) (is ks ss es : List ℕ) (r s : ℕ) (e : r ≡ row_in (rows_
   pub step_none : n ≤ length ks → n ≤ r → get_or (take n ks) (row_in (rows_of n is ks ss es) s) 4 ≡ 4
   step_none h k = let l = length-take-le n ks h in ap (λ (x : ℕ). get_or (take n ks) x 4) (sym e) ∙ get_d_past (take n ks) r 4 (omega arith)
 
-  pub step_dead : n ≤ length ks → n ≤ r → (u : ℕ) → goes_on_lem (rows_of n is ks ss es) u s ≡ false
+  pub step_dead : n ≤ length ks → n ≤ r → (u : ℕ) → goes_on (rows_of n is ks ss es) u s ≡ false
   step_dead h k u = and_false _ (ap (λ (x : ℕ). eqb x 1) (step_none h k))

@@ -9,7 +9,7 @@ use lib.Dec.{T, eqb, leb, ltb, leb→le, leb-suc-suc}
 use lib.ListN.{length, take, get_or}
 use borrow.Author.Tests.{lt-ltb}
 use Rattle.complex.specs.Lists.{rising}
-use Rattle.complex.specs.Cells.{LiveCell, lookup, some_if, cell_at, ids, is_vertex, is_open_lem, is_closed, is_face, is_live_lem}
+use Rattle.complex.specs.Cells.{LiveCell, lookup, some_if, cell_at, ids, is_vertex, is_open, is_closed, is_face, is_live}
 use Rattle.complex.specs.Sound.{sound, cells_most, cycles_most, steps_most, bends_most, ids_end, ceilings, figures_ok}
 use Rattle.complex.proofs.Bools.{both}
 use Rattle.store.specs.declared.Drawing.{Drawing}
@@ -20,13 +20,13 @@ use Rattle.store.specs.View.{sheet_of, Fits, cycle_total, bend_total, step_total
 use Rattle.store.specs.Index.{Rising, Indexes, row_of, kind_of, shape_start, shape_end, value_at}
 use Rattle.store.proofs.Stands.{stands, count_is, ids_same}
 use Rattle.store.proofs.Rows.{row_lookup}
-use Rattle.sound.specs.Soundness.{sums_fit, fits_in_lem, sound_sheet, sound_drawing}
+use Rattle.sound.specs.Soundness.{sums_fit, fits_in, sound_sheet, sound_drawing}
 use Rattle.sound.specs.Looks.{index_value, Looks}
-use Rattle.sound.proofs.Parts.{is_vertex_lem, is_open, is_closed_lem, is_face_lem, id_row, kind_row_lem, start_row, end_row_lem, bend_row, cycle_row, kind_row, start_row_lem, end_row}
+use Rattle.sound.proofs.Parts.{is_vertex_lem, is_open_lem, is_closed_lem, is_face_lem, id_row, kind_row, start_row, end_row, bend_row, cycle_row, kind_row_lem, start_row_lem, end_row_lem}
 use Rattle.sound.proofs.Parts.{bend_row_lem, cycle_row_lem}
 
 -- ---- the drawing fits, and its sheet is sound
-pub fits_is : (d : Drawing) → T (fits_in_lem d) → Fits d
+pub fits_is : (d : Drawing) → T (fits_in d) → Fits d
 fits_is d t =
     let a = both (leb d.count cells_most) (sums_fit (bend_total d) (cycle_total d) (step_total d)) t in
     let b = both (leb (bend_total d) bends_most) (leb (cycle_total d) cycles_most && leb (step_total d) steps_most) a.1 in
@@ -39,10 +39,10 @@ fits_is d t =
     }
 
 pub sound_fits : (d : Drawing) → T (sound_drawing d) → Fits d
-sound_fits d t = fits_is d (both (fits_in_lem d) (sound_sheet d) t).0
+sound_fits d t = fits_is d (both (fits_in d) (sound_sheet d) t).0
 
 pub sound_sheet_lem : (d : Drawing) → T (sound_drawing d) → T (sound (sheet_of d))
-sound_sheet_lem d t = (both (fits_in_lem d) (sound_sheet d) t).1
+sound_sheet_lem d t = (both (fits_in d) (sound_sheet d) t).1
 
 -- ---- the ids rise
 above : (lo : ℕ) (l : List ℕ) (hi : ℕ) → T (rising lo l hi) → (k : ℕ) → k < length l → lo < get_or l k 0
@@ -74,13 +74,13 @@ module _ (d : Drawing) (z : Sizes d) (f : Fits d) (ix : Index) (x : Indexes d ix
   pub ids_are : take d.count ix.ids ≡ id_row (sheet_of d).cells
   ids_are = x.ids ∙ ap (map (λ (c : Cell). c.id)) (stands d z f).cells
 
-  pub kinds_are : take d.count ix.kinds ≡ kind_row_lem (sheet_of d).cells
+  pub kinds_are : take d.count ix.kinds ≡ kind_row (sheet_of d).cells
   kinds_are = x.kinds ∙ ap (map (λ (c : Cell). kind_of c.shape)) (stands d z f).cells
 
   pub starts_are : take d.count ix.starts ≡ start_row (sheet_of d).cells
   starts_are = x.starts ∙ ap (map (λ (c : Cell). shape_start c.shape)) (stands d z f).cells
 
-  pub ends_are : take d.count ix.ends ≡ end_row_lem (sheet_of d).cells
+  pub ends_are : take d.count ix.ends ≡ end_row (sheet_of d).cells
   ends_are = x.ends ∙ ap (map (λ (c : Cell). shape_end c.shape)) (stands d z f).cells
 
   pub bends_are : take d.count ix.bends ≡ bend_row (sheet_of d).cells
@@ -95,9 +95,9 @@ module _ (d : Drawing) (z : Sizes d) (f : Fits d) (ix : Index) (x : Indexes d ix
       let xs = (sheet_of d).cells in
       record {
         rising = r;
-        kinds = λ i. ap₂ (λ (is vs : List ℕ). value_at 4 is vs i) ids_are kinds_are ∙ kind_row xs i;
+        kinds = λ i. ap₂ (λ (is vs : List ℕ). value_at 4 is vs i) ids_are kinds_are ∙ kind_row_lem xs i;
         starts = λ i. ap₂ (λ (is vs : List ℕ). value_at 0 is vs i) ids_are starts_are ∙ start_row_lem xs i;
-        ends = λ i. ap₂ (λ (is vs : List ℕ). value_at 0 is vs i) ids_are ends_are ∙ end_row xs i;
+        ends = λ i. ap₂ (λ (is vs : List ℕ). value_at 0 is vs i) ids_are ends_are ∙ end_row_lem xs i;
         bends = λ i. ap₂ (λ (is vs : List ℕ). value_at 0 is vs i) ids_are bends_are ∙ bend_row_lem xs i;
         cycles = λ i. ap₂ (λ (is vs : List ℕ). value_at 0 is vs i) ids_are cycles_are ∙ cycle_row_lem xs i;
       }
@@ -111,18 +111,18 @@ looks d z ix x t =
     (rw (x.ids ∙ ids_same d z f) (sheet_rising d (sound_sheet_lem d t))))
 
 -- ---- the row of an id
-row_live : (xs : List LiveCell) (i : ℕ) → ltb (row_of i (id_row xs)) (length xs) ≡ is_live_lem (lookup xs i)
+row_live : (xs : List LiveCell) (i : ℕ) → ltb (row_of i (id_row xs)) (length xs) ≡ is_live (lookup xs i)
 row_live [] i = refl
 row_live (x ∷ xs) i = go (eqb x.id i) (row_live xs i)
   where
-    go : (b : Bool) → ltb (row_of i (id_row xs)) (length xs) ≡ is_live_lem (lookup xs i)
-        → ltb (cond b 0 (suc (row_of i (id_row xs)))) (suc (length xs)) ≡ is_live_lem (some_if b x.figure (lookup xs i))
+    go : (b : Bool) → ltb (row_of i (id_row xs)) (length xs) ≡ is_live (lookup xs i)
+        → ltb (cond b 0 (suc (row_of i (id_row xs)))) (suc (length xs)) ≡ is_live (some_if b x.figure (lookup xs i))
     go true k = lt-ltb 0 (suc (length xs)) (omega arith)
     go false k = leb-suc-suc (suc (row_of i (id_row xs))) (length xs) ∙ k
 
 module _ (d : Drawing) (z : Sizes d) (f : Fits d) (ix : Index) (x : Indexes d ix) where
   -- an id has a row if its cell is live
-  pub live_row : (i : ℕ) → ltb (row_of i (take d.count ix.ids)) d.count ≡ is_live_lem (cell_at (sheet_of d) i)
+  pub live_row : (i : ℕ) → ltb (row_of i (take d.count ix.ids)) d.count ≡ is_live (cell_at (sheet_of d) i)
   live_row i =
       ap₂ (λ (l : List ℕ) (n : ℕ). ltb (row_of i l) n) (ids_are d z f ix x) (count_is d (sheet_of d).cells (stands d z f) z f.cells)
       ∙ row_live (sheet_of d).cells i
@@ -140,8 +140,8 @@ module _ {d : Drawing} {ix : Index} (k : Looks d ix) (i : ℕ) where
   pub vertex_at : eqb (index_value 4 d ix ix.kinds i) 0 ≡ is_vertex (cell_at (sheet_of d) i)
   vertex_at = ap (λ (n : ℕ). eqb n 0) (k.kinds i) ∙ is_vertex_lem (cell_at (sheet_of d) i)
 
-  pub open_at : eqb (index_value 4 d ix ix.kinds i) 1 ≡ is_open_lem (cell_at (sheet_of d) i)
-  open_at = ap (λ (n : ℕ). eqb n 1) (k.kinds i) ∙ is_open (cell_at (sheet_of d) i)
+  pub open_at : eqb (index_value 4 d ix ix.kinds i) 1 ≡ is_open (cell_at (sheet_of d) i)
+  open_at = ap (λ (n : ℕ). eqb n 1) (k.kinds i) ∙ is_open_lem (cell_at (sheet_of d) i)
 
   pub closed_at : eqb (index_value 4 d ix ix.kinds i) 2 ≡ is_closed (cell_at (sheet_of d) i)
   closed_at = ap (λ (n : ℕ). eqb n 2) (k.kinds i) ∙ is_closed_lem (cell_at (sheet_of d) i)

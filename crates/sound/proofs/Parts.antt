@@ -11,7 +11,7 @@ use borrow.Author.Tests.{ne_eqb}
 use Rattle.coordinate.specs.declared.Position.{Position}
 use Rattle.coordinate.specs.Bounds.{within}
 use Rattle.complex.specs.Lists.{all, is_empty}
-use Rattle.complex.specs.Cells.{Figure, vertex, open_edge, closed_edge, face, LiveCell, lookup, some_if, is_vertex, is_open_lem, is_closed, is_face, start_of, end_of}
+use Rattle.complex.specs.Cells.{Figure, vertex, open_edge, closed_edge, face, LiveCell, lookup, some_if, is_vertex, is_open, is_closed, is_face, start_of, end_of}
 use Rattle.complex.specs.Cells.{bends_of, cycles_of}
 use Rattle.complex.specs.Sound.{cycle_ok, figure_ok}
 use Rattle.store.specs.declared.Shape.{Shape}
@@ -63,7 +63,7 @@ same (closed_edge bs) = (refl, refl, refl, refl, refl)
 same (face ks) = (refl, refl, refl, refl, refl)
 
 -- the kind by number, and by name
-named : (o : Option Figure) → (eqb (kind_number o) 0 ≡ is_vertex o) × (eqb (kind_number o) 1 ≡ is_open_lem o)
+named : (o : Option Figure) → (eqb (kind_number o) 0 ≡ is_vertex o) × (eqb (kind_number o) 1 ≡ is_open o)
     × (eqb (kind_number o) 2 ≡ is_closed o) × (eqb (kind_number o) 3 ≡ is_face o)
 named none = (refl, refl, refl, refl)
 named (some (vertex p)) = (refl, refl, refl, refl)
@@ -75,8 +75,8 @@ module _ (o : Option Figure) where
   pub is_vertex_lem : eqb (kind_number o) 0 ≡ is_vertex o
   is_vertex_lem = (named o).0
 
-  pub is_open : eqb (kind_number o) 1 ≡ is_open_lem o
-  is_open = (named o).1
+  pub is_open_lem : eqb (kind_number o) 1 ≡ is_open o
+  is_open_lem = (named o).1
 
   pub is_closed_lem : eqb (kind_number o) 2 ≡ is_closed o
   is_closed_lem = (named o).2
@@ -88,14 +88,14 @@ module _ (xs : List LiveCell) where
   abbrev pub id_row : List ℕ
   id_row = map (λ (c : Cell). c.id) (map entry_cell xs)
 
-  abbrev pub kind_row_lem : List ℕ
-  kind_row_lem = map (λ (c : Cell). kind_of c.shape) (map entry_cell xs)
+  abbrev pub kind_row : List ℕ
+  kind_row = map (λ (c : Cell). kind_of c.shape) (map entry_cell xs)
 
   abbrev pub start_row : List ℕ
   start_row = map (λ (c : Cell). shape_start c.shape) (map entry_cell xs)
 
-  abbrev pub end_row_lem : List ℕ
-  end_row_lem = map (λ (c : Cell). shape_end c.shape) (map entry_cell xs)
+  abbrev pub end_row : List ℕ
+  end_row = map (λ (c : Cell). shape_end c.shape) (map entry_cell xs)
 
   abbrev pub bend_row : List ℕ
   bend_row = map (λ (c : Cell). bend_count c.shape) (map entry_cell xs)
@@ -103,14 +103,14 @@ module _ (xs : List LiveCell) where
   abbrev pub cycle_row : List ℕ
   cycle_row = map (λ (c : Cell). cycle_count c.shape) (map entry_cell xs)
 
-  pub kind_row : (i : ℕ) → value_at 4 id_row kind_row_lem i ≡ kind_number (lookup xs i)
-  kind_row i = lookup_row kind_number kind_of 4 refl (λ s. (same s).0) xs i
+  pub kind_row_lem : (i : ℕ) → value_at 4 id_row kind_row i ≡ kind_number (lookup xs i)
+  kind_row_lem i = lookup_row kind_number kind_of 4 refl (λ s. (same s).0) xs i
 
   pub start_row_lem : (i : ℕ) → value_at 0 id_row start_row i ≡ start_of (lookup xs i)
   start_row_lem i = lookup_row start_of shape_start 0 refl (λ s. (same s).1) xs i
 
-  pub end_row : (i : ℕ) → value_at 0 id_row end_row_lem i ≡ end_of (lookup xs i)
-  end_row i = lookup_row end_of shape_end 0 refl (λ s. (same s).2) xs i
+  pub end_row_lem : (i : ℕ) → value_at 0 id_row end_row i ≡ end_of (lookup xs i)
+  end_row_lem i = lookup_row end_of shape_end 0 refl (λ s. (same s).2) xs i
 
   pub bend_row_lem : (i : ℕ) → value_at 0 id_row bend_row i ≡ length (bends_of (lookup xs i))
   bend_row_lem i = lookup_row (λ (o : Option Figure). length (bends_of o)) bend_count 0 refl (λ s. (same s).3) xs i
@@ -118,8 +118,8 @@ module _ (xs : List LiveCell) where
   pub cycle_row_lem : (i : ℕ) → value_at 0 id_row cycle_row i ≡ length (cycles_of (lookup xs i))
   cycle_row_lem i = lookup_row (λ (o : Option Figure). length (cycles_of o)) cycle_count 0 refl (λ s. (same s).4) xs i
 
-  pub vertex_row : (i : ℕ) → is_vertex_in id_row kind_row_lem i ≡ is_vertex (lookup xs i)
-  vertex_row i = ap (λ (k : ℕ). eqb k 0) (kind_row i) ∙ is_vertex_lem (lookup xs i)
+  pub vertex_row : (i : ℕ) → is_vertex_in id_row kind_row i ≡ is_vertex (lookup xs i)
+  vertex_row i = ap (λ (k : ℕ). eqb k 0) (kind_row_lem i) ∙ is_vertex_lem (lookup xs i)
 
 -- ---- what a figure shows, in parts
 some_bends : (bs : List Position) → not (eqb (length bs) 0) ≡ not (is_empty bs)
@@ -129,7 +129,7 @@ some_bends (b ∷ bs) = ap not (ne_eqb (suc (length bs)) 0 (λ e. omega arith))
 module _ (xs : List LiveCell) where
   -- a vertex in bounds; an edge's ends that are vertices, a closed edge's bend; bends; cycles
   pub figure_parts : (s : Figure) → figure_ok (lookup xs) s
-      ≡ (placed (shape_of s) && edge_good (id_row xs) (kind_row_lem xs) (kind_of (shape_of s)) (shape_start (shape_of s)) (shape_end (shape_of s)) (bend_count (shape_of s)))
+      ≡ (placed (shape_of s) && edge_good (id_row xs) (kind_row xs) (kind_of (shape_of s)) (shape_start (shape_of s)) (shape_end (shape_of s)) (bend_count (shape_of s)))
       && (all within (figure_bends s) && all (cycle_ok (lookup xs)) (figure_cycles s))
   figure_parts (vertex p) = sym (and_unit (within p && true) ∙ and_unit (within p))
   figure_parts (open_edge a b bs) =

@@ -8,11 +8,11 @@ use lib.Dec.{eqb}
 use lib.ListN.{take, drop, get_or}
 use borrow.Author.Tests.{eq-eqb, ne_eqb, eqb-true, eqb-false}
 use Rattle.complex.specs.Lists.{all}
-use Rattle.complex.specs.Cells.{LiveCell, lookup, is_open_lem, same, tail_of, head_of}
+use Rattle.complex.specs.Cells.{LiveCell, lookup, is_open, same, tail_of, head_of}
 use Rattle.complex.specs.Sound.{leads, joins, cycle_ok}
 use Rattle.store.specs.View.{halfedge_of, width, cycle_of, cycles_from}
 use Rattle.sound.specs.Rows.{Rows, tail_in, head_in, leads_in, joins_in, cycle_good, cycles_good}
-use Rattle.sound.proofs.Parts.{and_assoc, all_same, all_map, is_open, is_closed_lem, id_row, kind_row_lem, start_row, end_row_lem, kind_row, start_row_lem, end_row}
+use Rattle.sound.proofs.Parts.{and_assoc, all_same, all_map, is_open_lem, is_closed_lem, id_row, kind_row, start_row, end_row, kind_row_lem, start_row_lem, end_row_lem}
 use Rattle.sound.proofs.Parts.{vertex_row}
 
 same_step : (s t : ℕ) (x p q : Bool) → eqb (s / 2) (t / 2) ≡ x → eqb (s % 2) 1 ≡ p → eqb (t % 2) 1 ≡ q → eqb s t ≡ x && beq p q
@@ -26,22 +26,22 @@ same_step s t true false false e f g = let a = eqb-true (s / 2) (t / 2) e in let
 
 module _ (xs : List LiveCell) where
   abbrev pub cell_rows : Rows
-  cell_rows = record { ids = id_row xs; kinds = kind_row_lem xs; starts = start_row xs; ends = end_row_lem xs }
+  cell_rows = record { ids = id_row xs; kinds = kind_row xs; starts = start_row xs; ends = end_row xs }
 
   tail_row : (s : ℕ) → tail_in cell_rows s ≡ tail_of (lookup xs) (halfedge_of s)
-  tail_row s = ap₂ (cond (eqb (s % 2) 1)) (end_row xs (s / 2)) (start_row_lem xs (s / 2))
+  tail_row s = ap₂ (cond (eqb (s % 2) 1)) (end_row_lem xs (s / 2)) (start_row_lem xs (s / 2))
 
   head_row : (s : ℕ) → head_in cell_rows s ≡ head_of (lookup xs) (halfedge_of s)
-  head_row s = ap₂ (cond (eqb (s % 2) 1)) (start_row_lem xs (s / 2)) (end_row xs (s / 2))
+  head_row s = ap₂ (cond (eqb (s % 2) 1)) (start_row_lem xs (s / 2)) (end_row_lem xs (s / 2))
 
   leads_row : (u : ℕ) (st : List ℕ) (w : ℕ) → leads_in cell_rows u st w ≡ leads (lookup xs) u (map halfedge_of st) w
   leads_row u [] w = refl
   leads_row u (s ∷ st) w =
       let look = lookup xs in
       ap₂ ◌&&◌
-      (ap₂ ◌&&◌ (ap (λ (n : ℕ). eqb n 1) (kind_row xs (s / 2)) ∙ is_open (look (s / 2))) (ap (eqb u) (tail_row s)))
+      (ap₂ ◌&&◌ (ap (λ (n : ℕ). eqb n 1) (kind_row_lem xs (s / 2)) ∙ is_open_lem (look (s / 2))) (ap (eqb u) (tail_row s)))
       (leads_row (head_in cell_rows s) st w ∙ ap (λ (x : ℕ). leads look x (map halfedge_of st) w) (head_row s))
-      ∙ sym (and_assoc (is_open_lem (look (s / 2))) (eqb u (tail_of look (halfedge_of s))) (leads look (head_of look (halfedge_of s)) (map halfedge_of st) w))
+      ∙ sym (and_assoc (is_open (look (s / 2))) (eqb u (tail_of look (halfedge_of s))) (leads look (head_of look (halfedge_of s)) (map halfedge_of st) w))
 
   joins_row : (st : List ℕ) → joins_in cell_rows st ≡ joins (lookup xs) (map halfedge_of st)
   joins_row [] = refl
@@ -50,7 +50,7 @@ module _ (xs : List LiveCell) where
       ap₂ ◌||◌
       (leads_row (tail_in cell_rows s) (s ∷ st) (tail_in cell_rows s)
       ∙ ap (λ (x : ℕ). leads look x (map halfedge_of (s ∷ st)) x) (tail_row s))
-      (ap₂ ◌&&◌ (ap (λ (n : ℕ). eqb n 2) (kind_row xs (s / 2)) ∙ is_closed_lem (look (s / 2)))
+      (ap₂ ◌&&◌ (ap (λ (n : ℕ). eqb n 2) (kind_row_lem xs (s / 2)) ∙ is_closed_lem (look (s / 2)))
       (all_same (eqb s) (λ (t : ℕ). same (halfedge_of s) (halfedge_of t))
       (λ t. same_step s t (eqb (s / 2) (t / 2)) (eqb (s % 2) 1) (eqb (t % 2) 1) refl refl refl) st
       ∙ all_map (same (halfedge_of s)) halfedge_of st))

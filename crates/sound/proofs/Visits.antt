@@ -15,7 +15,7 @@ use Rattle.store.specs.declared.Drawing.{Drawing}
 use Rattle.store.specs.Sizes.{Sizes}
 use Rattle.store.specs.View.{sheet_of, Fits, width, bend_count, cycle_count, bend_sum, cycle_sum, width_sum}
 use Rattle.store.proofs.Lists.{sum_le}
-use Rattle.sound.specs.Soundness.{fits_upto, fits_in_lem, sound_sheet, sound_drawing}
+use Rattle.sound.specs.Soundness.{fits_upto, fits_in, sound_sheet, sound_drawing}
 use Rattle.sound.specs.Visits.{right_in, visited_in, StructFaults}
 use Rattle.sound.proofs.Testing.{and_true}
 use Rattle.sound.proofs.Meaning.{fits_is}
@@ -47,7 +47,7 @@ module _ (d : Drawing) where
 
     rights : sound_drawing d ≡ true → (bounds_right d.next d.count ≡ true) × Below (right_in d) d.count
     rights e =
-        let b = both_true (fits_in_lem d) (sound_sheet d) e in
+        let b = both_true (fits_in d) (sound_sheet d) e in
         let f = fits_is d (truth b.0) in
         let r = sound_rights (sheet_of d) b.1 in
         let n = sheet_count d z f.cells in (

@@ -12,7 +12,7 @@ use lib.Seq.{get_or-drop, drop-cons}
 use Rattle.complex.specs.Lists.{all}
 use Rattle.complex.proofs.Bools.{or_none}
 use Rattle.store.specs.View.{width}
-use Rattle.sound.specs.Rows.{Rows, is_vertex_in, row_in, tail_in, head_in, goes_on_lem, leads_in, joins_in, cycle_good}
+use Rattle.sound.specs.Rows.{Rows, is_vertex_in, row_in, tail_in, head_in, goes_on, leads_in, joins_in, cycle_good}
 use Rattle.sound.proofs.Testing.{and_true, and_false, left_cons, left_none}
 
 pub room : (l : List ℕ) (from m : ℕ) → from + m ≤ length l → m ≤ length (drop from l)
@@ -27,17 +27,17 @@ module _ (t : Rows) (l : List ℕ) (from m u w : ℕ) where
     pub rest : leads_in t u (take m (drop from l)) w ≡ leads_in t at (drop i (take m (drop from l))) w
 
   module _ (h : from + m ≤ length l) (at i : ℕ) (k : i < m) (x : Leading at i) where
-    next : leads_in t u (take m (drop from l)) w ≡ goes_on_lem t at (get_or l (from + i) 0)
+    next : leads_in t u (take m (drop from l)) w ≡ goes_on t at (get_or l (from + i) 0)
         && leads_in t (head_in t (get_or l (from + i) 0)) (drop (i + 1) (take m (drop from l))) w
     next =
         x.rest
         ∙ ap (λ (y : List ℕ). leads_in t at y w) (left_cons (drop from l) m i 0 (room l from m h) k)
         ∙ ap (λ (y : ℕ). leads_in t at (y ∷ drop (i + 1) (take m (drop from l))) w) (sym (step_at l from i))
 
-    pub leading_fail : goes_on_lem t at (get_or l (from + i) 0) ≡ false → false ≡ leads_in t u (take m (drop from l)) w
+    pub leading_fail : goes_on t at (get_or l (from + i) 0) ≡ false → false ≡ leads_in t u (take m (drop from l)) w
     leading_fail e = sym (next ∙ and_false _ e)
 
-    pub leading_turn : goes_on_lem t at (get_or l (from + i) 0) ≡ true → (at' : ℕ) → at' ≡ head_in t (get_or l (from + i) 0) → Leading at' (i + 1)
+    pub leading_turn : goes_on t at (get_or l (from + i) 0) ≡ true → (at' : ℕ) → at' ≡ head_in t (get_or l (from + i) 0) → Leading at' (i + 1)
     leading_turn e at' g =
         record { rest = next ∙ and_true _ e ∙ ap (λ (y : ℕ). leads_in t y (drop (i + 1) (take m (drop from l))) w) (sym g) }
 

@@ -48,12 +48,12 @@ tail_in t s = side_at t.starts t.ends (row_in t s) s
 abbrev pub head_in : Rows → ℕ → ℕ
 head_in t s = side_at t.ends t.starts (row_in t s) s
 
-abbrev pub goes_on_lem : Rows → ℕ → ℕ → Bool
-goes_on_lem t u s = goes_on_at t.kinds t.starts t.ends (row_in t s) u s
+abbrev pub goes_on : Rows → ℕ → ℕ → Bool
+goes_on t u s = goes_on_at t.kinds t.starts t.ends (row_in t s) u s
 
 abbrev pub leads_in : Rows → ℕ → List ℕ → ℕ → Bool
 leads_in t u [] w = eqb u w
-leads_in t u (s ∷ st) w = goes_on_lem t u s && leads_in t (head_in t s) st w
+leads_in t u (s ∷ st) w = goes_on t u s && leads_in t (head_in t s) st w
 
 abbrev pub is_closed_in : Rows → ℕ → Bool
 is_closed_in t s = eqb (get_or t.kinds (row_in t s) 4) 2

@@ -16,14 +16,14 @@ abbrev pub fits_upto : Drawing → ℕ → Bool
 fits_upto d n =
     sums_fit (bend_sum (take n d.cells)) (cycle_sum (take n d.cells)) (width_sum (take (cycle_sum (take n d.cells)) d.cycles))
 
-abbrev pub fits_in_lem : Drawing → Bool
-fits_in_lem d = leb d.count cells_most && fits_upto d d.count
+abbrev pub fits_in : Drawing → Bool
+fits_in d = leb d.count cells_most && fits_upto d d.count
 
 abbrev pub sound_sheet : Drawing → Bool
 sound_sheet d = sound (sheet_of d)
 
 abbrev pub sound_drawing : Drawing → Bool
-sound_drawing d = fits_in_lem d && sound_sheet d
+sound_drawing d = fits_in d && sound_sheet d
 
 -- ---- positions
 -- a vertex lies in bounds

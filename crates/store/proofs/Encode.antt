@@ -13,7 +13,7 @@ use Rattle.store.specs.declared.Shape.{Shape}
 use Rattle.store.specs.declared.Shape.TheVariants.{Vertex, Open, Closed, Face}
 use Rattle.store.specs.declared.Cell.{Cell}
 use Rattle.complex.specs.Lists.{total}
-use Rattle.complex.specs.Sound.{step_count_lem}
+use Rattle.complex.specs.Sound.{step_count}
 use Rattle.complex.specs.Cells.{Halfedge, Cycle, lone, path, Figure, vertex, open_edge, closed_edge, face, LiveCell as Entry}
 use Rattle.store.specs.Sheet.{real, all_real}
 use Rattle.store.specs.Places.{bit, word, num_of, cycle_words, shape_of, figure_cycles, figure_bends, entry_cell, entry_cycles, entry_bends}
@@ -26,11 +26,11 @@ module _ {A B : Type 0} where
   flat_append f (x ∷ xs) ys = ap (λ (r : List B). f x ++ r) (flat_append f xs ys) ∙ sym (append_assoc (f x) (spread f xs) (spread f ys))
 
 -- the places that cycles take: a lone vertex has one
-pub places_size : (k : Cycle) → length (cycle_words k) ≡ step_count_lem k
+pub places_size : (k : Cycle) → length (cycle_words k) ≡ step_count k
 places_size (lone v) = refl
 places_size (path hs) = length-map hs word
 
-pub all_places : (ks : List Cycle) → length (spread cycle_words ks) ≡ total step_count_lem ks
+pub all_places : (ks : List Cycle) → length (spread cycle_words ks) ≡ total step_count ks
 all_places [] = refl
 all_places (k ∷ ks) = length-append (cycle_words k) (spread cycle_words ks) ∙ ap₂ ◌+◌ (places_size k) (all_places ks)
 

@@ -45,12 +45,12 @@ pub record Stands (d : Drawing) (xs : List Entry) : Type 0 where
 
 module _ (d : Drawing) (z : Sizes d) (f : Fits d) where
   -- the cycles that are in use
-  abbrev pub in_use_lem : List ℕ
-  in_use_lem = take (cycle_total d) d.cycles
+  abbrev pub in_use : List ℕ
+  in_use = take (cycle_total d) d.cycles
 
-  pub used_cycles_lem : spread entry_cycles (sheet_of d).cells ≡ cycles_from in_use_lem d.steps
+  pub used_cycles : spread entry_cycles (sheet_of d).cells ≡ cycles_from in_use d.steps
   unfolding sheet_of
-  used_cycles_lem =
+  used_cycles =
       cycles_of_cells (take d.count d.cells) (cycles_from d.cycles d.steps) d.bends ∙ take_cycles (cycle_total d) d.cycles d.steps
 
   pub stands : Stands d (sheet_of d).cells
@@ -63,10 +63,10 @@ module _ (d : Drawing) (z : Sizes d) (f : Fits d) where
         cells = sym (heads cs (cycles_from d.cycles d.steps) d.bends (omega (arith, f.cycles, z.cycles)) (omega (arith, f.bends, z.bends)));
         cycles =
             take_begins (cycle_total d) (omega (arith, f.cycles, z.cycles))
-            (sym (numbers in_use_lem d.steps w) ∙ ap (map num_of) (sym used_cycles_lem));
-        steps = take_begins (step_total d) w (sym (places in_use_lem d.steps w) ∙ ap (spread cycle_words) (sym used_cycles_lem));
+            (sym (numbers in_use d.steps w) ∙ ap (map num_of) (sym used_cycles));
+        steps = take_begins (step_total d) w (sym (places in_use d.steps w) ∙ ap (spread cycle_words) (sym used_cycles));
         bends = take_begins (bend_total d) (omega (arith, f.bends, z.bends)) (sym (bends_of_cells cs (cycles_from d.cycles d.steps) d.bends));
-        real = ap all_real used_cycles_lem ∙ cycles_real in_use_lem d.steps w;
+        real = ap all_real used_cycles ∙ cycles_real in_use d.steps w;
       }
 
 module _ (d : Drawing) (xs : List Entry) (s : Stands d xs) where

@@ -4,16 +4,16 @@ use Rattle.store.specs.declared.Shape.{Shape}
 use Rattle.store.specs.declared.Cell.{Cell}
 use Rattle.store.specs.declared.Drawing.{Drawing}
 use Rattle.store.specs.declared.Index.{Index}
-use Rattle.store.specs.View.{numbers_of_lem, bend_count, cycle_count}
+use Rattle.store.specs.View.{numbers_of, bend_count, cycle_count}
 
 abbrev pub kind_of : Shape → ℕ
-kind_of x = (numbers_of_lem x).kind
+kind_of x = (numbers_of x).kind
 
 abbrev pub shape_start : Shape → ℕ
-shape_start x = (numbers_of_lem x).start
+shape_start x = (numbers_of x).start
 
 abbrev pub shape_end : Shape → ℕ
-shape_end x = (numbers_of_lem x).end
+shape_end x = (numbers_of x).end
 
 -- the index r has the numbers of the first n cells
 pub record CellRows (cells : List Cell) (n : ℕ) (r : Index) : Type 0 where

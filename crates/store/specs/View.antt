@@ -36,17 +36,17 @@ pub record ShapeNumbers : Type 0 where
   pub bends : ℕ
   pub cycles : ℕ
 
-abbrev pub numbers_of_lem : Shape → ShapeNumbers
-numbers_of_lem (Vertex p) = record { kind = 0; start = 0; end = 0; bends = 0; cycles = 0 }
-numbers_of_lem (Open s e n) = record { kind = 1; start = s; end = e; bends = n; cycles = 0 }
-numbers_of_lem (Closed n) = record { kind = 2; start = 0; end = 0; bends = n; cycles = 0 }
-numbers_of_lem (Face k) = record { kind = 3; start = 0; end = 0; bends = 0; cycles = k }
+abbrev pub numbers_of : Shape → ShapeNumbers
+numbers_of (Vertex p) = record { kind = 0; start = 0; end = 0; bends = 0; cycles = 0 }
+numbers_of (Open s e n) = record { kind = 1; start = s; end = e; bends = n; cycles = 0 }
+numbers_of (Closed n) = record { kind = 2; start = 0; end = 0; bends = n; cycles = 0 }
+numbers_of (Face k) = record { kind = 3; start = 0; end = 0; bends = 0; cycles = k }
 
 abbrev pub cycle_count : Shape → ℕ
-cycle_count x = (numbers_of_lem x).cycles
+cycle_count x = (numbers_of x).cycles
 
 abbrev pub bend_count : Shape → ℕ
-bend_count x = (numbers_of_lem x).bends
+bend_count x = (numbers_of x).bends
 
 -- the figure of a shape, its cycles and bends at the front of ks and bs
 abbrev pub figure_of : Shape → List Cycle → List Position → Figure

@@ -7,7 +7,7 @@ use native.Mathlib.Omega.{arith}
 use lib.ListN.{take, get_or}
 use mathlib.Core.List.{foldl}
 use Rattle.ask_uncut_ends.specs.declared.Ends.{Ends}
-use Rattle.ask_uncut_ends.specs.Ends.{row_ends_lem, one_end, ends_in}
+use Rattle.ask_uncut_ends.specs.Ends.{row_ends, one_end, ends_in}
 use Rattle.ask_uncut_ends.proofs.Finding.{row_open, row_none, Ending, ending_start, ending_turn, ending_end, folded}
 use Rattle.ask_uncut_ends.proofs.ends_at.Statement.{statement}
 use Rattle.ask_uncut_ends.proofs.ends_at.Tie as tie
@@ -68,7 +68,7 @@ loop-again c =
     let i = at.loop.i in
     let x = at.loop.x in
     let on : (y : Ends) → y
-    ≡ foldl one_end x (row_ends_lem a.v (get_or a.ids.now i 0) (get_or a.kinds.now i 0) (get_or a.starts.now i 0) (get_or a.ends.now i 0))
+    ≡ foldl one_end x (row_ends a.v (get_or a.ids.now i 0) (get_or a.kinds.now i 0) (get_or a.starts.now i 0) (get_or a.ends.now i 0))
     → Ending a.v a.n a.ids.now a.kinds.now a.starts.now a.ends.now y (i + 1) =
     λ y.
     ending_turn a.v a.n a.ids.now a.kinds.now a.starts.now a.ends.now (omega (arith, p.few, p.ids)) (omega (arith, p.few, p.kinds))

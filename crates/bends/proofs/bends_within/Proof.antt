@@ -9,7 +9,7 @@ use native.Mathlib.Omega.{arith}
 use lib.ListN.{length}
 use Rattle.number.specs.Readers.{all}
 use Rattle.coordinate.specs.Bounds.{within}
-use Rattle.coordinate.specs.Positions.{position_at_lem}
+use Rattle.coordinate.specs.Positions.{position_at}
 use Rattle.bends.specs.Bends.{positions_at}
 use Rattle.bends.proofs.bends_within.Statement.{statement}
 use Rattle.bends.proofs.bends_within.Tie as tie
@@ -18,13 +18,13 @@ abbrev test : List ℕ → ℕ → ℕ → Bool
 test s at n = all within (positions_at s at n)
 
 -- the test of the next bend and of those after it
-one_more : (s : List ℕ) (at n : ℕ) → 0 < n → test s at n ≡ within (position_at_lem s at) && test s (at + 16) (n - 1)
+one_more : (s : List ℕ) (at n : ℕ) → 0 < n → test s at n ≡ within (position_at s at) && test s (at + 16) (n - 1)
 one_more s at n h = let e : n ≡ suc (n - 1) = omega arith in ap (test s at) e
 
-outside : (s : List ℕ) (at n : ℕ) → 0 < n → within (position_at_lem s at) ≡ false → false ≡ test s at n
+outside : (s : List ℕ) (at n : ℕ) → 0 < n → within (position_at s at) ≡ false → false ≡ test s at n
 outside s at n h w = sym (one_more s at n h ∙ ap (λ (b : Bool). b && test s (at + 16) (n - 1)) w)
 
-inside : (s : List ℕ) (at n : ℕ) → 0 < n → within (position_at_lem s at) ≡ true → test s (at + 16) (n - 1) ≡ test s at n
+inside : (s : List ℕ) (at n : ℕ) → 0 < n → within (position_at s at) ≡ true → test s (at + 16) (n - 1) ≡ test s at n
 inside s at n h w = sym (one_more s at n h ∙ ap (λ (b : Bool). b && test s (at + 16) (n - 1)) w)
 
 none : (s : List ℕ) (at n : ℕ) → n ≤ 0 → true ≡ test s at n

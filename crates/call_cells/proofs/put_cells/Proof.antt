@@ -13,7 +13,7 @@ use Rattle.store.specs.declared.Cell.{Cell}
 use Rattle.store.specs.View.{cycles_from, cells_of}
 use Rattle.file_write.specs.declared.Place.{Place}
 use Rattle.file_parts.specs.Parts.{BytesPut, positions_from}
-use Rattle.file_write.specs.Places.{cell_in, place_after_lem, PlaceFits, CellReady}
+use Rattle.file_write.specs.Places.{cell_in, place_after, PlaceFits, CellReady}
 use Rattle.file_parts.proofs.Laying.{put_none, put_size, put_as, put_turn, put_room, put_all, put_part}
 use Rattle.file_write.proofs.Cells.{place_of, cells_length, cell_is, place_next, ready, place_fits}
 use Rattle.lent.proofs.Held.{cells_length as rows_length}
@@ -162,7 +162,7 @@ loop-again c =
     let st = s.args.steps.now in
     let e = c.before.before.before.before.before.cell_at_lem.ensures in (
       omega arith,
-      c.place_after.ensures ∙ ap (λ (x : Cell). place_after_lem x.shape ns l.place) e ∙ ap (place_after_lem (cell w).shape ns) l.invariant.1
+      c.place_after.ensures ∙ ap (λ (x : Cell). place_after x.shape ns l.place) e ∙ ap (place_after (cell w).shape ns) l.invariant.1
           ∙ place_next (cells s) s.args.n xs ys ns st s.requires.0 l.i w.loop-test.true none past_cell,
       put_turn cell_bytes (figures s) s.args.buffer.now l.buffer s.args.start l.at l.i (inside w) l.invariant.2 none (next_bytes w) (next_is w)
           (put_part l.buffer (next_bytes w) f.new.1.1.1.1.1.1.0 l.at f.result (room w) (put_next c.before.before.before)),

@@ -3,7 +3,7 @@ use borrow.Author.Rules.{rules}
 use mathlib.Core.Path.{refl}
 use Rattle.file_read.proofs.Verdict.{cells_over}
 use Rattle.call_load.proofs.Loads.{counts_some, counts_none}
-use Rattle.call_load.proofs.Bare.{bare_yes, bare_no, rows_in}
+use Rattle.call_load.proofs.Bare.{bare_yes, bare_no, rows_in_lem}
 use Rattle.call_load.proofs.load.Statement.{statement}
 use Rattle.call_load.proofs.load.Tie as tie
 
@@ -36,7 +36,7 @@ returns-3 c =
     let kt = l.before.before.before.before.before.before.before.before.before.before.before.before.before in
     let k = kt.before.before.before in
     let C = counts_some _ k.counts-at.result k.counts-at.ensures _ _ _ kt.before.next.given.1 in (
-      rows_in _ _ _ _ _ C _ _ _ _ (bare_yes _ _ _ _ _ l.load_Cells.result l.load_Cells.ensures.0 _ c.before.good2.given.1),
+      rows_in_lem _ _ _ _ _ C _ _ _ _ (bare_yes _ _ _ _ _ l.load_Cells.result l.load_Cells.ensures.0 _ c.before.good2.given.1),
       l.load_Cells.ensures.1,
     )
 

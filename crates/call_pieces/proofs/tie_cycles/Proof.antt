@@ -53,16 +53,16 @@ there q =
     (omega arith, tying_within _ _ _ _ _ _ _ _ _ _ _ l.invariant.1 (omega arith) _ (cycle_is q) s.args.k (omega arith) h s.requires.1.1.1.0.1)
 
 -- its first place is there
-place_in_lem : (q : tie.In-loop invariant-loop decreases-loop) → q.before.loop.at < steps_most
-place_in_lem q =
+place_in : (q : tie.In-loop invariant-loop decreases-loop) → q.before.loop.at < steps_most
+place_in q =
     let a = q.before.before.args in
     omega (arith, (there q).1, width_some (get_or a.cycles.now (a.first + q.before.loop.j) 0))
 
 mul-anchor : tie.Need-overflow-mul-anchor invariant-loop decreases-loop
-mul-anchor c = record { fits = omega (arith, place_in_lem c.before) }
+mul-anchor c = record { fits = omega (arith, place_in c.before) }
 
 element-copy-out-anchor : tie.Need-element-copy-out-anchor invariant-loop decreases-loop
-element-copy-out-anchor c = place_in_lem c.before
+element-copy-out-anchor c = place_in c.before
 
 anchor-requires : tie.Need-anchor-requires invariant-loop decreases-loop
 anchor-requires c κs = search rules

@@ -41,8 +41,8 @@ tie-requires-2 c κs =
       ),
     )
 
-no_steps : (from k : ℕ) (ns : _) → k ≡ 0 → from ≡ from + width_sum (take k ns)
-no_steps from k ns e = rw e (omega arith)
+no_steps_lem : (from k : ℕ) (ns : _) → k ≡ 0 → from ≡ from + width_sum (take k ns)
+no_steps_lem from k ns e = rw e (omega arith)
 
 returns : tie.Need-returns
 returns c =
@@ -52,7 +52,7 @@ returns c =
       edge_grown a.kind a.start a.end (cycles_from (take a.k (drop a.first a.cycles.now)) (drop a.from a.steps.now))
           (take a.n a.ids.now) a.up.now a.left (get_or a.ids.now a.row 0) t.if1.true _ _ _ _
           c.before.before.tie.ensures c.tie2.ensures,
-      no_steps a.from a.k (drop a.first a.cycles.now) (s.requires.1.0.1 t.if1.true),
+      no_steps_lem a.from a.k (drop a.first a.cycles.now) (s.requires.1.0.1 t.if1.true),
     )
 
 tie-cycles-requires : tie.Need-tie-cycles-requires

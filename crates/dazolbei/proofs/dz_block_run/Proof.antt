@@ -10,7 +10,7 @@ use Rattle.lent.specs.Arrays.{Arrays, sound_arrays, lent}
 use Rattle.call_asked.proofs.Questions.{asked_sums, asked_no}
 use Rattle.entry_told.specs.Told.{line_width, lengths_end}
 use Rattle.entry_room.specs.Rooms.{lines_for}
-use Rattle.entry_room.proofs.Rooms.{lines_parts, nine_of, none_of}
+use Rattle.entry_room.proofs.Rooms.{lines_parts, nine_of, none_of_lem}
 use Rattle.dazolbei.proofs.Running.{run_unsound, run_short, run_done_lem}
 use Rattle.dazolbei.proofs.dz_block_run.Statement.{statement}
 use Rattle.dazolbei.proofs.dz_block_run.Tie as tie
@@ -52,7 +52,7 @@ returns-2 c =
 
 -- past it
 passed : (c : tie.Else1) → room c.before ≡ true
-passed c = let h = c.before in none_of (room h) h.lines-no.result h.lines-no.ensures c.if1.false
+passed c = let h = c.before in none_of_lem (room h) h.lines-no.result h.lines-no.ensures c.if1.false
 
 parts : (c : tie.Else1)
     → let a = (given c.before).args in (length a.script.now < lengths_end) × (line_width * length a.script.now ≤ length a.lines.now)

@@ -3,7 +3,7 @@ use mathlib.Core.Path.{refl}
 use borrow.Author.Rules.{rules}
 use Rattle.number.specs.Said.{done}
 use Rattle.bends.specs.Bends.{read_bends}
-use Rattle.decode_parts.proofs.Fields.{list_at, heard, list_found, no_list}
+use Rattle.decode_parts.proofs.Fields.{list_at_lem, heard, list_found, no_list}
 use Rattle.decode_parts.specs.Lists.{Found}
 use Rattle.decode_fields.specs.Fields.{read_two_numbers, two_says}
 use Rattle.decode_fields.proofs.Pairs.{pair_none, pair_half, pair_both}
@@ -28,7 +28,7 @@ returns-3 : tie.Need-returns-3
 returns-3 c =
     let h = c.before.before.before.bends_at.ensures in
     let e = c.before.bends.given.1 in
-    of_open (whole _ (pair_both (ends c.before.before.before.before) (list_found h e)) _ refl (list_at h e).lies)
+    of_open (whole _ (pair_both (ends c.before.before.before.before) (list_found h e)) _ refl (list_at_lem h e).lies)
 
 pub decode-open-spec : {M : Type 1} → statement M
 decode-open-spec =

@@ -7,7 +7,7 @@ use Rattle.number.specs.Numbers.{read_number, counted}
 use Rattle.bends.specs.Bends.{read_bends, positions_at}
 use Rattle.decode_parts.specs.Lists.{Found, Reaches}
 use Rattle.decode_parts.proofs.Rest.{leaves_number}
-use Rattle.decode_parts.proofs.Fields.{list_at, things_at, things_none, stands, number_heard, list_found, no_list}
+use Rattle.decode_parts.proofs.Fields.{list_at_lem, things_at, things_none, stands, number_heard, list_found, no_list}
 use Rattle.decode_fields.proofs.Pairs.{pair_none, pair_half, pair_both, counted_none, counted_half, counted_both}
 use Rattle.decode_fields.proofs.cut_lists.Statement.{statement}
 use Rattle.decode_fields.proofs.cut_lists.Tie as tie
@@ -52,7 +52,7 @@ returns-4 : tie.Need-returns-4
 returns-4 c =
     let d = c.before.before.before.before in
     let b = back d in
-    let l = list_at b.before.before.before.bends_at.ensures b.before.bends.given.1 in
+    let l = list_at_lem b.before.before.before.bends_at.ensures b.before.bends.given.1 in
     (pair_both (bends b) (counted_both read_number (count d) (moved c)), (l.lies, stands (moved c)))
 
 pub cut-lists-spec : {M : Type 1} → statement M

@@ -7,7 +7,7 @@ use mathlib.Core.Bool.{Bool, true}
 use lib.ListN.{length}
 use Rattle.call_open.proofs.Judged.{opened_file, opened_none}
 use Rattle.entry_room.specs.Rooms.{room_for}
-use Rattle.entry_room.proofs.Rooms.{Room, room_parts, nine_of, none_of}
+use Rattle.entry_room.proofs.Rooms.{Room, room_parts, nine_of, none_of_lem}
 use Rattle.entry_file_run.proofs.Running.{saved_few, run_refused, run_short, run_done_lem}
 use Rattle.entry_file_run.specs.Runs.{run_as}
 use Rattle.entry_file_run.proofs.run.Statement.{statement}
@@ -44,7 +44,7 @@ returns-2 c =
 
 -- past question 9
 room : (c : tie.Else1) → asked c.before ≡ true
-room c = let h = c.before in none_of (asked h) h.room-no.result h.room-no.ensures c.if1.false
+room c = let h = c.before in none_of_lem (asked h) h.room-no.result h.room-no.ensures c.if1.false
 
 parts : (c : tie.Else1) → let a = (given c.before).args in Room (length a.script.now) (length a.lines.now) (length a.out.now)
 parts c = let a = (given c.before).args in room_parts (length a.script.now) (length a.lines.now) (length a.out.now) (room c)

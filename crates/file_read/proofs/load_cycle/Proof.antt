@@ -9,7 +9,7 @@ use Rattle.number.proofs.Laws.{value_at_lem, malformed_at}
 use Rattle.store.specs.View.{width}
 use Rattle.store.proofs.Lists.{places_one}
 use Rattle.file_read.specs.Filling.{NumbersPut}
-use Rattle.file_read.proofs.CycleNumbers.{no_length, too_long, no_numbers, cycle_loaded}
+use Rattle.file_read.proofs.CycleNumbers.{no_length, too_long_lem, no_numbers, cycle_loaded}
 use borrow.Author.Rules.{rules}
 use Rattle.file_read.proofs.load_cycle.Statement.{statement}
 use Rattle.file_read.proofs.load_cycle.Tie as tie
@@ -58,7 +58,7 @@ returns-2 c =
     let a = st.args in
     let l = length_found p in
     let w = l.2 in
-    (refl, too_long (drop a.at a.s.now) _ _ a.used l.0 (omega (arith, c.if1.true, st.requires.1.1.1)))
+    (refl, too_long_lem (drop a.at a.s.now) _ _ a.used l.0 (omega (arith, c.if1.true, st.requires.1.1.1)))
 
 mul-cycles : tie.Need-overflow-mul-cycles
 mul-cycles c = search rules

@@ -15,7 +15,7 @@ span-in-requires-2 c κs =
     let st = y.before.before in
     let a = st.args in
     let p = st.requires in
-    (within_cycles a.counts.now a.cycles.now a.row a.t p y.span-in.result y.span-in.ensures, (p.cycle_room, (p.step_sum_lem, p.step_most)))
+    (within_cycles a.counts.now a.cycles.now a.row a.t p y.span-in.result y.span-in.ensures, (p.cycle_room, (p.step_sum, p.step_most)))
 
 returns : tie.Need-returns
 returns c =

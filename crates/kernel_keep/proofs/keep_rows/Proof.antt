@@ -26,7 +26,7 @@ drop-cycles-requires : tie.Need-drop-cycles-requires
 drop-cycles-requires c κs =
     let s = c.before.before.before in
     let l = s.requires.1.0 in
-    (s.requires.0.cells, ((sums s).cycle_sum, ((sums s).step_sum_lem, (s.requires.1.1.1, l.counts, l.cycles, l.steps))))
+    (s.requires.0.cells, ((sums s).cycle_sum, ((sums s).step_sum, (s.requires.1.1.1, l.counts, l.cycles, l.steps))))
 
 drop-bends-requires : tie.Need-drop-bends-requires
 drop-bends-requires c κs =

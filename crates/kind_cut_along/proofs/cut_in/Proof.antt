@@ -146,9 +146,9 @@ module _ (w : tie.After-add-row) where
       (laid p).asks _ r.replace-cycles.ensures _ _ y.put-bends.ensures edged
       e.1.0 e.1.1.0 h.0 h.1.0 h.1.1.0 h.1.1.1.0 h.1.1.1.1.0 h.1.1.1.1.1 refl refl refl refl refl refl
 
-  in_use : let a = s.args in let u = p.plan.result.old in
+  in_use_lem : let a = s.args in let u = p.plan.result.old in
       (a.spans.cycles.first + u.cycles + a.spans.cycles.rest ≤ 512) × (a.spans.steps.first + u.steps + a.spans.steps.rest ≤ 2048)
-  in_use =
+  in_use_lem =
       let a = s.args in
       let g = p.plan.result in
       let e = p.plan.ensures in
@@ -179,22 +179,22 @@ row i = i.before
 add-add-part : tie.Need-overflow-add-add-part
 add-add-part c =
     let i = c.before.before.before.before.before.before.before.before.before.before.before.before.before.before.before in
-    omega (arith, (in_use (row i)).0)
+    omega (arith, (in_use_lem (row i)).0)
 
 add-add-part-2 : tie.Need-overflow-add-add-part-2
 add-add-part-2 c =
     let i = c.before.before.before.before.before.before.before.before.before.before.before.before.before.before.before.before in
-    omega (arith, (in_use (row i)).0)
+    omega (arith, (in_use_lem (row i)).0)
 
 add-add-part-3 : tie.Need-overflow-add-add-part-3
 add-add-part-3 c =
     let i = c.before.before.before.before.before.before.before.before.before.before.before.before.before.before.before.before.before in
-    omega (arith, (in_use (row i)).1)
+    omega (arith, (in_use_lem (row i)).1)
 
 add-add-part-4 : tie.Need-overflow-add-add-part-4
 add-add-part-4 c =
     let i = c.before.before.before.before.before.before.before.before.before.before.before.before.before.before.before.before.before.before in
-    omega (arith, (in_use (row i)).1)
+    omega (arith, (in_use_lem (row i)).1)
 
 mul-add-part : tie.Need-overflow-mul-add-part
 mul-add-part c =
@@ -218,19 +218,19 @@ mul-add-part-2 : tie.Need-overflow-mul-add-part-2
 mul-add-part-2 c =
     let i = c.before.before.before.before.before.before.before.before.before.before.before.before.before.before.before.before.before.before.before.before in
     let b = building (p (row i)) in
-    omega (arith, b.steps_size, b.step_room_lem)
+    omega (arith, b.steps_size, b.step_room)
 
 sub-add-part-2 : tie.Need-overflow-sub-add-part-2
 sub-add-part-2 c =
     let i = c.before.before.before.before.before.before.before.before.before.before.before.before.before.before.before.before.before.before.before.before in
     let b = building (p (row i)) in
-    omega (arith, b.steps_size, b.step_room_lem)
+    omega (arith, b.steps_size, b.step_room)
 
 part-add-part-start-2 : tie.Need-slice-bounds-add-part-start-2
 part-add-part-start-2 c =
     let i = c.before.before.before.before.before.before.before.before.before.before.before.before.before.before.before.before.before.before.before.before.before in
     let b = building (p (row i)) in
-    omega (arith, b.steps_size, b.step_room_lem)
+    omega (arith, b.steps_size, b.step_room)
 
 add-part-requires : tie.Need-add-part-requires
 add-part-requires c κs =

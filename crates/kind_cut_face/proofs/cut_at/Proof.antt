@@ -14,7 +14,7 @@ use Rattle.rows_corners.specs.Faces.{Spanned, cycles_at, recycled}
 use Rattle.law_cut_face.proofs.Edits.{lone_asks, lone_list}
 use Rattle.lent.specs.Arrays.{Arrays, lent, held_by, rows_by}
 use Rattle.lent.proofs.Finds.{ready_finds}
-use Rattle.kernel_cycles.specs.Replacing.{and_one_lem, ReplacesIn, ReplacedIn}
+use Rattle.kernel_cycles.specs.Replacing.{and_one, ReplacesIn, ReplacedIn}
 use Rattle.kind_cut_face.specs.Cuts.{FaceCuts}
 use Rattle.kind_cut_face.proofs.Cuts.{sizes_in, counted, span, replaces, replaced_sheet}
 use Rattle.kind_cut_face.proofs.Lone.{with_lone, lone_built, vertex_room, vertex_holds}
@@ -55,8 +55,8 @@ spanned_at y =
 
 -- the list that stands there with the lone vertex
 made : (y : tie.After-spans-at) → let s = y.before.before.before.before.before.before.before in let q = y.spans-at.result in
-    Built (cycles_at (arrays s).cycles (arrays s).steps q ++ one (lone (arrays s).next)) (and_one_lem cycles_most (arrays s).cycles q.cycles 0) (used q)
-    (and_one_lem steps_most (arrays s).steps q.steps (arrays s).next)
+    Built (cycles_at (arrays s).cycles (arrays s).steps q ++ one (lone (arrays s).next)) (and_one cycles_most (arrays s).cycles q.cycles 0) (used q)
+    (and_one steps_most (arrays s).steps q.steps (arrays s).next)
 made y =
     let s = y.before.before.before.before.before.before.before in
     let a = arrays s in
@@ -66,7 +66,7 @@ made y =
     lone_built a.cycles a.steps q g.0 g.1.0 g.1.1 a.next
 
 listed : (y : tie.After-spans-at) → let s = y.before.before.before.before.before.before.before in let q = y.spans-at.result in
-    built (and_one_lem cycles_most (arrays s).cycles q.cycles 0) (used q) (and_one_lem steps_most (arrays s).steps q.steps (arrays s).next) ≡ list s
+    built (and_one cycles_most (arrays s).cycles q.cycles 0) (used q) (and_one steps_most (arrays s).steps q.steps (arrays s).next) ≡ list s
 listed y =
     let s = y.before.before.before.before.before.before.before in
     let a = arrays s in

@@ -27,8 +27,8 @@ arrays c =
 abbrev start : tie.Else1 → tie.Start
 start n = n.before.before.before
 
-abbrev is_open_lem : tie.Else1 → Bool
-is_open_lem n = eqb n.before.before.value_at_lem.result 1
+abbrev is_open : tie.Else1 → Bool
+is_open n = eqb n.before.before.value_at_lem.result 1
 
 abbrev row : tie.After-wide → tie.After-find
 row w = w.before.before
@@ -41,7 +41,7 @@ counted b = b.before.before.before
 
 -- ---- what is found there
 edge : (n : tie.Else1)
-    → (edge_on (is_open_lem n) (cell_at (sheet_of (held_by (arrays (start n)))) (start n).args.e) ≡ true) × (n.before.new_cells_lem.result ≡ new_on (is_open_lem n))
+    → (edge_on (is_open n) (cell_at (sheet_of (held_by (arrays (start n)))) (start n).args.e) ≡ true) × (n.before.new_cells_lem.result ≡ new_on (is_open n))
 edge n =
     let s = start n in
     let k = n.before.new_cells_lem.ensures in
@@ -53,11 +53,11 @@ row_at : (f : tie.After-find) → f.find.result < 256
 row_at f =
     let n = f.before in
     let s = start n in
-    row_in (arrays s) s.args.t s.pre s.args.e s.args.q f.find.result f.find.ensures (is_open_lem n) (edge n).0
+    row_in (arrays s) s.args.t s.pre s.args.e s.args.q f.find.result f.find.ensures (is_open n) (edge n).0
 
 late : (k : tie.After-late-no)
     → let w = wide k.before in let n = (row w).before in let s = start n in
-    Found (arrays s) s.args.t s.args.e s.args.q (is_open_lem n) (row w).find.result w.wide.result k.before.uses-of.result k.late_no_lem.result
+    Found (arrays s) s.args.t s.args.e s.args.q (is_open n) (row w).find.result w.wide.result k.before.uses-of.result k.late_no_lem.result
 late k =
     let u = k.before in
     let x = u.before in
@@ -123,23 +123,23 @@ returns-2 c =
     let f = row w in
     let n = f.before in
     let s = start n in
-    place_no (arrays s) s.args.t s.pre s.args.e s.args.q f.find.result f.find.ensures (is_open_lem n) (edge n).0
+    place_no (arrays s) s.args.t s.pre s.args.e s.args.q f.find.result f.find.ensures (is_open n) (edge n).0
     w.wide.result w.wide.ensures (sym x.place-exists.ensures ∙ not-true _ c.before.if2.true) _ c.refused2.ensures
 
 uses-of-requires : tie.Need-uses-of-requires
 uses-of-requires c κs =
     let s = start (row c.before.before).before in
     let k = counts_in (arrays s) s.args.t s.pre s.args.e s.args.q in
-    (omega (arith, k.cycles_in, k.cycle_room), omega (arith, k.steps_in, k.step_room_lem))
+    (omega (arith, k.cycles_in, k.cycle_room), omega (arith, k.steps_in, k.step_room))
 
 sub-s : tie.Need-overflow-sub-s
-sub-s c = let n = (row (wide c)).before in omega (arith, (edge n).1, (new_most (is_open_lem n)).0)
+sub-s c = let n = (row (wide c)).before in omega (arith, (edge n).1, (new_most (is_open n)).0)
 
 late-no-requires : tie.Need-late-no-requires
 late-no-requires c κs =
     let n = (row (wide c)).before in
     let s = start n in
-    late_asks (arrays s) s.args.t s.pre s.args.e s.args.q (is_open_lem n) _ _ (edge n).1 c.uses-of.ensures
+    late_asks (arrays s) s.args.t s.pre s.args.e s.args.q (is_open n) _ _ (edge n).1 c.uses-of.ensures
 
 refused-requires-3 : tie.Need-refused-requires-3
 refused-requires-3 c κs = search rules
@@ -149,14 +149,14 @@ returns-3 c =
     let k = c.before.before in
     let n = (row (wide k.before)).before in
     let s = start n in
-    late_no_lem (arrays s) s.args.t s.args.e s.args.q _ _ _ _ (is_open_lem n) (late k) c.before.if3.true _ c.refused3.ensures
+    late_no_lem (arrays s) s.args.t s.args.e s.args.q _ _ _ _ (is_open n) (late k) c.before.if3.true _ c.refused3.ensures
 
 bend-start-requires : tie.Need-bend-start-requires
 bend-start-requires c κs =
     let f = row (wide c.before.before.before) in
     let n = f.before in
     let s = start n in
-    base_in (arrays s) s.args.t s.pre s.args.e s.args.q f.find.result f.find.ensures (is_open_lem n) (edge n).0
+    base_in (arrays s) s.args.t s.pre s.args.e s.args.q f.find.result f.find.ensures (is_open n) (edge n).0
 
 mul-s : tie.Need-overflow-mul-s
 mul-s c = omega (arith, row_at (row (wide (counted c).before)))
@@ -177,7 +177,7 @@ place-at-requires c κs =
     let n = (row (wide k.before)).before in
     let s = start n in
     place_asks (arrays s) s.args.t s.args.e s.args.q _ _ _ _ b.before.before.if3.false _ b.bend-start.ensures _ _ refl refl
-    (is_open_lem n) (late k)
+    (is_open n) (late k)
 
 returns-4 : tie.Need-returns-4
 returns-4 c =
@@ -186,7 +186,7 @@ returns-4 c =
     let n = (row (wide k.before)).before in
     let s = start n in
     planned (arrays s) s.args.t s.args.e s.args.q _ _ _ _ b.before.before.if3.false _ b.bend-start.ensures _ _ refl refl
-    (is_open_lem n) (late k) _ c.place_at.ensures
+    (is_open n) (late k) _ c.place_at.ensures
 
 pub cut-plan-spec : {M : Type 1} → statement M
 cut-plan-spec =

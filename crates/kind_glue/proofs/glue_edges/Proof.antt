@@ -7,7 +7,7 @@ use mathlib.Core.Bool.{Bool, true}
 use mathlib.Core.List.{List}
 use lib.Dec.{eqb}
 use lib.ListN.{length}
-use Rattle.complex.specs.Cells.{cell_at, is_live_lem}
+use Rattle.complex.specs.Cells.{cell_at, is_live}
 use Rattle.complex.specs.Edits.{rewired, same_vertex, in_place_of}
 use Rattle.complex.specs.Decode.{glue_edges}
 use Rattle.store.specs.View.{sheet_of}
@@ -39,7 +39,7 @@ goes : (e : tie.Else1)
     → Glues (held_by (arrays (start e.before))) (glue_edges (start e.before).args.a (start e.before).args.b (start e.before).args.flag)
     (start e.before).args.b
     (rewired same_vertex (in_place_of (start e.before).args.b (start e.before).args.a (eqb (start e.before).args.flag 1)))
-    × (is_live_lem (cell_at (sheet_of (held_by (arrays (start e.before)))) (start e.before).args.a) ≡ true)
+    × (is_live (cell_at (sheet_of (held_by (arrays (start e.before)))) (start e.before).args.a) ≡ true)
 goes e =
     let v = e.before in
     let s = start v in

@@ -2,7 +2,7 @@
 use borrow.Author.Rules.{rules}
 use native.Mathlib.Omega.{arith}
 use mathlib.Core.Path.{sym, ◌∙◌}
-use Rattle.kind_uncut.proofs.Found.{edge_in}
+use Rattle.kind_uncut.proofs.Found.{edge_in_lem}
 use Rattle.kind_uncut.proofs.case_in.Statement.{statement}
 use Rattle.kind_uncut.proofs.case_in.Tie as tie
 
@@ -30,7 +30,7 @@ returns-3 c =
     let i1 = u.before.before in
     let k = i1.before in
     let a = k.before.args in
-    edge_in a.count a.ids.now a.kinds.now a.starts.now a.ends.now a.counts.now a.cycles.now a.m a.steps.now a.i
+    edge_in_lem a.count a.ids.now a.kinds.now a.starts.now a.ends.now a.counts.now a.cycles.now a.m a.steps.now a.i
     k.value_at_lem.result k.value_at_lem.ensures i1.if1.false u.before.if2.false
     u.uses-of.result u.uses-of.ensures c.edge_case.result c.edge_case.ensures
 

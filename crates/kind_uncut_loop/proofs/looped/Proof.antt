@@ -126,7 +126,7 @@ vertex-at-requires c κs =
     let s = begin (asked f) in
     let t = s.args.t in
     let y = s.pre.0 in
-    live_row (arrays s) t y s.args.v _ f.find.ensures (told (arrays s) t y s.args.v s.args.e s.pre.1).vertex_live
+    live_row (arrays s) t y s.args.v _ f.find.ensures (told (arrays s) t y s.args.v s.args.e s.pre.1).vertex_live_lem
 
 bend-start-requires : tie.Need-bend-start-requires
 bend-start-requires c κs =

@@ -16,7 +16,7 @@ place-sum-requires-3 c κs =
     let e = c.before.place-sum2.ensures in
     let s = at.requires.cycle_sum in
     let z = at.requires.cycle_room in
-    (omega arith, rw e at.requires.step_sum_lem)
+    (omega arith, rw e at.requires.step_sum)
 
 returns : tie.Need-returns
 returns c =

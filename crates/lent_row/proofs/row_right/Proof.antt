@@ -7,7 +7,7 @@ use lib.ListN.{take}
 use borrow.Author.Tests.{not-true, not-false}
 use Rattle.sound.proofs.Testing.{and_true, and_false}
 use Rattle.lent.specs.Arrays.{Arrays, position_in}
-use Rattle.lent_row.specs.Row.{rows_in_lem, row_right, bare}
+use Rattle.lent_row.specs.Row.{rows_in, row_right, bare}
 use Rattle.lent_figure.specs.Figure.{figure_right}
 use Rattle.lent_row.proofs.Rows.{after_id, after_normal, after_bends, after_cycles, after_figure}
 use Rattle.lent_row.proofs.Rows.{row_in, steps_so, looked, row_fault, bends_over, bends_fit_lem, cycles_over, cycles_fit_lem, row_stop, row_done, row_plain}
@@ -35,11 +35,11 @@ id_good c = c.before.before.before.before.before.before
 abbrev start2 : tie.Else2 → tie.Start
 start2 c = start1 (id_good c.before)
 
-abbrev row_good_lem : tie.After-figure-right → tie.Else2
-row_good_lem c = c.before.before.before
+abbrev row_good : tie.After-figure-right → tie.Else2
+row_good c = c.before.before.before
 
 abbrev start3 : tie.Else3 → tie.Start
-start3 c = start2 (row_good_lem c.before)
+start3 c = start2 (row_good c.before)
 
 abbrev figure_good : tie.After-wide → tie.Else3
 figure_good c = c.before.before
@@ -62,16 +62,16 @@ left2 c = left1 (id_good c.before) ∙ and_true _ (sym c.before.row_normal_lem.e
 
 -- the figure is asked of the place in the row
 figure_is : (c : tie.After-figure-right) →
-    let s = start2 (row_good_lem c) in
-    c.figure-right.result ≡ figure_right (rows_in_lem (held s)) (take s.args.count s.args.bends.now) (row s)
+    let s = start2 (row_good c) in
+    c.figure-right.result ≡ figure_right (rows_in (held s)) (take s.args.count s.args.bends.now) (row s)
     (position_in s.args.px.now s.args.py.now (row s))
 figure_is c =
-    let s = start2 (row_good_lem c) in
+    let s = start2 (row_good c) in
     c.figure-right.ensures s.args.bends.now refl
-    ∙ ap (figure_right (rows_in_lem (held s)) (take s.args.count s.args.bends.now) (row s)) c.before.before.vertex_at.ensures
+    ∙ ap (figure_right (rows_in (held s)) (take s.args.count s.args.bends.now) (row s)) c.before.before.vertex_at.ensures
 
 left3 : (c : tie.Else3) → row_right (held (start3 c)) (row (start3 c)) ≡ after_figure (held (start3 c)) (row (start3 c))
-left3 c = left2 (row_good_lem c.before) ∙ and_true _ (sym (figure_is c.before) ∙ not-false _ c.if3.false)
+left3 c = left2 (row_good c.before) ∙ and_true _ (sym (figure_is c.before) ∙ not-false _ c.if3.false)
 
 left4 : (c : tie.Else4) → row_right (held (start4 c)) (row (start4 c)) ≡ after_bends (held (start4 c)) (row (start4 c))
 left4 c =
@@ -159,8 +159,8 @@ figure-right-requires c κs =
 returns-3 : tie.Need-returns-3
 returns-3 c =
     let q = c.before in
-    let s = start2 (row_good_lem q) in
-    row_fault s.pre.0 s.pre.1.1 (left2 (row_good_lem q) ∙ and_false _ (sym (figure_is q) ∙ not-true _ c.if3.true))
+    let s = start2 (row_good q) in
+    row_fault s.pre.0 s.pre.1.1 (left2 (row_good q) ∙ and_false _ (sym (figure_is q) ∙ not-true _ c.if3.true))
 
 mul_wide : tie.Need-overflow-mul-wide
 mul_wide c = search rules

@@ -12,9 +12,9 @@ use Rattle.rows_links.proofs.Links.{put_none, put_as}
 use Rattle.rows_links.proofs.cycle_links.Statement.{statement}
 use Rattle.rows_links.proofs.cycle_links.Tie as tie
 
-no_steps : (c : ℕ) (l : List ℕ) → c ≡ 0 → [] ≡ passages (steps_of (cycle_of c l))
-no_steps zero l e = refl
-no_steps (suc n) l e = absurd (omega arith)
+no_steps_lem : (c : ℕ) (l : List ℕ) → c ≡ 0 → [] ≡ passages (steps_of (cycle_of c l))
+no_steps_lem zero l e = refl
+no_steps_lem (suc n) l e = absurd (omega arith)
 
 some_steps : (c : ℕ) (l : List ℕ) → (c ≡ 0 → ⊥) → passages (map halfedge_of (take c l)) ≡ passages (steps_of (cycle_of c l))
 some_steps zero l n = absurd (n refl)
@@ -27,7 +27,7 @@ some_width (suc k) n = refl
 returns : tie.Need-returns
 returns c =
     let a = c.before.before.before.before.before.args in
-    put_as (take a.n a.ids.now) a.at.now [] (passages (steps_of (cycle_of a.c a.l.now))) (no_steps a.c a.l.now c.if1.true)
+    put_as (take a.n a.ids.now) a.at.now [] (passages (steps_of (cycle_of a.c a.l.now))) (no_steps_lem a.c a.l.now c.if1.true)
     a.used a.xs.now a.ys.now a.used a.xs.now a.ys.now
     (put_none (take a.n a.ids.now) a.at.now a.used a.xs.now a.ys.now)
 

@@ -5,7 +5,7 @@ use borrow.Author.Rules.{rules}
 use native.Mathlib.Omega.{arith}
 use Prim.Native.Nat.{◌+◌, ◌≤◌}
 use Rattle.complex.specs.Lists.{total}
-use Rattle.complex.specs.Sound.{step_count_lem}
+use Rattle.complex.specs.Sound.{step_count}
 use Rattle.complex.specs.Decode.{read_cycle}
 use Rattle.decode_parts.specs.Lists.{cycles_read, Stand}
 use Rattle.decode_parts.proofs.Rest.{leaves_cycle}
@@ -17,7 +17,7 @@ use Rattle.script.proofs.count_cycle_steps.Tie as tie
 abbrev invariant-loop : tie.invariant-loop
 invariant-loop script first count max most at₀ left₀ sum₀ at left sum =
     Stand read_cycle script at left × (most ≡ max) × (sum ≤ most)
-    × (sum + total step_count_lem (cycles_read script at left) ≡ total step_count_lem (cycles_read script first count))
+    × (sum + total step_count (cycles_read script at left) ≡ total step_count (cycles_read script first count))
 
 abbrev decreases-loop : tie.decreases-loop
 decreases-loop script first count max most at₀ left₀ sum₀ at left sum = left
@@ -56,7 +56,7 @@ returns-3 : tie.Need-returns-3 invariant-loop decreases-loop
 returns-3 c =
     let l = c.before.loop in
     let s = c.before.before.before.before.args.script.now in
-    let w : total step_count_lem (cycles_read s l.at l.left) ≡ 0 = ap (total step_count_lem) (none_left read_cycle s l.at l.left c.loop-test.false) in
+    let w : total step_count (cycles_read s l.at l.left) ≡ 0 = ap (total step_count) (none_left read_cycle s l.at l.left c.loop-test.false) in
     let v = l.invariant in
     omega arith
 
