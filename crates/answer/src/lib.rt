@@ -1,3 +1,5 @@
+#![tactic(auto)]
+
 ghost use Rattle.std.specs.Prelude.{◌≡◌, ◌+◌, ◌-◌, ◌≤◌};
 ghost use Rattle.answer.specs.Sizes.{sizes_fit, more_less, changed_by};
 ghost use Rattle.complex.specs.Sound.{ids_end};
@@ -17,7 +19,7 @@ const BENDS_MOST: usize = 2048;
 
 // What a command answers: the number of the first question that got a no, or 0; the first new id, the counts of new and
 // of removed ids; the drawing.
-#[derive(Drop)]
+#[derive(Clone, Copy)]
 pub struct Answer {
     pub number: u32,
     pub first: u32,
@@ -27,7 +29,7 @@ pub struct Answer {
 }
 
 // How many cells, cycles, steps and bends there are, a lone vertex counted as one step.
-#[derive(Drop)]
+#[derive(Clone, Copy)]
 pub struct Totals {
     pub cells: usize,
     pub cycles: usize,

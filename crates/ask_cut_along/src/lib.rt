@@ -1,3 +1,5 @@
+#![tactic(auto)]
+
 ghost use Rattle.std.specs.Prelude.{◌≡◌, false, ◌+◌, ◌<◌, ◌≤◌};
 ghost use Rattle.complex.specs.Sound.{ids_end};
 ghost use Rattle.answer.specs.Late.{Small};

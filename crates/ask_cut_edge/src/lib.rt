@@ -1,3 +1,5 @@
+#![tactic(auto)]
+
 ghost use Rattle.std.specs.Prelude.{◌≡◌, ◌+◌, ◌<◌, ◌≤◌, ◌/◌, ◌%◌};
 ghost use Rattle.ask_cut_edge.specs.Cuts.{next_bend, closed_between, point_place, point_of, open_between};
 

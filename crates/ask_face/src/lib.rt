@@ -1,3 +1,5 @@
+#![tactic(auto)]
+
 ghost use Rattle.std.specs.Prelude.{◌≡◌};
 ghost use Rattle.complex.specs.Decode.{read_cycle};
 ghost use Rattle.sound.specs.Rows.{rows_of};

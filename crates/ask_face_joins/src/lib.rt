@@ -1,3 +1,5 @@
+#![tactic(auto)]
+
 // Question 6 of the cycles of a new face in a script: the steps of each join. Rows are looked up by hints.
 ghost use Rattle.std.specs.Prelude.{eqb, take, length, ◌≡◌, true, false, ◌≤◌, ◌<◌};
 ghost use Rattle.number.specs.Numbers.{read_number};

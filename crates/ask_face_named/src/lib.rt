@@ -1,3 +1,5 @@
+#![tactic(auto)]
+
 // Question 4 of the cycles of a new face in a script: they name vertices and edges.
 ghost use Rattle.std.specs.Prelude.{eqb, take, get_or, ◌≡◌, true, false, ◌||◌, ◌<◌};
 ghost use Rattle.number.specs.Numbers.{read_number};
@@ -8,7 +10,7 @@ ghost use Rattle.decode_parts.specs.Lists.{numbers_read, cycles_read, Stand};
 ghost use Rattle.ask_face_named.specs.Walks.{Valued, Walked, step_named, names_in};
 
 // A walk along a list of a script that asks something of it: the place after the list, or a no.
-#[derive(Drop)]
+#[derive(Clone, Copy)]
 pub enum Walk {
     To(usize),
     No,

@@ -1,3 +1,5 @@
+#![tactic(auto)]
+
 ghost use Rattle.std.specs.Prelude.{◌≡◌, ◌||◌, eqb, take};
 ghost use Rattle.store.specs.Index.{value_at};
 ghost use Rattle.ask_glue.specs.Questions.{NumberRows, vertices_no, ends_meet, may_glue_by, edges_no};

@@ -1,3 +1,5 @@
+#![tactic(auto)]
+
 ghost use Rattle.std.specs.Prelude.{cond};
 ghost use Rattle.ask_uncut.specs.Cases.{EdgeSays, open_pair, open_case, closed_pair, closed_case};
 
@@ -5,14 +7,14 @@ use ask_uncut_ends::AtVertex;
 use ask_uncut_uses::{Between, Use, Uses};
 
 // Which case of an edge holds: how its two uses lie.
-#[derive(Drop)]
+#[derive(Clone, Copy)]
 pub enum AtEdge {
     Refused,
     Used(Between, Use, Use),
 }
 
 // What stands at a cell: no vertex and no edge, or the case there.
-#[derive(Drop)]
+#[derive(Clone, Copy)]
 pub enum Case {
     Dead,
     Vertex(AtVertex),

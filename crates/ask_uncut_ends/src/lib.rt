@@ -1,3 +1,5 @@
+#![tactic(auto)]
+
 ghost use Rattle.std.specs.Prelude.{◌≡◌, ◌≤◌, take, length, true, false};
 ghost use mathlib.Core.List.{[], foldl};
 ghost use Rattle.complex.specs.Lists.{cons_if, total};
@@ -10,7 +12,7 @@ ghost use Rattle.ask_uncut_ends.specs.Ends.{edge_ends, ends_in, one_end, two_end
 ghost use Rattle.ask_uncut_ends.specs.Cases.{vertex_says, pair_case, ends_case};
 
 // How many edge ends, and the first two: an edge and whether its halfedge leaves backward.
-#[derive(Drop)]
+#[derive(Clone, Copy)]
 pub struct Ends {
     pub count: usize,
     pub one: u32,
@@ -20,7 +22,7 @@ pub struct Ends {
 }
 
 // Which case of a vertex holds: a lone cycle, both ends of one edge, or the ends of two edges.
-#[derive(Drop)]
+#[derive(Clone, Copy)]
 pub enum AtVertex {
     Refused,
     Lonely,

@@ -1,3 +1,5 @@
+#![tactic(auto)]
+
 ghost use Rattle.std.specs.Prelude.{◌≡◌, ◌+◌, ◌<◌, ◌≤◌, length, take, drop};
 ghost use Rattle.complex.specs.Lists.{one};
 ghost use Rattle.complex.specs.Uncut.{is_lone};
@@ -5,7 +7,7 @@ ghost use Rattle.store.specs.View.{width, width_sum, cycle_of, cycles_from};
 ghost use Rattle.ask_uncut_lone.specs.Lone.{lone_place, holding};
 
 // The row of a cell, and the place of one of its cycles.
-#[derive(Drop)]
+#[derive(Clone, Copy)]
 pub struct Held {
     pub row: usize,
     pub place: usize,

@@ -1,3 +1,5 @@
+#![tactic(auto)]
+
 ghost use Rattle.std.specs.Prelude.{◌≡◌, ◌+◌, ◌≤◌, take, drop, length, not, map};
 ghost use Rattle.std.specs.Bool.{beq};
 ghost use Rattle.complex.specs.Lists.{any};

@@ -1,3 +1,5 @@
+#![tactic(auto)]
+
 ghost use Rattle.std.specs.Prelude.{◌≡◌, ◌+◌, ◌≤◌, take, drop, length};
 ghost use mathlib.Core.List.{◌∷◌, [], map, foldl};
 ghost use Rattle.complex.specs.Cells.{steps_of};
@@ -6,7 +8,7 @@ ghost use Rattle.store.specs.View.{halfedge_of, width, width_sum, cycle_of, cycl
 ghost use Rattle.ask_uncut_uses.specs.Uses.{no_uses, add_use, one_use, uses_two, row_uses, Faces};
 
 // A step of an edge: its face, the cycle there, the step of the cycle, its direction.
-#[derive(Drop)]
+#[derive(Clone, Copy)]
 pub struct Use {
     pub face: u32,
     pub cycle: usize,
@@ -15,7 +17,7 @@ pub struct Use {
 }
 
 // How the two uses of an edge lie that can be uncut: of an open edge in two faces or in one cycle, of a closed one in two faces.
-#[derive(Drop)]
+#[derive(Clone, Copy)]
 pub enum Between {
     TwoFaces,
     OneCycle,
@@ -23,7 +25,7 @@ pub enum Between {
 }
 
 // How many uses, 3 for more than 2, and the first two.
-#[derive(Drop)]
+#[derive(Clone, Copy)]
 pub struct Uses {
     pub count: usize,
     pub one: Use,
@@ -31,7 +33,7 @@ pub struct Uses {
 }
 
 // The uses by what was passed over, and the place where the steps of the rest begin.
-#[derive(Drop)]
+#[derive(Clone, Copy)]
 pub struct Past {
     pub uses: Uses,
     pub place: usize,

@@ -1,3 +1,5 @@
+#![tactic(auto)]
+
 ghost use Rattle.std.specs.Prelude.{◌≡◌, cond, ◌≤◌};
 ghost use Rattle.answer.specs.Sizes.{sized, more_less, changed_by};
 ghost use Rattle.answer.specs.Late.{sizes_by, late_no, Small};
@@ -29,7 +31,7 @@ pub fn bend_no(next: u32, t: Totals, cells: usize) -> u32
 }
 
 // An edge as it leaves a vertex: its row, the vertex where it leads, and where its bends stand.
-#[derive(Drop)]
+#[derive(Clone, Copy)]
 pub struct Side {
     pub row: usize,
     pub far: u32,

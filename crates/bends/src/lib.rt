@@ -1,3 +1,5 @@
+#![tactic(auto)]
+
 ghost use Rattle.std.specs.Prelude.{◌≡◌, ◌+◌, ◌*◌, ◌≤◌, length};
 ghost use Rattle.number.specs.Readers.{all};
 ghost use Rattle.coordinate.specs.Bounds.{within};
@@ -7,7 +9,7 @@ use number::Number;
 
 // What stands at the front of bytes: so many bends, the place of the first and the place after the
 // last; or no bend list.
-#[derive(Drop)]
+#[derive(Clone, Copy)]
 pub enum BendList {
     Listed(u32, usize, usize),
     Malformed,

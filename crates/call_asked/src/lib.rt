@@ -1,5 +1,7 @@
+#![tactic(auto)]
+
 // Where the calls on lent arrays begin: the empty drawing, and question 1 of any contents.
-ghost use Rattle.lent.specs.Arrays.{entry};
+ghost use Rattle.lent.specs.Arrays.{of_lists};
 ghost use Rattle.call_asked.specs.Entries.{Begun, Asked};
 
 use lent_sound::Walked;
@@ -29,7 +31,7 @@ pub fn asked(
     bx: &[f64; 2048],
     by: &[f64; 2048],
 ) -> Walked
-    ensures { Asked (entry next count ids kinds starts ends bends counts px py cycles steps bx by) result }
+    ensures { Asked (of_lists next count ids.now kinds.now starts.now ends.now bends.now counts.now px.now py.now cycles.now steps.now bx.now by.now) result }
 {
     let mut table = [0u8; 1024];
     lent_sound::walk(

@@ -1,3 +1,5 @@
+#![tactic(auto)]
+
 // The cells of lent rows as bytes: how many they take, and where they are put.
 ghost use Rattle.std.specs.Prelude.{◌≡◌, ◌+◌, ◌<◌, ◌≤◌, length, take, get_or};
 ghost use Rattle.number.specs.Readers.{spread};
@@ -8,7 +10,7 @@ ghost use Rattle.store.specs.View.{cycles_from, cells_of, sheet_of};
 ghost use Rattle.file_parts.specs.Parts.{BytesPut, positions_from};
 ghost use Rattle.file_write.specs.Places.{AllReady};
 ghost use Rattle.file_length.specs.Widths.{Heads, head_width};
-ghost use Rattle.lent.specs.Arrays.{held_by, lent, entry};
+ghost use Rattle.lent.specs.Arrays.{held_by, of_lists};
 ghost use Rattle.lent.specs.Replies.{Ready};
 ghost use Rattle.call_cells.specs.Rows.{cells_in, past_cell};
 
@@ -108,8 +110,8 @@ pub fn file_length(
     by: &[f64; 2048],
     t: Totals,
 ) -> usize
-    requires { Ready (lent next count ids kinds starts ends bends counts px py cycles steps bx by) t }
-    ensures { result ≡ length (file_of (sheet_of (held_by (entry next count ids kinds starts ends bends counts px py cycles steps bx by)))) }
+    requires { Ready (of_lists next count ids.now kinds.now starts.now ends.now bends.now counts.now px.now py.now cycles.now steps.now bx.now by.now) t }
+    ensures { result ≡ length (file_of (sheet_of (held_by (of_lists next count ids.now kinds.now starts.now ends.now bends.now counts.now px.now py.now cycles.now steps.now bx.now by.now)))) }
 {
     let h = heads(ids, kinds, starts, ends, bends, counts, px, py, count);
     let c = file_length::widths(cycles, t.cycles);

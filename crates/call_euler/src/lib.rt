@@ -1,8 +1,10 @@
+#![tactic(auto)]
+
 // The Euler number of sound arrays.
 ghost use Rattle.std.specs.Prelude.{◌≡◌, T};
 ghost use Rattle.complex.specs.Euler.{euler};
 ghost use Rattle.store.specs.View.{sheet_of};
-ghost use Rattle.lent.specs.Arrays.{held_by, sound_arrays, lent, entry};
+ghost use Rattle.lent.specs.Arrays.{held_by, sound_arrays, of_lists};
 
 // The Euler number: vertices minus open edges plus 2 - k for each face of k cycles.
 pub fn euler(
@@ -21,8 +23,8 @@ pub fn euler(
     bx: &[f64; 2048],
     by: &[f64; 2048],
 ) -> i32
-    requires { T (sound_arrays (lent next count ids kinds starts ends bends counts px py cycles steps bx by)) }
-    ensures { result ≡ euler (sheet_of (held_by (entry next count ids kinds starts ends bends counts px py cycles steps bx by))).cells }
+    requires { T (sound_arrays (of_lists next count ids.now kinds.now starts.now ends.now bends.now counts.now px.now py.now cycles.now steps.now bx.now by.now)) }
+    ensures { result ≡ euler (sheet_of (held_by (of_lists next count ids.now kinds.now starts.now ends.now bends.now counts.now px.now py.now cycles.now steps.now bx.now by.now))).cells }
 {
     lent::known(
         next, count, ids, kinds, starts, ends, bends, counts, px, py, cycles, steps, bx, by,

@@ -7,33 +7,17 @@ use Rattle.complex.specs.Cells.{LiveCell}
 use Rattle.store.specs.View.{bend_total}
 use Rattle.file_read.specs.Outcome.{CellsOver, NotHeld}
 use Rattle.kernel_add.specs.Comes.{BendsPut}
-use Rattle.lent.specs.Arrays.{Arrays, Numbers, Floats, held_by, Lengths}
+use Rattle.lent.specs.Arrays.{Arrays, of_lists, held_by, Lengths}
 use Rattle.call_load.specs.declared.Looked.{Looked}
 use Rattle.call_load.specs.declared.Looked.TheVariants.{Bends, Refused as Unread}
 use Rattle.call_load.specs.declared.Outline.{Outline}
 use Rattle.call_load.specs.declared.Outline.TheVariants.{Cells, Refused}
 use Rattle.call_load.specs.Loads.{CellsHeld, SheetIn}
 
--- arrays at a call's exit with the bends at xs and ys, which stand nowhere
-abbrev pub exit_with : ℕ → Numbers → Numbers → Numbers → Numbers → Numbers → Numbers → Floats → Floats → Numbers → Numbers
+-- arrays of lists with the bends at xs and ys, which stand nowhere
+abbrev pub exit_with : ℕ → List ℕ → List ℕ → List ℕ → List ℕ → List ℕ → List ℕ → List Float → List Float → List ℕ → List ℕ
     → List Float → List Float → ℕ → Arrays
-exit_with n is ks ss es bs cs px py cy st xs ys next =
-    record {
-      next = next;
-      count = n;
-      ids = is.exit.now;
-      kinds = ks.exit.now;
-      starts = ss.exit.now;
-      ends = es.exit.now;
-      bends = bs.exit.now;
-      counts = cs.exit.now;
-      px = px.exit.now;
-      py = py.exit.now;
-      cycles = cy.exit.now;
-      steps = st.exit.now;
-      bx = xs;
-      by = ys;
-    }
+exit_with n is ks ss es bs cs px py cy st xs ys next = of_lists next n is ks ss es bs cs px py cy st xs ys
 
 -- ---- bends that are kept, or only looked at
 -- n bends bs of a cell are put from a place on, or g becomes r, which tells whether they lie in bounds too

@@ -1,3 +1,5 @@
+#![tactic(auto)]
+
 ghost use Rattle.std.specs.Prelude.{◌≡◌, ◌+◌, ◌*◌, ◌<◌, ◌≤◌, length, drop};
 ghost use Rattle.number.specs.Readers.{times};
 ghost use Rattle.bends.specs.Bends.{positions_at};
@@ -17,21 +19,21 @@ const BENDS_MOST: usize = 2048;
 
 // The next id, the number of cells and whether the bends that were looked at lie in bounds; or the bytes are not, all of them, a next id and
 // cells that keep the ceilings.
-#[derive(Drop)]
+#[derive(Clone, Copy)]
 pub enum Outline {
     Cells(u32, usize, bool),
     Refused,
 }
 
 // What a file begins with: the next id, the number of cells and the place after them; or it begins with no such numbers.
-#[derive(Drop)]
+#[derive(Clone, Copy)]
 enum Counts {
     From(u32, usize, usize),
     Refused,
 }
 
 // Whether the bends of some cells that were looked at lie in bounds, or the bytes are not, all of them, cells for which there is room.
-#[derive(Drop)]
+#[derive(Clone, Copy)]
 enum Looked {
     Bends(bool),
     Refused,
@@ -117,7 +119,7 @@ fn load_cells(
 ) -> Looked
     requires at_in_bounds { at ≤ length s.now }
     requires n_le_cells_most { n ≤ cells_most }
-    ensures rows_told { RowsTold keep (times read_cell n (drop at s.now)) (exit_with n ids kinds starts ends bends counts px py cycles steps) bx.new by.new result }
+    ensures rows_told { RowsTold keep (times read_cell n (drop at s.now)) (exit_with n ids.new kinds.new starts.new ends.new bends.new counts.new px.new py.new cycles.new steps.new) bx.new by.new result }
     ensures stays { Stays keep bx.old by.old bx.new by.new }
 {
     lent::known(
@@ -195,7 +197,7 @@ pub fn load(
     by: &mut [f64; 2048],
     keep: bool,
 ) -> Outline
-    ensures rows_loaded { RowsLoaded keep bytes.now (λ next n xs ys. exit_with n ids kinds starts ends bends counts px py cycles steps xs ys next) bx.new by.new result }
+    ensures rows_loaded { RowsLoaded keep bytes.now (λ next n xs ys. exit_with n ids.new kinds.new starts.new ends.new bends.new counts.new px.new py.new cycles.new steps.new xs ys next) bx.new by.new result }
     ensures stays { Stays keep bx.old by.old bx.new by.new }
 {
     let Counts::From(next, n, b) = counts_at(bytes) else {

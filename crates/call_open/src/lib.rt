@@ -1,7 +1,9 @@
+#![tactic(auto)]
+
 // The drawing of a file's bytes in lent arrays, and whether bytes are a sound drawing's file.
 ghost use Rattle.std.specs.Prelude.{◌≡◌, eqb};
 ghost use Rattle.complex.specs.File.{read_file};
-ghost use Rattle.lent.specs.Arrays.{exit};
+ghost use Rattle.lent.specs.Arrays.{of_lists};
 ghost use Rattle.call_open.specs.Taken.{OpenedIn};
 
 use call_load::Outline;
@@ -25,7 +27,7 @@ pub fn open(
     by: &mut [f64; 2048],
     bytes: &[u8],
 ) -> Walked
-    ensures { OpenedIn bytes.now (exit next.new count.new ids kinds starts ends bends counts px py cycles steps bx by) result }
+    ensures { OpenedIn bytes.now (of_lists next.new count.new ids.new kinds.new starts.new ends.new bends.new counts.new px.new py.new cycles.new steps.new bx.new by.new) result }
 {
     let Outline::Cells(id, n, _) = call_load::load(
         bytes, ids, kinds, starts, ends, bends, counts, px, py, cycles, steps, bx, by, true,

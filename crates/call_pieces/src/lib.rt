@@ -1,3 +1,5 @@
+#![tactic(auto)]
+
 // The number of pieces of sound arrays: every row begins as a piece of its own, and an open edge is tied to its ends, a face to one cell of each cycle.
 ghost use Rattle.std.specs.Prelude.{◌≡◌, ◌+◌, ◌≤◌, ◌<◌, T, eqb, take, drop, get_or, length, [], ◌∷◌, map};
 ghost use Rattle.complex.specs.Groups.{is_in};
@@ -6,7 +8,7 @@ ghost use Rattle.complex.specs.Pieces.{pieces};
 ghost use Rattle.complex.proofs.Every.{Every};
 ghost use Rattle.complex.proofs.Ties.{anchor as anchored};
 ghost use Rattle.store.specs.View.{sheet_of, width_sum, cycles_from};
-ghost use Rattle.lent.specs.Arrays.{held_by, sound_arrays, lent, entry};
+ghost use Rattle.lent.specs.Arrays.{held_by, sound_arrays, of_lists};
 ghost use Rattle.call_pieces.specs.Tying.{Finds, Some, Grown, anchor_in, anchors_in};
 
 const OPEN: u32 = 1;
@@ -42,7 +44,7 @@ fn tie(
 }
 
 // After a row: how many pieces are left, and the place of the next row's steps.
-#[derive(Drop)]
+#[derive(Clone, Copy)]
 struct Tied {
     left: u32,
     next: usize,
@@ -141,8 +143,8 @@ pub fn pieces(
     bx: &[f64; 2048],
     by: &[f64; 2048],
 ) -> u32
-    requires { T (sound_arrays (lent next count ids kinds starts ends bends counts px py cycles steps bx by)) }
-    ensures { result ≡ pieces (sheet_of (held_by (entry next count ids kinds starts ends bends counts px py cycles steps bx by))).cells }
+    requires { T (sound_arrays (of_lists next count ids.now kinds.now starts.now ends.now bends.now counts.now px.now py.now cycles.now steps.now bx.now by.now)) }
+    ensures { result ≡ pieces (sheet_of (held_by (of_lists next count ids.now kinds.now starts.now ends.now bends.now counts.now px.now py.now cycles.now steps.now bx.now by.now))).cells }
 {
     lent::known(
         next, count, ids, kinds, starts, ends, bends, counts, px, py, cycles, steps, bx, by,

@@ -1,5 +1,7 @@
+#![tactic(auto)]
+
 // Read: the drawing of a file's bytes in lent arrays, which a refusal leaves as they were.
-ghost use Rattle.lent.specs.Arrays.{entry, exit};
+ghost use Rattle.lent.specs.Arrays.{of_lists};
 ghost use Rattle.call_open.specs.Taken.{ReadIn};
 
 use call_load::Outline;
@@ -22,7 +24,7 @@ pub fn read(
     by: &mut [f64; 2048],
     bytes: &[u8],
 ) -> u32
-    ensures { ReadIn bytes.now (entry next.old count.old ids kinds starts ends bends counts px py cycles steps bx by) (exit next.new count.new ids kinds starts ends bends counts px py cycles steps bx by) result }
+    ensures { ReadIn bytes.now (of_lists next.old count.old ids.old kinds.old starts.old ends.old bends.old counts.old px.old py.old cycles.old steps.old bx.old by.old) (of_lists next.new count.new ids.new kinds.new starts.new ends.new bends.new counts.new px.new py.new cycles.new steps.new bx.new by.new) result }
 {
     if call_open::readable(bytes, bx, by) {
         let Outline::Cells(free, cells, _) = call_load::load(

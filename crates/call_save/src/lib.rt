@@ -1,6 +1,8 @@
+#![tactic(auto)]
+
 // The file of sound arrays whose sums are not known.
 ghost use Rattle.std.specs.Prelude.{T};
-ghost use Rattle.lent.specs.Arrays.{sound_arrays, lent, entry};
+ghost use Rattle.lent.specs.Arrays.{sound_arrays, of_lists};
 ghost use Rattle.call_save.specs.Saved.{SavedIn};
 
 use file_write::Written;
@@ -23,8 +25,8 @@ pub fn write_sound(
     by: &[f64; 2048],
     buffer: &mut [u8],
 ) -> Written
-    requires { T (sound_arrays (lent next count ids kinds starts ends bends counts px py cycles steps bx by)) }
-    ensures { SavedIn (entry next count ids kinds starts ends bends counts px py cycles steps bx by) buffer.old buffer.new result }
+    requires { T (sound_arrays (of_lists next count ids.now kinds.now starts.now ends.now bends.now counts.now px.now py.now cycles.now steps.now bx.now by.now)) }
+    ensures { SavedIn (of_lists next count ids.now kinds.now starts.now ends.now bends.now counts.now px.now py.now cycles.now steps.now bx.now by.now) buffer.old buffer.new result }
 {
     let t = lent_sums::sums(
         next, count, ids, kinds, starts, ends, bends, counts, px, py, cycles, steps, bx, by,

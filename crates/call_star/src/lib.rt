@@ -1,8 +1,10 @@
+#![tactic(auto)]
+
 ghost use Rattle.std.specs.Prelude.{◌≡◌};
 ghost use Rattle.complex.specs.Calls.{star_call};
 ghost use Rattle.store.specs.View.{sheet_of};
 ghost use Rattle.rows_star.specs.Calls.{star_answered};
-ghost use Rattle.lent.specs.Arrays.{held_by, lent, entry};
+ghost use Rattle.lent.specs.Arrays.{held_by, of_lists};
 ghost use Rattle.lent.specs.Replies.{Ready};
 
 use answer::Totals;
@@ -28,8 +30,8 @@ pub fn star(
     id: u32,
     buffer: &mut [u32],
 ) -> Counted
-    requires { Ready (lent next count ids kinds starts ends bends counts px py cycles steps bx by) t }
-    ensures { star_answered result buffer.new ≡ star_call (sheet_of (held_by (entry next count ids kinds starts ends bends counts px py cycles steps bx by))) id buffer.old }
+    requires { Ready (of_lists next count ids.now kinds.now starts.now ends.now bends.now counts.now px.now py.now cycles.now steps.now bx.now by.now) t }
+    ensures { star_answered result buffer.new ≡ star_call (sheet_of (held_by (of_lists next count ids.now kinds.now starts.now ends.now bends.now counts.now px.now py.now cycles.now steps.now bx.now by.now))) id buffer.old }
 {
     rows_star::star_rows(
         ids, kinds, starts, ends, counts, count, cycles, steps, id, buffer,

@@ -1,9 +1,11 @@
+#![tactic(auto)]
+
 // The file of sound arrays, in a lent buffer.
 ghost use Rattle.std.specs.Prelude.{◌≡◌};
 ghost use Rattle.complex.specs.Calls.{write_call};
 ghost use Rattle.store.specs.View.{sheet_of};
 ghost use Rattle.file_write.specs.Writes.{write_answered};
-ghost use Rattle.lent.specs.Arrays.{held_by, lent, entry};
+ghost use Rattle.lent.specs.Arrays.{held_by, of_lists};
 ghost use Rattle.lent.specs.Replies.{Ready};
 
 use answer::Totals;
@@ -29,8 +31,8 @@ pub fn write(
     t: Totals,
     buffer: &mut [u8],
 ) -> Written
-    requires { Ready (lent next count ids kinds starts ends bends counts px py cycles steps bx by) t }
-    ensures { write_answered result buffer.new ≡ write_call (sheet_of (held_by (entry next count ids kinds starts ends bends counts px py cycles steps bx by))) buffer.old }
+    requires { Ready (of_lists next count ids.now kinds.now starts.now ends.now bends.now counts.now px.now py.now cycles.now steps.now bx.now by.now) t }
+    ensures { write_answered result buffer.new ≡ write_call (sheet_of (held_by (of_lists next count ids.now kinds.now starts.now ends.now bends.now counts.now px.now py.now cycles.now steps.now bx.now by.now))) buffer.old }
 {
     let length = call_cells::file_length(
         next, count, ids, kinds, starts, ends, bends, counts, px, py, cycles, steps, bx, by, t,

@@ -149,9 +149,9 @@ looped = pierced ++ (0x0C ∷ 2 ∷ 0 ∷ 0 ∷ 0 ∷ 0 ∷ 0 ∷ 0 ∷ []) ∷ 
 abbrev pub two_dots : List (List ℕ)
 two_dots = dot ∷ dot ∷ (0x04 ∷ 2 ∷ 0 ∷ 1 ∷ 0 ∷ 2 ∷ []) ∷ []
 
--- and the face cut from one to the other: edge 4
+-- vertices 1 and 2, face 3 with both alone, cut from one to the other: edge 4
 abbrev pub bridged_dots : List (List ℕ)
-bridged_dots = two_dots ++ (0x0C ∷ 3 ∷ 0 ∷ 0 ∷ 1 ∷ 0 ∷ 0 ∷ 0 ∷ []) ∷ []
+bridged_dots = dot ∷ dot ∷ (0x04 ∷ 2 ∷ 0 ∷ 1 ∷ 0 ∷ 2 ∷ []) ∷ (0x0C ∷ 3 ∷ 0 ∷ 0 ∷ 1 ∷ 0 ∷ 0 ∷ 0 ∷ []) ∷ []
 
 -- closed edge 1 with a bend at zero, face 2 round it twice in one cycle
 abbrev pub twice_round : List (List ℕ)

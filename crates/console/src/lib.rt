@@ -1,34 +1,40 @@
+#![tactic(auto)]
+
 // Standard input and output of the programs: a read or a write that fails is told.
 ghost use Rattle.std.specs.Prelude.{◌≤◌, length};
-ghost use Rattle.io.specs.Counts.{IsPrefixLen};
 
-use libc::{STDIN_FILENO, STDOUT_FILENO};
+use std::io::Read;
 
 // How many bytes were read, and whether a read failed.
-#[derive(Drop)]
+#[derive(Clone, Copy)]
 pub struct Input {
     pub count: usize,
     pub failed: bool,
 }
 
-// One read of standard input: none, if it ended.
-fn read_part(part: &mut [u8]) -> Input
+// One read: none, if what is read has ended.
+fn read_part(from: &mut impl Read, part: &mut [u8]) -> Input
     ensures { result.count ≤ length part.new }
 {
-    let got = libc::read(STDIN_FILENO, part);
-    Input {
-        count: io::count(got, part),
-        failed: got < 0,
+    match from.read(part) {
+        Ok(count) => Input {
+            count,
+            failed: false,
+        },
+        Err(_) => Input {
+            count: 0,
+            failed: true,
+        },
     }
 }
 
-// Reads standard input until the space is full, the input ends or a read fails.
-pub fn read_all(space: &mut [u8]) -> Input
-    ensures { IsPrefixLen result.count space.new }
+// Reads until the space is full, what is read ends or a read fails.
+pub fn read_all(from: &mut impl Read, space: &mut [u8]) -> Input
+    ensures { result.count ≤ length space.new }
 {
     let mut done: usize = 0;
     while done < space.len() {
-        let r = read_part(&mut space[done..]);
+        let r = read_part(from, &mut space[done..]);
         if r.count == 0 {
             return Input {
                 count: done,
@@ -44,9 +50,9 @@ pub fn read_all(space: &mut [u8]) -> Input
 }
 
 // Writes the first k bytes to standard output. False: the bytes are fewer, or a write failed.
-pub fn give(bytes: &[u8], k: usize) -> bool {
-    if bytes.len() < k {
-        return false;
+pub fn give(rt: &impl Print, bytes: &[u8], k: usize) -> bool {
+    match bytes.get(..k) {
+        Some(part) => rt.write_all(part).is_ok(),
+        None => false,
     }
-    io::write_all(STDOUT_FILENO, &bytes[..k])
 }

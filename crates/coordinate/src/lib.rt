@@ -1,17 +1,19 @@
+#![tactic(auto)]
+
 ghost use Rattle.std.specs.Prelude.{◌≡◌, not, ◌+◌, ◌≤◌, T, length, take, drop};
 ghost use Rattle.std.proofs.lemmas.List.Edits.{sets};
 ghost use Rattle.std.specs.Float.Ieee.{is_nan};
 ghost use Rattle.coordinate.specs.Bounds.{in_bounds, within, middle};
 ghost use Rattle.coordinate.specs.Positions.{value_of, bytes_of, coordinate_in, coordinate_bytes, position_at, position_bytes, located_says, located_at};
 
-#[derive(Drop)]
+#[derive(Clone, Copy)]
 pub struct Position {
     pub x: f64,
     pub y: f64,
 }
 
 // What stands at a place: a position and the place after it, or too few bytes.
-#[derive(Drop)]
+#[derive(Clone, Copy)]
 pub enum Located {
     At(Position, usize),
     Short,

@@ -1,9 +1,11 @@
+#![tactic(auto)]
+
 // The calls for programs in C and Rust. A slice crosses as a pointer and a length, a second result through a pointer. A no gives its
 // number, 0 for all else save what 9 gives, and leaves the lent memory as it was.
 ghost use Rattle.std.specs.Prelude.{◌≡◌, ◌≤◌, length};
 ghost use Rattle.complex.specs.File.{read_file};
 ghost use Rattle.complex.specs.Visits.{check_file};
-ghost use Rattle.lent.specs.Arrays.{entry, exit};
+ghost use Rattle.lent.specs.Arrays.{of_lists};
 ghost use Rattle.lent_sound.specs.Visits.{check_on};
 ghost use Rattle.call_open.specs.Taken.{ReadIn};
 ghost use Rattle.call_asked.specs.Entries.{Begun, rest_on, star_on, euler_on, pieces_on, write_on};
@@ -112,7 +114,7 @@ pub extern "C" fn dz_block_open(
     by: &mut [f64; 2048],
     file: &[u8],
 ) -> u32
-    ensures { ReadIn file.now (entry next.old count.old ids kinds starts ends bends counts px py cycles steps bx by) (exit next.new count.new ids kinds starts ends bends counts px py cycles steps bx by) result }
+    ensures { ReadIn file.now (of_lists next.old count.old ids.old kinds.old starts.old ends.old bends.old counts.old px.old py.old cycles.old steps.old bx.old by.old) (of_lists next.new count.new ids.new kinds.new starts.new ends.new bends.new counts.new px.new py.new cycles.new steps.new bx.new by.new) result }
 {
     call_read::read(
         next, count, ids, kinds, starts, ends, bends, counts, px, py, cycles, steps, bx, by, file,
@@ -141,7 +143,7 @@ pub extern "C" fn dz_block_command(
     new: &mut u32,
     removed: &mut u32,
 ) -> u32
-    ensures { CommandedIn (entry next.old count.old ids kinds starts ends bends counts px py cycles steps bx by) script.now (exit next.new count.new ids kinds starts ends bends counts px py cycles steps bx by) (line_as result first.new new.new removed.new) }
+    ensures { CommandedIn (of_lists next.old count.old ids.old kinds.old starts.old ends.old bends.old counts.old px.old py.old cycles.old steps.old bx.old by.old) script.now (of_lists next.new count.new ids.new kinds.new starts.new ends.new bends.new counts.new px.new py.new cycles.new steps.new bx.new by.new) (line_as result first.new new.new removed.new) }
 {
     let l = entry_command::command(
         next, count, ids, kinds, starts, ends, bends, counts, px, py, cycles, steps, bx, by, script,
@@ -171,7 +173,7 @@ pub extern "C" fn dz_block_rest(
     by: &[f64; 2048],
     script: &[u8],
 ) -> usize
-    ensures { result ≡ length (rest_on (entry next count ids kinds starts ends bends counts px py cycles steps bx by) script.now) }
+    ensures { result ≡ length (rest_on (of_lists next count ids.now kinds.now starts.now ends.now bends.now counts.now px.now py.now cycles.now steps.now bx.now by.now) script.now) }
 {
     let r = entry_rest::rest(
         next, count, ids, kinds, starts, ends, bends, counts, px, py, cycles, steps, bx, by, script,
@@ -200,7 +202,7 @@ pub extern "C" fn dz_block_run(
     lines: &mut [u32],
     commands: &mut u32,
 ) -> u32
-    ensures { RunIn (entry next.old count.old ids kinds starts ends bends counts px py cycles steps bx by) script.now lines.old (exit next.new count.new ids kinds starts ends bends counts px py cycles steps bx by) lines.new result commands.new }
+    ensures { RunIn (of_lists next.old count.old ids.old kinds.old starts.old ends.old bends.old counts.old px.old py.old cycles.old steps.old bx.old by.old) script.now lines.old (of_lists next.new count.new ids.new kinds.new starts.new ends.new bends.new counts.new px.new py.new cycles.new steps.new bx.new by.new) lines.new result commands.new }
 {
     *commands = 0;
     let Walked::Sound(_) = call_asked::asked(
@@ -241,7 +243,7 @@ pub extern "C" fn dz_block_star(
     buffer: &mut [u32],
     found: &mut u32,
 ) -> u32
-    ensures { filled_as result found.new buffer.new ≡ star_on (entry next count ids kinds starts ends bends counts px py cycles steps bx by) id buffer.old }
+    ensures { filled_as result found.new buffer.new ≡ star_on (of_lists next count ids.now kinds.now starts.now ends.now bends.now counts.now px.now py.now cycles.now steps.now bx.now by.now) id buffer.old }
 {
     let s = entry_star::star(
         next, count, ids, kinds, starts, ends, bends, counts, px, py, cycles, steps, bx, by, id,
@@ -270,7 +272,7 @@ pub extern "C" fn dz_block_euler(
     by: &[f64; 2048],
     value: &mut i32,
 ) -> u32
-    ensures { euler_as result value.new ≡ euler_on (entry next count ids kinds starts ends bends counts px py cycles steps bx by) }
+    ensures { euler_as result value.new ≡ euler_on (of_lists next count ids.now kinds.now starts.now ends.now bends.now counts.now px.now py.now cycles.now steps.now bx.now by.now) }
 {
     let e = entry_euler::euler(
         next, count, ids, kinds, starts, ends, bends, counts, px, py, cycles, steps, bx, by,
@@ -299,7 +301,7 @@ pub extern "C" fn dz_block_pieces(
     by: &[f64; 2048],
     pieces: &mut u32,
 ) -> u32
-    ensures { pieces_as result pieces.new ≡ pieces_on (entry next count ids kinds starts ends bends counts px py cycles steps bx by) }
+    ensures { pieces_as result pieces.new ≡ pieces_on (of_lists next count ids.now kinds.now starts.now ends.now bends.now counts.now px.now py.now cycles.now steps.now bx.now by.now) }
 {
     let p = entry_pieces::pieces(
         next, count, ids, kinds, starts, ends, bends, counts, px, py, cycles, steps, bx, by,
@@ -328,7 +330,7 @@ pub extern "C" fn dz_block_check(
     sound: &mut u32,
     visited: &mut u32,
 )
-    ensures visited_after { verdict_as sound.new visited.new ≡ check_on (entry next count ids kinds starts ends bends counts px py cycles steps bx by) }
+    ensures visited_after { verdict_as sound.new visited.new ≡ check_on (of_lists next count ids.now kinds.now starts.now ends.now bends.now counts.now px.now py.now cycles.now steps.now bx.now by.now) }
     ensures sound_bound { sound.new ≤ 1 }
 {
     let v = entry_check::check(
@@ -357,7 +359,7 @@ pub extern "C" fn dz_block_write(
     buffer: &mut [u8],
     bytes: &mut u32,
 ) -> u32
-    ensures { filled_as result bytes.new buffer.new ≡ write_on (entry next count ids kinds starts ends bends counts px py cycles steps bx by) buffer.old }
+    ensures { filled_as result bytes.new buffer.new ≡ write_on (of_lists next count ids.now kinds.now starts.now ends.now bends.now counts.now px.now py.now cycles.now steps.now bx.now by.now) buffer.old }
 {
     lent::known(
         next, count, ids, kinds, starts, ends, bends, counts, px, py, cycles, steps, bx, by,

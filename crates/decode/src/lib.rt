@@ -1,3 +1,5 @@
+#![tactic(auto)]
+
 // A command from any bytes: the kinds with lists, and what the kind byte decides.
 ghost use Rattle.std.specs.Prelude.{◌≡◌, ◌≤◌, length, drop};
 ghost use Rattle.number.specs.Said.{found_or};

@@ -1,3 +1,5 @@
+#![tactic(auto)]
+
 // What a command is, and the kinds whose fields are numbers and positions.
 ghost use Rattle.std.specs.Prelude.{drop};
 ghost use Rattle.complex.specs.Decode.{read_vertex, read_create, read_cell_only, read_two, read_place, read_glue_edges, edits};
@@ -8,7 +10,7 @@ use coordinate::Located;
 use decode_fields::{Three, Two};
 use number::Number;
 
-#[derive(Drop)]
+#[derive(Clone, Copy)]
 pub enum Command {
     Vertex(f64, f64),
     Open {
@@ -55,7 +57,7 @@ pub enum Command {
 }
 
 // What a script begins with: a whole command and the place after it, or none.
-#[derive(Drop)]
+#[derive(Clone, Copy)]
 pub enum Decoded {
     Whole(Command, usize),
     Malformed,

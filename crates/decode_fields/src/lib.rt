@@ -1,3 +1,5 @@
+#![tactic(auto)]
+
 // Fields of a command, by their shape: two numbers, three numbers, the lists of a cut.
 ghost use Rattle.std.specs.Prelude.{◌≤◌, length};
 ghost use Rattle.decode_parts.specs.Lists.{Found};
@@ -8,14 +10,14 @@ use decode_parts::Skip;
 use number::Number;
 
 // Two numbers and the place after them, or no such numbers.
-#[derive(Drop)]
+#[derive(Clone, Copy)]
 pub enum Two {
     Numbers(u32, u32, usize),
     Malformed,
 }
 
 // Three numbers and the place after them, or no such numbers.
-#[derive(Drop)]
+#[derive(Clone, Copy)]
 pub enum Three {
     Numbers(u32, u32, u32, usize),
     Malformed,
@@ -23,7 +25,7 @@ pub enum Three {
 
 // A bend list and a list of moved cycles, each by its count and the place of its first element, and
 // the place after them; or no such lists.
-#[derive(Drop)]
+#[derive(Clone, Copy)]
 pub enum CutLists {
     Listed(u32, usize, u32, usize, usize),
     Malformed,

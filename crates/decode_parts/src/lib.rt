@@ -1,3 +1,5 @@
+#![tactic(auto)]
+
 // Lists in a script: where each ends. A list stays in the script, held as a count and the place of its
 // first element.
 ghost use Rattle.std.specs.Prelude.{◌≡◌, ◌≤◌, length, drop};
@@ -10,7 +12,7 @@ use bends::BendList;
 use number::Number;
 
 // The place after a list, or no such list.
-#[derive(Drop)]
+#[derive(Clone, Copy)]
 pub enum Skip {
     To(usize),
     Malformed,

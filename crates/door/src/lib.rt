@@ -1,6 +1,8 @@
+#![tactic(auto)]
+
 ghost use Rattle.std.specs.Prelude.{◌≡◌, ◌<◌, length};
 ghost use Rattle.complex.specs.Sound.{cells_most, bends_most};
-ghost use Rattle.lent.specs.Arrays.{positions_in, held_by, Lengths, lent, entry, exit};
+ghost use Rattle.lent.specs.Arrays.{positions_in, held_by, Lengths, of_lists};
 ghost use Rattle.call_cells.specs.Rows.{cells_in};
 ghost use Rattle.door.specs.Apart.{Apart};
 ghost use Rattle.door.specs.Parts.{AllRows};
@@ -25,8 +27,8 @@ fn put_cells(
     bx: &[f64; 2048],
     by: &[f64; 2048],
 )
-    requires { Lengths (lent next 0 ids kinds starts ends bends counts px py cycles steps bx by) }
-    ensures { AllRows cells (exit next 0 ids kinds starts ends bends counts px py cycles steps bx by) }
+    requires { Lengths (of_lists next 0 ids.old kinds.old starts.old ends.old bends.old counts.old px.old py.old cycles.now steps.now bx.now by.now) }
+    ensures { AllRows cells (of_lists next 0 ids.new kinds.new starts.new ends.new bends.new counts.new px.new py.new cycles.now steps.now bx.now by.now) }
 {
     let mut i: usize = 0;
     while i < 256 {
@@ -108,7 +110,7 @@ pub fn take_apart(
     bx: &mut [f64; 2048],
     by: &mut [f64; 2048],
 )
-    ensures { Apart d (exit d.next d.count ids kinds starts ends bends counts px py cycles steps bx by) }
+    ensures { Apart d (of_lists d.next d.count ids.new kinds.new starts.new ends.new bends.new counts.new px.new py.new cycles.new steps.new bx.new by.new) }
 {
     let rows = d.cells;
     let places = d.bends;
@@ -142,7 +144,7 @@ pub fn put_together(
     bx: &[f64; 2048],
     by: &[f64; 2048],
 ) -> Drawing
-    ensures { result ≡ held_by (entry next count ids kinds starts ends bends counts px py cycles steps bx by) }
+    ensures { result ≡ held_by (of_lists next count ids.now kinds.now starts.now ends.now bends.now counts.now px.now py.now cycles.now steps.now bx.now by.now) }
 {
     lengths::rows_long(ids);
     lengths::bends_long(bx);

@@ -1,11 +1,12 @@
-// Reads commands from standard input and prints a line per command, then the Euler number and the live cells.
-ghost use Rattle.lent.specs.Arrays.{lent};
-ghost use Rattle.call_asked.specs.Entries.{EmptyIn};
+#![tactic(auto)]
 
-use libc::STDERR_FILENO;
+// Reads commands from standard input and prints a line per command, then the Euler number and the live cells.
+ghost use Rattle.lent.specs.Arrays.{of_lists};
+ghost use Rattle.call_asked.specs.Entries.{EmptyIn};
 
 // Prints what a script gives from the empty drawing in arrays, a piece at a time. False: a write failed.
 fn print_on(
+    rt: &impl Print,
     next: &mut u32,
     count: &mut usize,
     ids: &mut [u32; 256],
@@ -22,16 +23,16 @@ fn print_on(
     by: &mut [f64; 2048],
     script: &[u8],
 ) -> bool
-    requires { EmptyIn (lent next.old count.old ids kinds starts ends bends counts px py cycles steps bx by) }
+    requires { EmptyIn (of_lists next.old count.old ids.old kinds.old starts.old ends.old bends.old counts.old px.old py.old cycles.old steps.old bx.old by.old) }
 {
-    let mut out = io::large_buffer();
+    let mut out = [0u8; 65536];
     let mut at: usize = 0;
     loop {
         let p = printing::piece(
             next, count, ids, kinds, starts, ends, bends, counts, px, py, cycles, steps, bx, by,
             script, at, &mut out,
         );
-        if !console::give(&out, p.count) {
+        if !console::give(rt, &out, p.count) {
             return false;
         }
         if p.last {
@@ -42,7 +43,7 @@ fn print_on(
 }
 
 // Prints what a script gives. False: a write failed.
-fn print_all(script: &[u8]) -> bool {
+fn print_all(rt: &impl Print, script: &[u8]) -> bool {
     let mut next: u32 = 1;
     let mut count: usize = 0;
     let mut ids = [0u32; 256];
@@ -58,6 +59,7 @@ fn print_all(script: &[u8]) -> bool {
     let mut bx = [0.0; 2048];
     let mut by = [0.0; 2048];
     print_on(
+        rt,
         &mut next,
         &mut count,
         &mut ids,
@@ -76,15 +78,14 @@ fn print_all(script: &[u8]) -> bool {
     )
 }
 
-fn main() {
+fn main(rt: HostRuntime) {
     let mut script = printing::script_space();
-    let r = console::read_all(&mut script);
+    let r = console::read_all(&mut rt.reader(), &mut script);
     if r.failed {
-        io::write_all(STDERR_FILENO, b"edit: cannot read standard input\n");
+        let _ = rt.eprintln("edit: cannot read standard input");
         return;
     }
-    let n = r.count;
-    if !print_all(&script[..n]) {
-        io::write_all(STDERR_FILENO, b"edit: cannot write to standard output\n");
+    if !print_all(&rt, &script[..r.count]) {
+        let _ = rt.eprintln("edit: cannot write to standard output");
     }
 }

@@ -1,14 +1,16 @@
+#![tactic(auto)]
+
 // The soundness test of lent arrays of any contents, as a call of its own: it tells how far it came.
 ghost use Rattle.std.specs.Prelude.{◌≡◌, ◌≤◌};
 ghost use Rattle.complex.specs.Sound.{cells_most};
-ghost use Rattle.lent.specs.Arrays.{entry};
+ghost use Rattle.lent.specs.Arrays.{of_lists};
 ghost use Rattle.lent_sound.specs.Visits.{check_on};
 ghost use Rattle.entry_check.specs.Verdicts.{verdict_by, verdict_as};
 
 use lent_sound::Visited;
 
 // Yes or no, and the count of cells visited: all on a yes, else up to and with the first fault. A no is no refusal.
-#[derive(Drop)]
+#[derive(Clone, Copy)]
 pub struct Verdict {
     pub sound: bool,
     pub visited: usize,
@@ -31,7 +33,7 @@ pub fn check(
     bx: &[f64; 2048],
     by: &[f64; 2048],
 ) -> Verdict
-    ensures result_value { verdict_by result ≡ check_on (entry next count ids kinds starts ends bends counts px py cycles steps bx by) }
+    ensures result_value { verdict_by result ≡ check_on (of_lists next count ids.now kinds.now starts.now ends.now bends.now counts.now px.now py.now cycles.now steps.now bx.now by.now) }
     ensures visited_le_cells_most { result.visited ≤ cells_most }
 {
     let mut table = [0u8; 1024];

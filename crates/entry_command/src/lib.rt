@@ -1,5 +1,7 @@
+#![tactic(auto)]
+
 // The command at the front of a script, on lent arrays of any contents.
-ghost use Rattle.lent.specs.Arrays.{entry, exit};
+ghost use Rattle.lent.specs.Arrays.{of_lists};
 ghost use Rattle.entry_command.specs.Commands.{CommandedIn};
 
 use decode_command::Decoded;
@@ -24,7 +26,7 @@ pub fn command(
     by: &mut [f64; 2048],
     script: &[u8],
 ) -> Line
-    ensures { CommandedIn (entry next.old count.old ids kinds starts ends bends counts px py cycles steps bx by) script.now (exit next.new count.new ids kinds starts ends bends counts px py cycles steps bx by) result }
+    ensures { CommandedIn (of_lists next.old count.old ids.old kinds.old starts.old ends.old bends.old counts.old px.old py.old cycles.old steps.old bx.old by.old) script.now (of_lists next.new count.new ids.new kinds.new starts.new ends.new bends.new counts.new px.new py.new cycles.new steps.new bx.new by.new) result }
 {
     let Walked::Sound(t) = call_asked::asked(
         *next, *count, ids, kinds, starts, ends, bends, counts, px, py, cycles, steps, bx, by,

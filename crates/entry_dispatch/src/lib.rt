@@ -1,6 +1,8 @@
+#![tactic(auto)]
+
 // A decoded command, handed to its kind.
 ghost use Rattle.decode_command.specs.View.{order_of, ListsLie};
-ghost use Rattle.lent.specs.Arrays.{lent, entry, exit};
+ghost use Rattle.lent.specs.Arrays.{of_lists};
 ghost use Rattle.lent.specs.Replies.{Ready, Carried};
 
 use answer::Totals;
@@ -28,9 +30,9 @@ pub fn obey(
     script: &[u8],
     c: Command,
 ) -> Line
-    requires ready { Ready (lent next.old count.old ids kinds starts ends bends counts px py cycles steps bx by) t }
+    requires ready { Ready (of_lists next.old count.old ids.old kinds.old starts.old ends.old bends.old counts.old px.old py.old cycles.old steps.old bx.old by.old) t }
     requires lists_lie { ListsLie script.now c }
-    ensures { Carried (entry next.old count.old ids kinds starts ends bends counts px py cycles steps bx by) (order_of script.now c) (exit next.new count.new ids kinds starts ends bends counts px py cycles steps bx by) result }
+    ensures { Carried (of_lists next.old count.old ids.old kinds.old starts.old ends.old bends.old counts.old px.old py.old cycles.old steps.old bx.old by.old) (order_of script.now c) (of_lists next.new count.new ids.new kinds.new starts.new ends.new bends.new counts.new px.new py.new cycles.new steps.new bx.new by.new) result }
 {
     match c {
         Command::Vertex(x, y) => {

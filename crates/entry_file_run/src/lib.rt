@@ -1,3 +1,5 @@
+#![tactic(auto)]
+
 // A script on the drawing of a file, in arrays of the call's own. A no gives its number, 0 for all else, and leaves the lent buffers as
 // they were.
 ghost use Rattle.std.specs.Prelude.{◌≡◌};

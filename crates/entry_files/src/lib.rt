@@ -1,3 +1,5 @@
+#![tactic(auto)]
+
 // The calls on a drawing's file, each on arrays of its own. A no gives its number, 0 for all else save what 9 gives, and leaves the lent
 // buffers as they were.
 ghost use Rattle.std.specs.Prelude.{◌≡◌, ◌≤◌};

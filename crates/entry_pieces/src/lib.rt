@@ -1,7 +1,9 @@
+#![tactic(auto)]
+
 // The number of pieces of lent arrays of any contents.
 ghost use Rattle.std.specs.Prelude.{◌≡◌};
 ghost use Rattle.rows_pieces.specs.Calls.{pieces_answered};
-ghost use Rattle.lent.specs.Arrays.{entry};
+ghost use Rattle.lent.specs.Arrays.{of_lists};
 ghost use Rattle.call_asked.specs.Entries.{pieces_on};
 
 use lent_sound::Walked;
@@ -24,7 +26,7 @@ pub fn pieces(
     bx: &[f64; 2048],
     by: &[f64; 2048],
 ) -> PieceCount
-    ensures { pieces_answered result ≡ pieces_on (entry next count ids kinds starts ends bends counts px py cycles steps bx by) }
+    ensures { pieces_answered result ≡ pieces_on (of_lists next count ids.now kinds.now starts.now ends.now bends.now counts.now px.now py.now cycles.now steps.now bx.now by.now) }
 {
     let Walked::Sound(_) = call_asked::asked(
         next, count, ids, kinds, starts, ends, bends, counts, px, py, cycles, steps, bx, by,

@@ -1,6 +1,8 @@
+#![tactic(auto)]
+
 // The rest of a script, from lent arrays of any contents.
 ghost use Rattle.std.specs.Prelude.{◌≡◌};
-ghost use Rattle.lent.specs.Arrays.{entry};
+ghost use Rattle.lent.specs.Arrays.{of_lists};
 ghost use Rattle.call_asked.specs.Entries.{rest_on};
 
 use decode_command::Decoded;
@@ -24,7 +26,7 @@ pub fn rest<'a>(
     by: &[f64; 2048],
     script: &'a [u8],
 ) -> &'a [u8]
-    ensures { result.now ≡ rest_on (entry next count ids kinds starts ends bends counts px py cycles steps bx by) script.now }
+    ensures { result.now ≡ rest_on (of_lists next count ids.now kinds.now starts.now ends.now bends.now counts.now px.now py.now cycles.now steps.now bx.now by.now) script.now }
 {
     let Walked::Sound(_) = call_asked::asked(
         next, count, ids, kinds, starts, ends, bends, counts, px, py, cycles, steps, bx, by,

@@ -1,3 +1,5 @@
+#![tactic(auto)]
+
 // Question 9 of a run: is there room for what it tells, and for a file?
 ghost use Rattle.std.specs.Prelude.{◌≡◌};
 ghost use Rattle.entry_room.specs.Rooms.{lines_no, room_no};

@@ -1,6 +1,8 @@
+#![tactic(auto)]
+
 // A script on lent arrays: one command of it, and all of them one after another.
 ghost use Rattle.std.specs.Prelude.{◌+◌, ◌*◌, ◌≤◌, ◌<◌, T, length};
-ghost use Rattle.lent.specs.Arrays.{sound_arrays, lent, entry, exit};
+ghost use Rattle.lent.specs.Arrays.{sound_arrays, of_lists};
 ghost use Rattle.entry_told.specs.Told.{line_width, lengths_end};
 ghost use Rattle.entry_run.specs.Turns.{SteppedIn};
 ghost use Rattle.entry_run.specs.Runs.{TurnedIn, RanIn};
@@ -12,7 +14,7 @@ use lent::Line;
 const LINE_WIDTH: usize = 5;
 
 // What a command of a script gave: its line, the length of the rest, and the place where the run goes on.
-#[derive(Drop)]
+#[derive(Clone, Copy)]
 pub struct Turn {
     pub line: Line,
     pub left: usize,
@@ -39,9 +41,9 @@ pub fn step_at(
     script: &[u8],
     at: usize,
 ) -> Turn
-    requires t { T (sound_arrays (lent next.old count.old ids kinds starts ends bends counts px py cycles steps bx by)) }
+    requires t { T (sound_arrays (of_lists next.old count.old ids.old kinds.old starts.old ends.old bends.old counts.old px.old py.old cycles.old steps.old bx.old by.old)) }
     requires at_in_bounds { at < length script.now }
-    ensures { SteppedIn (entry next.old count.old ids kinds starts ends bends counts px py cycles steps bx by) script.now at (exit next.new count.new ids kinds starts ends bends counts px py cycles steps bx by) result }
+    ensures { SteppedIn (of_lists next.old count.old ids.old kinds.old starts.old ends.old bends.old counts.old px.old py.old cycles.old steps.old bx.old by.old) script.now at (of_lists next.new count.new ids.new kinds.new starts.new ends.new bends.new counts.new px.new py.new cycles.new steps.new bx.new by.new) result }
 {
     let left = &script[at..];
     let Decoded::Whole(c, taken) = decode::decode(left) else {
@@ -93,11 +95,11 @@ fn put_turn(
     lines: &mut [u32],
     place: usize,
 ) -> usize
-    requires t { T (sound_arrays (lent next.old count.old ids kinds starts ends bends counts px py cycles steps bx by)) }
+    requires t { T (sound_arrays (of_lists next.old count.old ids.old kinds.old starts.old ends.old bends.old counts.old px.old py.old cycles.old steps.old bx.old by.old)) }
     requires script_in_bounds { length script.now < lengths_end }
     requires at_in_bounds { at < length script.now }
     requires line_width_in_bounds { place + line_width ≤ length lines.old }
-    ensures { TurnedIn (entry next.old count.old ids kinds starts ends bends counts px py cycles steps bx by) script.now at (exit next.new count.new ids kinds starts ends bends counts px py cycles steps bx by) result lines.old place lines.new }
+    ensures { TurnedIn (of_lists next.old count.old ids.old kinds.old starts.old ends.old bends.old counts.old px.old py.old cycles.old steps.old bx.old by.old) script.now at (of_lists next.new count.new ids.new kinds.new starts.new ends.new bends.new counts.new px.new py.new cycles.new steps.new bx.new by.new) result lines.old place lines.new }
 {
     let t = step_at(
         next, count, ids, kinds, starts, ends, bends, counts, px, py, cycles, steps, bx, by,
@@ -136,10 +138,10 @@ pub fn run_lines(
     script: &[u8],
     lines: &mut [u32],
 ) -> usize
-    requires t { T (sound_arrays (lent next.old count.old ids kinds starts ends bends counts px py cycles steps bx by)) }
+    requires t { T (sound_arrays (of_lists next.old count.old ids.old kinds.old starts.old ends.old bends.old counts.old px.old py.old cycles.old steps.old bx.old by.old)) }
     requires script_in_bounds { length script.now < lengths_end }
     requires script_in_bounds_2 { line_width * length script.now ≤ length lines.old }
-    ensures { RanIn (entry next.old count.old ids kinds starts ends bends counts px py cycles steps bx by) script.now lines.old (exit next.new count.new ids kinds starts ends bends counts px py cycles steps bx by) lines.new result }
+    ensures { RanIn (of_lists next.old count.old ids.old kinds.old starts.old ends.old bends.old counts.old px.old py.old cycles.old steps.old bx.old by.old) script.now lines.old (of_lists next.new count.new ids.new kinds.new starts.new ends.new bends.new counts.new px.new py.new cycles.new steps.new bx.new by.new) lines.new result }
 {
     let mut at: usize = 0;
     let mut commands: usize = 0;

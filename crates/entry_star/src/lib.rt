@@ -1,7 +1,9 @@
+#![tactic(auto)]
+
 // The star of a cell, of lent arrays of any contents.
 ghost use Rattle.std.specs.Prelude.{◌≡◌};
 ghost use Rattle.rows_star.specs.Calls.{star_answered as queried};
-ghost use Rattle.lent.specs.Arrays.{entry};
+ghost use Rattle.lent.specs.Arrays.{of_lists};
 ghost use Rattle.call_asked.specs.Entries.{star_on};
 
 use lent_sound::Walked;
@@ -26,7 +28,7 @@ pub fn star(
     id: u32,
     buffer: &mut [u32],
 ) -> Counted
-    ensures { queried result buffer.new ≡ star_on (entry next count ids kinds starts ends bends counts px py cycles steps bx by) id buffer.old }
+    ensures { queried result buffer.new ≡ star_on (of_lists next count ids.now kinds.now starts.now ends.now bends.now counts.now px.now py.now cycles.now steps.now bx.now by.now) id buffer.old }
 {
     let Walked::Sound(t) = call_asked::asked(
         next, count, ids, kinds, starts, ends, bends, counts, px, py, cycles, steps, bx, by,

@@ -1,3 +1,5 @@
+#![tactic(auto)]
+
 // What is told of a command: five numbers.
 ghost use Rattle.std.specs.Prelude.{◌∷◌, [], ◌≡◌, ◌+◌, ◌≤◌, length};
 ghost use Rattle.std.proofs.lemmas.List.Edits.{sets};

@@ -1,7 +1,9 @@
+#![tactic(auto)]
+
 // The file of lent arrays of any contents.
 ghost use Rattle.std.specs.Prelude.{◌≡◌};
 ghost use Rattle.file_write.specs.Writes.{write_answered as written};
-ghost use Rattle.lent.specs.Arrays.{entry};
+ghost use Rattle.lent.specs.Arrays.{of_lists};
 ghost use Rattle.call_asked.specs.Entries.{write_on};
 
 use file_write::Written;
@@ -25,7 +27,7 @@ pub fn write(
     by: &[f64; 2048],
     buffer: &mut [u8],
 ) -> Written
-    ensures { written result buffer.new ≡ write_on (entry next count ids kinds starts ends bends counts px py cycles steps bx by) buffer.old }
+    ensures { written result buffer.new ≡ write_on (of_lists next count ids.now kinds.now starts.now ends.now bends.now counts.now px.now py.now cycles.now steps.now bx.now by.now) buffer.old }
 {
     let Walked::Sound(t) = call_asked::asked(
         next, count, ids, kinds, starts, ends, bends, counts, px, py, cycles, steps, bx, by,

@@ -1,3 +1,5 @@
+#![tactic(auto)]
+
 // How many bytes a file takes.
 ghost use Rattle.std.specs.Prelude.{◌≡◌, ◌≤◌, T, take};
 ghost use Rattle.complex.specs.Lists.{total};

@@ -1,3 +1,5 @@
+#![tactic(auto)]
+
 // The parts of a file: numbers, bend lists and cycles as bytes, each from a place on.
 ghost use Rattle.std.specs.Prelude.{◌≡◌, ◌++◌, ◌+◌, ◌<◌, ◌≤◌, T, length, drop};
 ghost use Rattle.number.specs.Readers.{spread};

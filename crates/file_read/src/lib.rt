@@ -1,3 +1,5 @@
+#![tactic(auto)]
+
 ghost use Rattle.std.specs.Prelude.{◌≡◌, ◌+◌, ◌<◌, ◌≤◌, length, drop};
 ghost use Rattle.number.specs.Readers.{times};
 ghost use Rattle.complex.specs.Decode.{read_cycle};
@@ -15,35 +17,35 @@ const CYCLES_MOST: usize = 512;
 const STEPS_MOST: usize = 2048;
 
 // What a file is read as: 0 and its drawing, or 10 and the empty one.
-#[derive(Drop)]
+#[derive(Clone, Copy)]
 pub struct ReadAnswer {
     pub number: u32,
     pub drawing: Drawing,
 }
 
 // A shape and the place after its counts, or no shape.
-#[derive(Drop)]
+#[derive(Clone, Copy)]
 enum ShapeFound {
     Shaped(Shape, usize),
     NoShape,
 }
 
 // A cell and the place after its counts, or no cell.
-#[derive(Drop)]
+#[derive(Clone, Copy)]
 pub enum CellFound {
     Begun(Cell, usize),
     NoCell,
 }
 
 // The place after numbers that were read, or one of them is no number.
-#[derive(Drop)]
+#[derive(Clone, Copy)]
 enum Put {
     Upto(usize),
     Malformed,
 }
 
 // How many places of each array are in use.
-#[derive(Drop)]
+#[derive(Clone, Copy)]
 pub struct Used {
     pub bends: usize,
     pub cycles: usize,
@@ -52,7 +54,7 @@ pub struct Used {
 
 // The place after what was read and what is in use with it, or it is nothing that a sound drawing's
 // file has there.
-#[derive(Drop)]
+#[derive(Clone, Copy)]
 pub enum Loaded {
     Next(usize, Used),
     Refused,

@@ -1,3 +1,5 @@
+#![tactic(auto)]
+
 ghost use Rattle.std.specs.Prelude.{◌≡◌, ◌+◌, ◌<◌, ◌≤◌, T, length, drop};
 ghost use Rattle.number.specs.Numbers.{numbers_end};
 ghost use Rattle.coordinate.specs.Bounds.{within};
@@ -10,14 +12,14 @@ ghost use Rattle.file_write.specs.Places.{PlaceFits, cell_in, place_after, CellR
 use coordinate::Position;
 use store::{Cell, Shape};
 
-#[derive(Drop)]
+#[derive(Clone, Copy)]
 pub struct Written {
     pub number: u32,
     pub count: usize,
 }
 
 // Where a cell's bends, cycles and steps begin.
-#[derive(Drop)]
+#[derive(Clone, Copy)]
 pub struct Place {
     pub bends: usize,
     pub cycles: usize,

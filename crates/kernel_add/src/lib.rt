@@ -1,3 +1,5 @@
+#![tactic(auto)]
+
 // A row for a new cell, and bends of a script in lent arrays.
 ghost use Rattle.std.specs.Prelude.{◌≡◌, ◌+◌, ◌*◌, ◌<◌, ◌≤◌, length, set};
 ghost use Rattle.bends.specs.Bends.{positions_at};

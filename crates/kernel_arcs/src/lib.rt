@@ -1,3 +1,5 @@
+#![tactic(auto)]
+
 ghost use Rattle.std.specs.Prelude.{◌≡◌, false, ◌∷◌, ◌++◌, map, ◌+◌, ◌<◌, ◌≤◌, length, take, drop, get_or, set};
 ghost use Rattle.complex.specs.Lists.{total, one};
 ghost use Rattle.complex.specs.Cells.{path};
@@ -164,7 +166,7 @@ pub fn far_side(
 }
 
 // How much of two arrays the lists of two faces take, one after the other.
-#[derive(Drop)]
+#[derive(Clone, Copy)]
 pub struct Parts {
     pub old: Used,
     pub new: Used,

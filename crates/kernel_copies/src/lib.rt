@@ -1,3 +1,5 @@
+#![tactic(auto)]
+
 ghost use Rattle.std.specs.Prelude.{◌≡◌, true, T, ◌+◌, ◌*◌, ◌%◌, ◌<◌, ◌≤◌, length};
 ghost use Rattle.std.proofs.Math.Seq.{paste};
 ghost use Rattle.complex.specs.Lists.{rising};
@@ -7,7 +9,7 @@ ghost use Rattle.store.specs.View.{sheet_of, Fits, cycle_total, bend_total};
 ghost use Rattle.rows_new.specs.Runs.{run_at};
 ghost use Rattle.rows_new.specs.Copies.{repeated};
 ghost use Rattle.rows_new.specs.Requirements.{CopiesRoom};
-ghost use Rattle.lent.specs.Arrays.{held_by, positions_in, normal, Lengths, lent, entry, exit};
+ghost use Rattle.lent.specs.Arrays.{held_by, positions_in, normal, Lengths, of_lists};
 ghost use Rattle.kernel_copies.specs.Copies.{RowsPut, CopiesCome, UsesCopied};
 
 use rows_uses::Use;
@@ -119,11 +121,11 @@ pub fn put_copies(
     row: usize,
     n: usize,
 )
-    requires copies_room { CopiesRoom (held_by (lent next count ids kinds starts ends bends counts px py cycles steps bx by)) row n }
-    requires lengths { Lengths (lent next count ids kinds starts ends bends counts px py cycles steps bx by) }
-    requires by_value { normal (lent next count ids kinds starts ends bends counts px py cycles steps bx by) ≡ true }
-    requires base_value { base ≡ bend_total (held_by (lent next count ids kinds starts ends bends counts px py cycles steps bx by)) }
-    ensures { CopiesCome (entry next count ids kinds starts ends bends counts px py cycles steps bx by) row n (exit (next + n) (count + n) ids kinds starts ends bends counts px py cycles steps bx by) }
+    requires copies_room { CopiesRoom (held_by (of_lists next count ids.old kinds.old starts.old ends.old bends.old counts.old px.old py.old cycles.now steps.now bx.old by.old)) row n }
+    requires lengths { Lengths (of_lists next count ids.old kinds.old starts.old ends.old bends.old counts.old px.old py.old cycles.now steps.now bx.old by.old) }
+    requires by_value { normal (of_lists next count ids.old kinds.old starts.old ends.old bends.old counts.old px.old py.old cycles.now steps.now bx.old by.old) ≡ true }
+    requires base_value { base ≡ bend_total (held_by (of_lists next count ids.old kinds.old starts.old ends.old bends.old counts.old px.old py.old cycles.now steps.now bx.old by.old)) }
+    ensures { CopiesCome (of_lists next count ids.old kinds.old starts.old ends.old bends.old counts.old px.old py.old cycles.now steps.now bx.old by.old) row n (of_lists (next + n) (count + n) ids.new kinds.new starts.new ends.new bends.new counts.new px.new py.new cycles.now steps.now bx.new by.new) }
 {
     let k = store::wide(bends[row]);
     let first = rows_spans::bend_start(bends, row);
@@ -154,13 +156,13 @@ pub fn copy_uses(
     i: u32,
     k0: usize,
 )
-    requires fits { Fits (held_by (lent next count ids kinds starts ends bends counts px py cycles steps bx by)) }
-    requires lengths { Lengths (lent next count ids kinds starts ends bends counts px py cycles steps bx by) }
-    requires t { T (rising 0 (ids_of (sheet_of (held_by (lent next count ids kinds starts ends bends counts px py cycles steps bx by))).cells) (sheet_of (held_by (lent next count ids kinds starts ends bends counts px py cycles steps bx by))).next) }
-    requires m_value { m ≡ cycle_total (held_by (lent next count ids kinds starts ends bends counts px py cycles steps bx by)) }
+    requires fits { Fits (held_by (of_lists next count ids.now kinds.now starts.now ends.now bends.now counts.now px.now py.now cycles.now steps.old bx.now by.now)) }
+    requires lengths { Lengths (of_lists next count ids.now kinds.now starts.now ends.now bends.now counts.now px.now py.now cycles.now steps.old bx.now by.now) }
+    requires t { T (rising 0 (ids_of (sheet_of (held_by (of_lists next count ids.now kinds.now starts.now ends.now bends.now counts.now px.now py.now cycles.now steps.old bx.now by.now))).cells) (sheet_of (held_by (of_lists next count ids.now kinds.now starts.now ends.now bends.now counts.now px.now py.now cycles.now steps.old bx.now by.now))).next) }
+    requires m_value { m ≡ cycle_total (held_by (of_lists next count ids.now kinds.now starts.now ends.now bends.now counts.now px.now py.now cycles.now steps.old bx.now by.now)) }
     requires next_le_ids_end { next ≤ ids_end }
     requires k0_bound { k0 ≤ 4096 }
-    ensures { UsesCopied u i k0 (entry next count ids kinds starts ends bends counts px py cycles steps bx by) (exit next count ids kinds starts ends bends counts px py cycles steps bx by) }
+    ensures { UsesCopied u i k0 (of_lists next count ids.now kinds.now starts.now ends.now bends.now counts.now px.now py.now cycles.now steps.old bx.now by.now) (of_lists next count ids.now kinds.now starts.now ends.now bends.now counts.now px.now py.now cycles.now steps.new bx.now by.now) }
 {
     rows_copied::copy_cycles(u, cycles, m, steps, i, next, k0);
 }

@@ -1,10 +1,12 @@
+#![tactic(auto)]
+
 ghost use Rattle.std.specs.Prelude.{◌≡◌, ◌∷◌, [], ◌++◌, ◌+◌, ◌-◌, ◌<◌, ◌≤◌, take, drop, length};
 ghost use Rattle.complex.specs.Lists.{total};
 ghost use Rattle.complex.specs.Sound.{cycles_most, steps_most};
 ghost use Rattle.store.specs.View.{cycles_from};
 ghost use Rattle.store.specs.Edits.{places_of};
 ghost use Rattle.rows_spans.specs.Runs.{span_of, spans_of, Spliced};
-ghost use Rattle.lent.specs.Arrays.{lent, entry, exit};
+ghost use Rattle.lent.specs.Arrays.{of_lists};
 ghost use Rattle.kernel_cycles.specs.Replacing.{Moved, RowCounted, and_one, ReplacesIn, ReplacedIn};
 
 use answer::Totals;
@@ -116,8 +118,8 @@ pub fn replace_cycles(
     places: &[u32],
     m: usize,
 )
-    requires { ReplacesIn (lent next count ids kinds starts ends bends counts px py cycles steps bx by) row s numbers.now n places.now m }
-    ensures { ReplacedIn (entry next count ids kinds starts ends bends counts px py cycles steps bx by) row s n m (cycles_from (take n numbers.now) places.now) (exit next count ids kinds starts ends bends counts px py cycles steps bx by) }
+    requires { ReplacesIn (of_lists next count ids.now kinds.now starts.now ends.now bends.now counts.old px.now py.now cycles.old steps.old bx.now by.now) row s numbers.now n places.now m }
+    ensures { ReplacedIn (of_lists next count ids.now kinds.now starts.now ends.now bends.now counts.old px.now py.now cycles.old steps.old bx.now by.now) row s n m (cycles_from (take n numbers.now) places.now) (of_lists next count ids.now kinds.now starts.now ends.now bends.now counts.new px.now py.now cycles.new steps.new bx.now by.now) }
 {
     splice(cycles, s.cycles, numbers, n);
     splice(steps, s.steps, places, m);
@@ -156,8 +158,8 @@ pub fn add_cycle(
     m: u32,
     h: u32,
 )
-    requires { ReplacesIn (lent next count ids kinds starts ends bends counts px py cycles steps bx by) row s (and_one cycles_most cycles.old s.cycles m) (s.cycles.count + 1) (and_one steps_most steps.old s.steps h) (s.steps.count + 1) }
-    ensures { ReplacedIn (entry next count ids kinds starts ends bends counts px py cycles steps bx by) row s (s.cycles.count + 1) (s.steps.count + 1) (cycles_from (take (s.cycles.count + 1) (and_one cycles_most cycles.old s.cycles m)) (and_one steps_most steps.old s.steps h)) (exit next count ids kinds starts ends bends counts px py cycles steps bx by) }
+    requires { ReplacesIn (of_lists next count ids.now kinds.now starts.now ends.now bends.now counts.old px.now py.now cycles.old steps.old bx.now by.now) row s (and_one cycles_most cycles.old s.cycles m) (s.cycles.count + 1) (and_one steps_most steps.old s.steps h) (s.steps.count + 1) }
+    ensures { ReplacedIn (of_lists next count ids.now kinds.now starts.now ends.now bends.now counts.old px.now py.now cycles.old steps.old bx.now by.now) row s (s.cycles.count + 1) (s.steps.count + 1) (cycles_from (take (s.cycles.count + 1) (and_one cycles_most cycles.old s.cycles m)) (and_one steps_most steps.old s.steps h)) (of_lists next count ids.now kinds.now starts.now ends.now bends.now counts.new px.now py.now cycles.new steps.new bx.now by.now) }
 {
     let c = s.cycles;
     let p = s.steps;

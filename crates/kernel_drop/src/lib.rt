@@ -1,7 +1,9 @@
+#![tactic(auto)]
+
 ghost use Rattle.std.specs.Prelude.{◌≡◌, true, false, cond, ◌-◌, ◌<◌, ◌≤◌, ltb, get_or, set, replicate};
 ghost use Rattle.complex.specs.Sound.{bends_most};
 ghost use Rattle.store.specs.View.{Fits};
-ghost use Rattle.lent.specs.Arrays.{held_by, normal, Lengths, lent, entry, exit};
+ghost use Rattle.lent.specs.Arrays.{held_by, normal, Lengths, of_lists};
 ghost use Rattle.kernel_keep.specs.Keeps.{Keeps};
 ghost use Rattle.kernel_drop.specs.Gone.{EdgeRow, RowGone, BareRow, PairGone};
 ghost use Rattle.kernel_drop.specs.Three.{ThreeRows, ThreeGone};
@@ -32,13 +34,13 @@ pub fn drop_row(
     i: usize,
     j: usize,
 ) -> usize
-    requires fits { Fits (held_by (lent next count ids kinds starts ends bends counts px py cycles steps bx by)) }
-    requires lengths { Lengths (lent next count ids kinds starts ends bends counts px py cycles steps bx by) }
-    requires by_value { normal (lent next count ids kinds starts ends bends counts px py cycles steps bx by) ≡ true }
-    requires edge_row { EdgeRow (lent next count ids kinds starts ends bends counts px py cycles steps bx by) row base m t }
+    requires fits { Fits (held_by (of_lists next count ids.old kinds.old starts.old ends.old bends.old counts.old px.old py.old cycles.now steps.now bx.old by.old)) }
+    requires lengths { Lengths (of_lists next count ids.old kinds.old starts.old ends.old bends.old counts.old px.old py.old cycles.now steps.now bx.old by.old) }
+    requires by_value { normal (of_lists next count ids.old kinds.old starts.old ends.old bends.old counts.old px.old py.old cycles.now steps.now bx.old by.old) ≡ true }
+    requires edge_row { EdgeRow (of_lists next count ids.old kinds.old starts.old ends.old bends.old counts.old px.old py.old cycles.now steps.now bx.old by.old) row base m t }
     requires i_le_j { i ≤ j }
     requires j_le_m { j ≤ m }
-    ensures { RowGone (entry next count ids kinds starts ends bends counts px py cycles steps bx by) row base m t i j (exit next result ids kinds starts ends bends counts px py cycles steps bx by) }
+    ensures { RowGone (of_lists next count ids.old kinds.old starts.old ends.old bends.old counts.old px.old py.old cycles.now steps.now bx.old by.old) row base m t i j (of_lists next result ids.new kinds.new starts.new ends.new bends.new counts.new px.new py.new cycles.now steps.now bx.new by.new) }
 {
     let u = t - m;
     kernel_bends::rotate(bx, base, base + m, t);
@@ -73,14 +75,14 @@ pub fn drop_bare(
     by: &[f64; 2048],
     row: usize,
 ) -> usize
-    requires fits { Fits (held_by (lent next count ids kinds starts ends bends counts px py cycles steps bx by)) }
-    requires lengths { Lengths (lent next count ids kinds starts ends bends counts px py cycles steps bx by) }
-    requires by_value { normal (lent next count ids kinds starts ends bends counts px py cycles steps bx by) ≡ true }
+    requires fits { Fits (held_by (of_lists next count ids.old kinds.old starts.old ends.old bends.old counts.old px.old py.old cycles.now steps.now bx.now by.now)) }
+    requires lengths { Lengths (of_lists next count ids.old kinds.old starts.old ends.old bends.old counts.old px.old py.old cycles.now steps.now bx.now by.now) }
+    requires by_value { normal (of_lists next count ids.old kinds.old starts.old ends.old bends.old counts.old px.old py.old cycles.now steps.now bx.now by.now) ≡ true }
     requires row_lt_count { row < count }
     requires row_value { get_or bends.old row 0 ≡ 0 }
     requires row_value_2 { get_or counts.old row 0 ≡ 0 }
-    ensures keeps { Keeps (set (replicate 256 false) row true) (entry next count ids kinds starts ends bends counts px py cycles steps bx by) (exit next result ids kinds starts ends bends counts px py cycles steps bx by) }
-    ensures lengths_2 { Lengths (exit next result ids kinds starts ends bends counts px py cycles steps bx by) }
+    ensures keeps { Keeps (set (replicate 256 false) row true) (of_lists next count ids.old kinds.old starts.old ends.old bends.old counts.old px.old py.old cycles.now steps.now bx.now by.now) (of_lists next result ids.new kinds.new starts.new ends.new bends.new counts.new px.new py.new cycles.now steps.now bx.now by.now) }
+    ensures lengths_2 { Lengths (of_lists next result ids.new kinds.new starts.new ends.new bends.new counts.new px.new py.new cycles.now steps.now bx.now by.now) }
 {
     let dead = rows_gone::dead_row(row);
     let k = kernel_keep::pack_rows(
@@ -116,13 +118,13 @@ pub fn drop_pair(
     t: usize,
     p: Position,
 ) -> usize
-    requires fits { Fits (held_by (lent next count ids kinds starts ends bends counts px py cycles steps bx by)) }
-    requires lengths { Lengths (lent next count ids kinds starts ends bends counts px py cycles steps bx by) }
-    requires by_value { normal (lent next count ids kinds starts ends bends counts px py cycles steps bx by) ≡ true }
-    requires bare_row { BareRow (lent next count ids kinds starts ends bends counts px py cycles steps bx by) bare }
-    requires edge_row { EdgeRow (lent next count ids kinds starts ends bends counts px py cycles steps bx by) row base m t }
+    requires fits { Fits (held_by (of_lists next count ids.old kinds.old starts.old ends.old bends.old counts.old px.old py.old cycles.now steps.now bx.old by.old)) }
+    requires lengths { Lengths (of_lists next count ids.old kinds.old starts.old ends.old bends.old counts.old px.old py.old cycles.now steps.now bx.old by.old) }
+    requires by_value { normal (of_lists next count ids.old kinds.old starts.old ends.old bends.old counts.old px.old py.old cycles.now steps.now bx.old by.old) ≡ true }
+    requires bare_row { BareRow (of_lists next count ids.old kinds.old starts.old ends.old bends.old counts.old px.old py.old cycles.now steps.now bx.old by.old) bare }
+    requires edge_row { EdgeRow (of_lists next count ids.old kinds.old starts.old ends.old bends.old counts.old px.old py.old cycles.now steps.now bx.old by.old) row base m t }
     requires t_lt_bends_most { t < bends_most }
-    ensures { PairGone (entry next count ids kinds starts ends bends counts px py cycles steps bx by) bare row base m t p (exit next result ids kinds starts ends bends counts px py cycles steps bx by) }
+    ensures { PairGone (of_lists next count ids.old kinds.old starts.old ends.old bends.old counts.old px.old py.old cycles.now steps.now bx.old by.old) bare row base m t p (of_lists next result ids.new kinds.new starts.new ends.new bends.new counts.new px.new py.new cycles.now steps.now bx.new by.new) }
 {
     lent::put_bend(bx, by, t, p);
     kernel_bends::rotate(bx, base, base + m, t + 1);
@@ -188,11 +190,11 @@ pub fn drop_three(
     bare: usize,
     t: usize,
 ) -> usize
-    requires fits { Fits (held_by (lent next count ids kinds starts ends bends counts px py cycles steps bx by)) }
-    requires lengths { Lengths (lent next count ids kinds starts ends bends counts px py cycles steps bx by) }
-    requires by_value { normal (lent next count ids kinds starts ends bends counts px py cycles steps bx by) ≡ true }
-    requires three_rows { ThreeRows (lent next count ids kinds starts ends bends counts px py cycles steps bx by) row1 base1 m1 row2 base2 m2 bare t }
-    ensures { ThreeGone (entry next count ids kinds starts ends bends counts px py cycles steps bx by) row1 base1 m1 row2 base2 m2 bare t (exit next result ids kinds starts ends bends counts px py cycles steps bx by) }
+    requires fits { Fits (held_by (of_lists next count ids.old kinds.old starts.old ends.old bends.old counts.old px.old py.old cycles.now steps.now bx.old by.old)) }
+    requires lengths { Lengths (of_lists next count ids.old kinds.old starts.old ends.old bends.old counts.old px.old py.old cycles.now steps.now bx.old by.old) }
+    requires by_value { normal (of_lists next count ids.old kinds.old starts.old ends.old bends.old counts.old px.old py.old cycles.now steps.now bx.old by.old) ≡ true }
+    requires three_rows { ThreeRows (of_lists next count ids.old kinds.old starts.old ends.old bends.old counts.old px.old py.old cycles.now steps.now bx.old by.old) row1 base1 m1 row2 base2 m2 bare t }
+    ensures { ThreeGone (of_lists next count ids.old kinds.old starts.old ends.old bends.old counts.old px.old py.old cycles.now steps.now bx.old by.old) row1 base1 m1 row2 base2 m2 bare t (of_lists next result ids.new kinds.new starts.new ends.new bends.new counts.new px.new py.new cycles.now steps.now bx.new by.new) }
 {
     let b2 = fallen(row1, row2, base2, m1);
     kernel_bends::rotate(bx, base1, base1 + m1, t);

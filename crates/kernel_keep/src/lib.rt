@@ -1,8 +1,10 @@
+#![tactic(auto)]
+
 ghost use Rattle.std.specs.Prelude.{◌≡◌, true, ◌+◌, ◌≤◌, take, length};
 ghost use Rattle.complex.specs.Sound.{cells_most};
 ghost use Rattle.store.specs.View.{Fits};
 ghost use Rattle.store.specs.Edits.{Compacted, kept};
-ghost use Rattle.lent.specs.Arrays.{held_by, normal, Lengths, lent, entry, exit};
+ghost use Rattle.lent.specs.Arrays.{held_by, normal, Lengths, of_lists};
 ghost use Rattle.rows_slide.specs.Slid.{Slid};
 ghost use Rattle.kernel_keep.specs.Keeps.{Keeps};
 
@@ -90,11 +92,11 @@ pub fn keep_rows(
     by: &mut [f64; 2048],
     dead: &[bool; 256],
 ) -> usize
-    requires fits { Fits (held_by (lent next count ids kinds starts ends bends counts px py cycles steps bx by)) }
-    requires lengths { Lengths (lent next count ids kinds starts ends bends counts px py cycles steps bx by) }
-    requires by_value { normal (lent next count ids kinds starts ends bends counts px py cycles steps bx by) ≡ true }
+    requires fits { Fits (held_by (of_lists next count ids.old kinds.old starts.old ends.old bends.old counts.old px.old py.old cycles.old steps.old bx.old by.old)) }
+    requires lengths { Lengths (of_lists next count ids.old kinds.old starts.old ends.old bends.old counts.old px.old py.old cycles.old steps.old bx.old by.old) }
+    requires by_value { normal (of_lists next count ids.old kinds.old starts.old ends.old bends.old counts.old px.old py.old cycles.old steps.old bx.old by.old) ≡ true }
     requires dead_len { length dead.now ≡ cells_most }
-    ensures { Keeps dead.now (entry next count ids kinds starts ends bends counts px py cycles steps bx by) (exit next result ids kinds starts ends bends counts px py cycles steps bx by) }
+    ensures { Keeps dead.now (of_lists next count ids.old kinds.old starts.old ends.old bends.old counts.old px.old py.old cycles.old steps.old bx.old by.old) (of_lists next result ids.new kinds.new starts.new ends.new bends.new counts.new px.new py.new cycles.new steps.new bx.new by.new) }
 {
     rows_slide::drop_cycles(dead, counts, count, cycles, steps);
     rows_slide::drop_bends(dead, bends, count, bx, by);

@@ -1,3 +1,5 @@
+#![tactic(auto)]
+
 // Cycles of a drawing copied into a list under construction.
 ghost use Rattle.std.specs.Prelude.{◌≡◌, cond, ◌∷◌, [], ◌++◌, ◌+◌, ◌≤◌, take, drop, length};
 ghost use Rattle.store.specs.View.{width, width_sum, cycle_of, cycles_from};

@@ -1,9 +1,11 @@
+#![tactic(auto)]
+
 ghost use Rattle.std.specs.Prelude.{◌≡◌, ◌+◌};
 ghost use Rattle.complex.specs.Cells.{face};
 ghost use Rattle.store.specs.View.{sheet_of};
 ghost use Rattle.store.specs.Edits.{appended};
 ghost use Rattle.rows_spans.specs.Building.{built};
-ghost use Rattle.lent.specs.Arrays.{held_by, lent, entry, exit};
+ghost use Rattle.lent.specs.Arrays.{held_by, of_lists};
 ghost use Rattle.lent.specs.Replies.{Holds};
 ghost use Rattle.kernel_part.specs.Rounds.{PartRoom};
 
@@ -31,10 +33,10 @@ pub fn add_part(
     u: Used,
     places: &[u32],
 )
-    requires { PartRoom (lent next.old count.old ids kinds starts ends bends counts px py cycles steps bx by) c s numbers.now u places.now }
+    requires { PartRoom (of_lists next.old count.old ids.old kinds.old starts.old ends.old bends.old counts.old px.now py.now cycles.old steps.old bx.now by.now) c s numbers.now u places.now }
     ensures next_after { next.new ≡ next.old + 1 }
     ensures count_after { count.new ≡ count.old + 1 }
-    ensures holds { Holds (appended (sheet_of (held_by (entry next.old count.old ids kinds starts ends bends counts px py cycles steps bx by))) (face (built numbers.now u places.now))) (exit next.new count.new ids kinds starts ends bends counts px py cycles steps bx by) }
+    ensures holds { Holds (appended (sheet_of (held_by (of_lists next.old count.old ids.old kinds.old starts.old ends.old bends.old counts.old px.now py.now cycles.old steps.old bx.now by.now))) (face (built numbers.now u places.now))) (of_lists next.new count.new ids.new kinds.new starts.new ends.new bends.new counts.new px.now py.now cycles.new steps.new bx.now by.now) }
 {
     rows_spans::copy_run(numbers, 0, u.cycles, cycles, c);
     rows_spans::copy_run(places, 0, u.steps, steps, s);

@@ -1,3 +1,5 @@
+#![tactic(auto)]
+
 ghost use Rattle.std.specs.Prelude.{◌≡◌, ◌++◌, length};
 ghost use Rattle.complex.specs.Lists.{one};
 ghost use Rattle.rows_spans.specs.Building.{Built, built, RoomFor};
@@ -8,7 +10,7 @@ use rows_spans::Used;
 use rows_stretches::{Place, Stretch};
 
 // Cycles of a face one after another: where they begin and how many there are, and the same of their steps.
-#[derive(Drop)]
+#[derive(Clone, Copy)]
 struct Run {
     first: usize,
     count: usize,
@@ -17,7 +19,7 @@ struct Run {
 }
 
 // The cycles of a face before one of them, and those after it.
-#[derive(Drop)]
+#[derive(Clone, Copy)]
 struct Sides {
     ahead: Run,
     behind: Run,

@@ -1,3 +1,5 @@
+#![tactic(auto)]
+
 ghost use Rattle.std.specs.Prelude.{◌≡◌};
 ghost use Rattle.kernel_places.specs.Standing.{HasBy, FoundBy, RowsIn, head_by};
 

@@ -1,10 +1,12 @@
+#![tactic(auto)]
+
 ghost use Rattle.std.specs.Prelude.{◌≡◌, true, []};
 ghost use Rattle.complex.specs.Cells.{face};
 ghost use Rattle.complex.specs.Edits.{neither, replaced, rebuild};
 ghost use Rattle.store.specs.View.{sheet_of};
 ghost use Rattle.rows_spans.specs.Building.{built};
 ghost use Rattle.rows_reface.specs.Needs.{Refaced};
-ghost use Rattle.lent.specs.Arrays.{held_by, normal, Lengths, lent, entry, exit};
+ghost use Rattle.lent.specs.Arrays.{held_by, normal, Lengths, of_lists};
 ghost use Rattle.lent.specs.Replies.{Holds};
 
 use rows_spans::Used;
@@ -35,10 +37,10 @@ pub fn reface(
     places: &[u32],
     u: Used,
 ) -> usize
-    requires refaced { Refaced (held_by (lent next count ids kinds starts ends bends counts px py cycles steps bx by)) i a j b f numbers.now u places.now }
-    requires lengths { Lengths (lent next count ids kinds starts ends bends counts px py cycles steps bx by) }
-    requires by_value { normal (lent next count ids kinds starts ends bends counts px py cycles steps bx by) ≡ true }
-    ensures { Holds (rebuild (neither i j) (replaced f (face (built numbers.now u places.now))) [] (sheet_of (held_by (entry next count ids kinds starts ends bends counts px py cycles steps bx by)))) (exit next result ids kinds starts ends bends counts px py cycles steps bx by) }
+    requires refaced { Refaced (held_by (of_lists next count ids.old kinds.old starts.old ends.old bends.old counts.old px.old py.old cycles.old steps.old bx.old by.old)) i a j b f numbers.now u places.now }
+    requires lengths { Lengths (of_lists next count ids.old kinds.old starts.old ends.old bends.old counts.old px.old py.old cycles.old steps.old bx.old by.old) }
+    requires by_value { normal (of_lists next count ids.old kinds.old starts.old ends.old bends.old counts.old px.old py.old cycles.old steps.old bx.old by.old) ≡ true }
+    ensures { Holds (rebuild (neither i j) (replaced f (face (built numbers.now u places.now))) [] (sheet_of (held_by (of_lists next count ids.old kinds.old starts.old ends.old bends.old counts.old px.old py.old cycles.old steps.old bx.old by.old)))) (of_lists next result ids.new kinds.new starts.new ends.new bends.new counts.new px.new py.new cycles.new steps.new bx.new by.new) }
 {
     let dead = rows_gone::dead_rows(a, b);
     let k = kernel_keep::keep_rows(

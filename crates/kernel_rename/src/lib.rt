@@ -1,3 +1,5 @@
+#![tactic(auto)]
+
 ghost use Rattle.std.specs.Prelude.{◌≡◌, true, ◌≤◌, take, length};
 ghost use Rattle.complex.specs.Lists.{total};
 ghost use Rattle.complex.specs.Sound.{cells_most, cycles_most, steps_most};
@@ -5,7 +7,7 @@ ghost use Rattle.complex.specs.Glue.{renamed};
 ghost use Rattle.store.specs.View.{cycle_total, Fits};
 ghost use Rattle.store.specs.Edits.{places_of};
 ghost use Rattle.rows_steps.specs.Renaming.{LoneRenamed};
-ghost use Rattle.lent.specs.Arrays.{held_by, normal, Lengths, lent, entry, exit};
+ghost use Rattle.lent.specs.Arrays.{held_by, normal, Lengths, of_lists};
 ghost use Rattle.kernel_rename.specs.Renames.{EndsRenamed, RenamedIn};
 
 // a where b stood.
@@ -79,11 +81,11 @@ pub fn rename_vertex(
     a: u32,
     b: u32,
 )
-    requires fits { Fits (held_by (lent next count ids kinds starts ends bends counts px py cycles steps bx by)) }
-    requires lengths { Lengths (lent next count ids kinds starts ends bends counts px py cycles steps bx by) }
-    requires by_value { normal (lent next count ids kinds starts ends bends counts px py cycles steps bx by) ≡ true }
-    requires k_value { k ≡ cycle_total (held_by (lent next count ids kinds starts ends bends counts px py cycles steps bx by)) }
-    ensures { RenamedIn (renamed a b) (entry next count ids kinds starts ends bends counts px py cycles steps bx by) (exit next count ids kinds starts ends bends counts px py cycles steps bx by) }
+    requires fits { Fits (held_by (of_lists next count ids.now kinds.now starts.old ends.old bends.now counts.now px.now py.now cycles.now steps.old bx.now by.now)) }
+    requires lengths { Lengths (of_lists next count ids.now kinds.now starts.old ends.old bends.now counts.now px.now py.now cycles.now steps.old bx.now by.now) }
+    requires by_value { normal (of_lists next count ids.now kinds.now starts.old ends.old bends.now counts.now px.now py.now cycles.now steps.old bx.now by.now) ≡ true }
+    requires k_value { k ≡ cycle_total (held_by (of_lists next count ids.now kinds.now starts.old ends.old bends.now counts.now px.now py.now cycles.now steps.old bx.now by.now)) }
+    ensures { RenamedIn (renamed a b) (of_lists next count ids.now kinds.now starts.old ends.old bends.now counts.now px.now py.now cycles.now steps.old bx.now by.now) (of_lists next count ids.now kinds.now starts.new ends.new bends.now counts.now px.now py.now cycles.now steps.new bx.now by.now) }
 {
     rename_ends(kinds, count, starts, ends, a, b);
     rename_lone(cycles, k, steps, a, b);

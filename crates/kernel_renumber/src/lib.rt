@@ -1,3 +1,5 @@
+#![tactic(auto)]
+
 ghost use Rattle.std.specs.Prelude.{◌≡◌, true, map, ◌+◌, ◌≤◌, take, drop, length};
 ghost use Rattle.complex.specs.Lists.{total};
 ghost use Rattle.complex.specs.Sound.{cells_most, cycles_most, steps_most};
@@ -5,7 +7,7 @@ ghost use Rattle.store.specs.View.{cycle_total, Fits};
 ghost use Rattle.store.specs.Edits.{places_of};
 ghost use Rattle.rows_steps.specs.Renaming.{PlacesRewritten};
 ghost use Rattle.rows_steps.specs.Swap.{Wrote};
-ghost use Rattle.lent.specs.Arrays.{held_by, normal, Lengths, lent, entry, exit};
+ghost use Rattle.lent.specs.Arrays.{held_by, normal, Lengths, of_lists};
 ghost use Rattle.lent_table.specs.Table.{Table};
 ghost use Rattle.kernel_rename.specs.Renames.{EndsRenamed};
 ghost use Rattle.kernel_renumber.specs.Renumbers.{new_id, new_place, RowsNumbered, RenumberedIn};
@@ -138,11 +140,11 @@ pub fn renumber(
     by: &[f64; 2048],
     k: usize,
 )
-    requires fits { Fits (held_by (lent next.old count ids kinds starts ends bends counts px py cycles steps bx by)) }
-    requires lengths { Lengths (lent next.old count ids kinds starts ends bends counts px py cycles steps bx by) }
-    requires by_value { normal (lent next.old count ids kinds starts ends bends counts px py cycles steps bx by) ≡ true }
-    requires k_value { k ≡ cycle_total (held_by (lent next.old count ids kinds starts ends bends counts px py cycles steps bx by)) }
-    ensures { RenumberedIn (entry next.old count ids kinds starts ends bends counts px py cycles steps bx by) (exit next.new count ids kinds starts ends bends counts px py cycles steps bx by) }
+    requires fits { Fits (held_by (of_lists next.old count ids.old kinds.now starts.old ends.old bends.now counts.now px.now py.now cycles.now steps.old bx.now by.now)) }
+    requires lengths { Lengths (of_lists next.old count ids.old kinds.now starts.old ends.old bends.now counts.now px.now py.now cycles.now steps.old bx.now by.now) }
+    requires by_value { normal (of_lists next.old count ids.old kinds.now starts.old ends.old bends.now counts.now px.now py.now cycles.now steps.old bx.now by.now) ≡ true }
+    requires k_value { k ≡ cycle_total (held_by (of_lists next.old count ids.old kinds.now starts.old ends.old bends.now counts.now px.now py.now cycles.now steps.old bx.now by.now)) }
+    ensures { RenumberedIn (of_lists next.old count ids.old kinds.now starts.old ends.old bends.now counts.now px.now py.now cycles.now steps.old bx.now by.now) (of_lists next.new count ids.new kinds.now starts.new ends.new bends.now counts.now px.now py.now cycles.now steps.new bx.now by.now) }
 {
     let mut table = [0u8; 1024];
     lent_table::fill(&mut table, ids, count);

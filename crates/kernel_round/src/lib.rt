@@ -1,3 +1,5 @@
+#![tactic(auto)]
+
 // A face's cycles parted in the drawing's own arrays, for 0D.
 ghost use Rattle.std.specs.Prelude.{◌≡◌, ◌++◌, ◌∷◌, ◌+◌, ◌*◌, ◌<◌, ◌≤◌, length, take, drop, set};
 ghost use Rattle.complex.specs.Lists.{one};
@@ -13,7 +15,7 @@ ghost use Rattle.kernel_round.specs.Parting.{Fit, Flagged, TwoBuilt, RoundPartin
 use rows_spans::{Span, Spans, Used};
 
 // How much of two arrays the two lists of a cut take, one after the other.
-#[derive(Drop)]
+#[derive(Clone, Copy)]
 pub struct Parts {
     pub old: Used,
     pub new: Used,

@@ -1,3 +1,5 @@
+#![tactic(auto)]
+
 ghost use Rattle.std.specs.Prelude.{◌≡◌, ◌⊎◌, true, ◌+◌, ◌≤◌, take, drop, length};
 ghost use Rattle.number.specs.Readers.{spread};
 ghost use Rattle.complex.specs.Sound.{over, steps_in, cycles_most, steps_most};
@@ -6,7 +8,7 @@ ghost use Rattle.store.specs.Sheet.{all_real};
 ghost use Rattle.store.specs.Places.{entry_cycles};
 ghost use Rattle.store.specs.View.{width, width_sum, cycle_total, step_total, sheet_of, Fits};
 ghost use Rattle.rows_steps.specs.Swap.{swap_word, swap_half, swap_steps, Wrote, Swapped};
-ghost use Rattle.lent.specs.Arrays.{held_by, Lengths, lent, entry, exit};
+ghost use Rattle.lent.specs.Arrays.{held_by, Lengths, of_lists};
 ghost use Rattle.kernel_swap.specs.Swaps.{Ahead, Enough, SwappedIn};
 
 use rows_steps::Swap;
@@ -126,15 +128,15 @@ pub fn swap_steps(
     g: usize,
     t: Swap,
 )
-    requires fits { Fits (held_by (lent next count ids kinds starts ends bends counts px py cycles steps bx by)) }
-    requires lengths { Lengths (lent next count ids kinds starts ends bends counts px py cycles steps bx by) }
-    requires k_value { k ≡ cycle_total (held_by (lent next count ids kinds starts ends bends counts px py cycles steps bx by)) }
+    requires fits { Fits (held_by (of_lists next count ids.now kinds.now starts.now ends.now bends.now counts.now px.now py.now cycles.old steps.old bx.now by.now)) }
+    requires lengths { Lengths (of_lists next count ids.now kinds.now starts.now ends.now bends.now counts.now px.now py.now cycles.old steps.old bx.now by.now) }
+    requires k_value { k ≡ cycle_total (held_by (of_lists next count ids.now kinds.now starts.now ends.now bends.now counts.now px.now py.now cycles.old steps.old bx.now by.now)) }
     requires n_bound { t.n ≤ 2 }
-    requires by_value { all_real (spread entry_cycles (reshape (rewired same_vertex (swap_half t)) (sheet_of (held_by (lent next count ids kinds starts ends bends counts px py cycles steps bx by))).cells)) ≡ true }
-    requires by_bound { over steps_in (reshape (rewired same_vertex (swap_half t)) (sheet_of (held_by (lent next count ids kinds starts ends bends counts px py cycles steps bx by))).cells) ≤ steps_most }
-    requires m_value { m ≡ step_total (held_by (lent next count ids kinds starts ends bends counts px py cycles steps bx by)) }
-    requires fact { ((t.n ≤ 1) × (g ≡ 0)) ⊎ ((1 ≤ t.n) × (over steps_in (reshape (rewired same_vertex (swap_half t)) (sheet_of (held_by (lent next count ids kinds starts ends bends counts px py cycles steps bx by))).cells) ≡ g + m)) }
-    ensures { SwappedIn t (entry next count ids kinds starts ends bends counts px py cycles steps bx by) (exit next count ids kinds starts ends bends counts px py cycles steps bx by) }
+    requires by_value { all_real (spread entry_cycles (reshape (rewired same_vertex (swap_half t)) (sheet_of (held_by (of_lists next count ids.now kinds.now starts.now ends.now bends.now counts.now px.now py.now cycles.old steps.old bx.now by.now))).cells)) ≡ true }
+    requires by_bound { over steps_in (reshape (rewired same_vertex (swap_half t)) (sheet_of (held_by (of_lists next count ids.now kinds.now starts.now ends.now bends.now counts.now px.now py.now cycles.old steps.old bx.now by.now))).cells) ≤ steps_most }
+    requires m_value { m ≡ step_total (held_by (of_lists next count ids.now kinds.now starts.now ends.now bends.now counts.now px.now py.now cycles.old steps.old bx.now by.now)) }
+    requires fact { ((t.n ≤ 1) × (g ≡ 0)) ⊎ ((1 ≤ t.n) × (over steps_in (reshape (rewired same_vertex (swap_half t)) (sheet_of (held_by (of_lists next count ids.now kinds.now starts.now ends.now bends.now counts.now px.now py.now cycles.old steps.old bx.now by.now))).cells) ≡ g + m)) }
+    ensures { SwappedIn t (of_lists next count ids.now kinds.now starts.now ends.now bends.now counts.now px.now py.now cycles.old steps.old bx.now by.now) (of_lists next count ids.now kinds.now starts.now ends.now bends.now counts.now px.now py.now cycles.new steps.new bx.now by.now) }
 {
     swap_pools(cycles, k, steps, m, g, t);
 }

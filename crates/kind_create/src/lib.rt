@@ -1,8 +1,10 @@
+#![tactic(auto)]
+
 ghost use Rattle.std.specs.Prelude.{◌+◌, ◌*◌, ◌≤◌, length};
 ghost use Rattle.bends.specs.Bends.{positions_at};
 ghost use Rattle.complex.specs.Cells.{vertex, open_edge, closed_edge};
 ghost use Rattle.complex.specs.Decode.{create};
-ghost use Rattle.lent.specs.Arrays.{lent, entry, exit};
+ghost use Rattle.lent.specs.Arrays.{of_lists};
 ghost use Rattle.lent.specs.Replies.{Ready, Obeyed};
 ghost use Rattle.kind_create.specs.Edges.{edge_by, EdgeAsked};
 
@@ -29,8 +31,8 @@ pub fn add_vertex(
     t: Totals,
     p: Position,
 ) -> Line
-    requires { Ready (lent next.old count.old ids kinds starts ends bends counts px py cycles steps bx by) t }
-    ensures { Obeyed (entry next.old count.old ids kinds starts ends bends counts px py cycles steps bx by) (create (vertex p)) (exit next.new count.new ids kinds starts ends bends counts px py cycles steps bx by) result }
+    requires { Ready (of_lists next.old count.old ids.old kinds.old starts.old ends.old bends.old counts.old px.old py.old cycles.now steps.now bx.now by.now) t }
+    ensures { Obeyed (of_lists next.old count.old ids.old kinds.old starts.old ends.old bends.old counts.old px.old py.old cycles.now steps.now bx.now by.now) (create (vertex p)) (of_lists next.new count.new ids.new kinds.new starts.new ends.new bends.new counts.new px.new py.new cycles.now steps.now bx.now by.now) result }
 {
     if !coordinate::in_bounds(p) {
         return lent::line_of(3);
@@ -69,8 +71,8 @@ fn add_edge(
     k: u32,
     first: usize,
 ) -> Line
-    requires { EdgeAsked (lent next.old count.old ids kinds starts ends bends counts px py cycles steps bx by) t script.now kind start end k first }
-    ensures { Obeyed (entry next.old count.old ids kinds starts ends bends counts px py cycles steps bx by) (create (edge_by kind start end (positions_at script.now first k))) (exit next.new count.new ids kinds starts ends bends counts px py cycles steps bx by) result }
+    requires { EdgeAsked (of_lists next.old count.old ids.old kinds.old starts.old ends.old bends.old counts.old px.now py.now cycles.now steps.now bx.old by.old) t script.now kind start end k first }
+    ensures { Obeyed (of_lists next.old count.old ids.old kinds.old starts.old ends.old bends.old counts.old px.now py.now cycles.now steps.now bx.old by.old) (create (edge_by kind start end (positions_at script.now first k))) (of_lists next.new count.new ids.new kinds.new starts.new ends.new bends.new counts.new px.now py.now cycles.now steps.now bx.new by.new) result }
 {
     let no = ask_create::cell_no(*next, t, 0, 0, store::wide(k));
     if no != 0 {
@@ -105,9 +107,9 @@ pub fn add_open(
     k: u32,
     first: usize,
 ) -> Line
-    requires ready { Ready (lent next.old count.old ids kinds starts ends bends counts px py cycles steps bx by) t }
+    requires ready { Ready (of_lists next.old count.old ids.old kinds.old starts.old ends.old bends.old counts.old px.now py.now cycles.now steps.now bx.old by.old) t }
     requires k_in_bounds { first + 16 * k ≤ length script.now }
-    ensures { Obeyed (entry next.old count.old ids kinds starts ends bends counts px py cycles steps bx by) (create (open_edge start end (positions_at script.now first k))) (exit next.new count.new ids kinds starts ends bends counts px py cycles steps bx by) result }
+    ensures { Obeyed (of_lists next.old count.old ids.old kinds.old starts.old ends.old bends.old counts.old px.now py.now cycles.now steps.now bx.old by.old) (create (open_edge start end (positions_at script.now first k))) (of_lists next.new count.new ids.new kinds.new starts.new ends.new bends.new counts.new px.now py.now cycles.now steps.now bx.new by.new) result }
 {
     if !bends::bends_within(script, first, k) {
         return lent::line_of(3);
@@ -148,9 +150,9 @@ pub fn add_closed(
     k: u32,
     first: usize,
 ) -> Line
-    requires ready { Ready (lent next.old count.old ids kinds starts ends bends counts px py cycles steps bx by) t }
+    requires ready { Ready (of_lists next.old count.old ids.old kinds.old starts.old ends.old bends.old counts.old px.now py.now cycles.now steps.now bx.old by.old) t }
     requires k_in_bounds { first + 16 * k ≤ length script.now }
-    ensures { Obeyed (entry next.old count.old ids kinds starts ends bends counts px py cycles steps bx by) (create (closed_edge (positions_at script.now first k))) (exit next.new count.new ids kinds starts ends bends counts px py cycles steps bx by) result }
+    ensures { Obeyed (of_lists next.old count.old ids.old kinds.old starts.old ends.old bends.old counts.old px.now py.now cycles.now steps.now bx.old by.old) (create (closed_edge (positions_at script.now first k))) (of_lists next.new count.new ids.new kinds.new starts.new ends.new bends.new counts.new px.now py.now cycles.now steps.now bx.new by.new) result }
 {
     if !bends::bends_within(script, first, k) {
         return lent::line_of(3);

@@ -1,8 +1,10 @@
+#![tactic(auto)]
+
 ghost use Rattle.std.specs.Prelude.{length};
 ghost use Rattle.bends.specs.Bends.{positions_at};
 ghost use Rattle.complex.specs.Decode.{cut_face_open};
 ghost use Rattle.decode_parts.specs.Lists.{numbers_read};
-ghost use Rattle.lent.specs.Arrays.{lent, entry, exit};
+ghost use Rattle.lent.specs.Arrays.{of_lists};
 ghost use Rattle.lent.specs.Replies.{Ready, Obeyed};
 ghost use Rattle.kind_cut_along.specs.Cuts.{InScript, CutGoes};
 
@@ -43,8 +45,8 @@ fn cut_in(
     numbers: &mut [u32],
     places: &mut [u32],
 ) -> Line
-    requires { CutGoes (lent next.old count.old ids kinds starts ends bends counts px py cycles steps bx by) t script.now f row spans c1 s1 c2 s2 k first moved place (length numbers.old) (length places.old) }
-    ensures { Obeyed (entry next.old count.old ids kinds starts ends bends counts px py cycles steps bx by) (cut_face_open f c1 s1 c2 s2 (positions_at script.now first k) (numbers_read script.now place moved)) (exit next.new count.new ids kinds starts ends bends counts px py cycles steps bx by) result }
+    requires { CutGoes (of_lists next.old count.old ids.old kinds.old starts.old ends.old bends.old counts.old px.now py.now cycles.old steps.old bx.old by.old) t script.now f row spans c1 s1 c2 s2 k first moved place (length numbers.old) (length places.old) }
+    ensures { Obeyed (of_lists next.old count.old ids.old kinds.old starts.old ends.old bends.old counts.old px.now py.now cycles.old steps.old bx.old by.old) (cut_face_open f c1 s1 c2 s2 (positions_at script.now first k) (numbers_read script.now place moved)) (of_lists next.new count.new ids.new kinds.new starts.new ends.new bends.new counts.new px.now py.now cycles.new steps.new bx.new by.new) result }
 {
     let n = *count;
     let id = *next;
@@ -127,9 +129,9 @@ pub fn cut_face_open(
     moved: u32,
     place: usize,
 ) -> Line
-    requires ready { Ready (lent next.old count.old ids kinds starts ends bends counts px py cycles steps bx by) t }
+    requires ready { Ready (of_lists next.old count.old ids.old kinds.old starts.old ends.old bends.old counts.old px.now py.now cycles.old steps.old bx.old by.old) t }
     requires in_script { InScript script.now first k moved place }
-    ensures { Obeyed (entry next.old count.old ids kinds starts ends bends counts px py cycles steps bx by) (cut_face_open f c1 s1 c2 s2 (positions_at script.now first k) (numbers_read script.now place moved)) (exit next.new count.new ids kinds starts ends bends counts px py cycles steps bx by) result }
+    ensures { Obeyed (of_lists next.old count.old ids.old kinds.old starts.old ends.old bends.old counts.old px.now py.now cycles.old steps.old bx.old by.old) (cut_face_open f c1 s1 c2 s2 (positions_at script.now first k) (numbers_read script.now place moved)) (of_lists next.new count.new ids.new kinds.new starts.new ends.new bends.new counts.new px.now py.now cycles.new steps.new bx.new by.new) result }
 {
     if !bends::bends_within(script, first, k) {
         return lent::line_of(3);

@@ -1,3 +1,5 @@
+#![tactic(auto)]
+
 ghost use Rattle.std.specs.Prelude.{◌≡◌, ◌&&◌, ◌+◌, ◌<◌, ◌≤◌, ltb, length, drop};
 ghost use Rattle.number.specs.Numbers.{read_number};
 ghost use Rattle.complex.specs.Sound.{steps_most};
@@ -114,7 +116,7 @@ pub fn few(spans: Spans) -> bool
 }
 
 // What comes of a cut: an edge from v to w, and lists of cycles that take so much of two arrays, one after the other.
-#[derive(Drop)]
+#[derive(Clone, Copy)]
 pub struct Chord {
     pub v: u32,
     pub w: u32,

@@ -1,6 +1,8 @@
+#![tactic(auto)]
+
 // 0A: an open edge becomes two that meet at a new vertex, a closed one a loop at it.
 ghost use Rattle.complex.specs.Decode.{cut_edge};
-ghost use Rattle.lent.specs.Arrays.{lent, entry, exit};
+ghost use Rattle.lent.specs.Arrays.{of_lists};
 ghost use Rattle.lent.specs.Replies.{Ready, Obeyed};
 
 use answer::Totals;
@@ -26,8 +28,8 @@ pub fn cut_edge(
     e: u32,
     q: u32,
 ) -> Line
-    requires { Ready (lent next.old count.old ids kinds starts ends bends counts px py cycles steps bx by) t }
-    ensures { Obeyed (entry next.old count.old ids kinds starts ends bends counts px py cycles steps bx by) (cut_edge e q) (exit next.new count.new ids kinds starts ends bends counts px py cycles steps bx by) result }
+    requires { Ready (of_lists next.old count.old ids.old kinds.old starts.old ends.old bends.old counts.old px.old py.old cycles.old steps.old bx.old by.old) t }
+    ensures { Obeyed (of_lists next.old count.old ids.old kinds.old starts.old ends.old bends.old counts.old px.old py.old cycles.old steps.old bx.old by.old) (cut_edge e q) (of_lists next.new count.new ids.new kinds.new starts.new ends.new bends.new counts.new px.new py.new cycles.new steps.new bx.new by.new) result }
 {
     let n = *count;
     let id = *next;

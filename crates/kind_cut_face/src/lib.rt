@@ -1,3 +1,5 @@
+#![tactic(auto)]
+
 ghost use Rattle.std.specs.Prelude.{◌≡◌, ◌++◌, ◌∷◌, [], ◌+◌};
 ghost use Rattle.complex.specs.Lists.{one};
 ghost use Rattle.complex.specs.Cells.{lone, vertex, cell_at};
@@ -5,7 +7,7 @@ ghost use Rattle.complex.specs.Cells as cells;
 ghost use Rattle.complex.specs.Decode.{cut_face_vertex};
 ghost use Rattle.complex.specs.Cut.{face_cut_at};
 ghost use Rattle.store.specs.View.{sheet_of};
-ghost use Rattle.lent.specs.Arrays.{held_by, lent, entry, exit};
+ghost use Rattle.lent.specs.Arrays.{held_by, of_lists};
 ghost use Rattle.lent.specs.Replies.{Ready, Obeyed, Holds};
 ghost use Rattle.kernel_add.specs.Comes.{one_new};
 ghost use Rattle.kind_cut_face.specs.Cuts.{FaceCuts};
@@ -36,11 +38,11 @@ fn cut_at(
     f: u32,
     p: Position,
 ) -> Line
-    requires { FaceCuts (lent next.old count.old ids kinds starts ends bends counts px py cycles steps bx by) t f (cells.cycles_of (cell_at (sheet_of (held_by (lent next.old count.old ids kinds starts ends bends counts px py cycles steps bx by))) f) ++ one (lone (sheet_of (held_by (lent next.old count.old ids kinds starts ends bends counts px py cycles steps bx by))).next)) (vertex p ∷ []) }
+    requires { FaceCuts (of_lists next.old count.old ids.old kinds.old starts.old ends.old bends.old counts.old px.old py.old cycles.old steps.old bx.now by.now) t f (cells.cycles_of (cell_at (sheet_of (held_by (of_lists next.old count.old ids.old kinds.old starts.old ends.old bends.old counts.old px.old py.old cycles.old steps.old bx.now by.now))) f) ++ one (lone (sheet_of (held_by (of_lists next.old count.old ids.old kinds.old starts.old ends.old bends.old counts.old px.old py.old cycles.old steps.old bx.now by.now))).next)) (vertex p ∷ []) }
     ensures value { result ≡ one_new next.old }
     ensures next_after { next.new ≡ next.old + 1 }
     ensures count_after { count.new ≡ count.old + 1 }
-    ensures holds { Holds (face_cut_at (sheet_of (held_by (entry next.old count.old ids kinds starts ends bends counts px py cycles steps bx by))) f p) (exit next.new count.new ids kinds starts ends bends counts px py cycles steps bx by) }
+    ensures holds { Holds (face_cut_at (sheet_of (held_by (of_lists next.old count.old ids.old kinds.old starts.old ends.old bends.old counts.old px.old py.old cycles.old steps.old bx.now by.now))) f p) (of_lists next.new count.new ids.new kinds.new starts.new ends.new bends.new counts.new px.new py.new cycles.new steps.new bx.now by.now) }
 {
     let n = *count;
     let id = *next;
@@ -77,8 +79,8 @@ pub fn cut_face_vertex(
     f: u32,
     p: Position,
 ) -> Line
-    requires { Ready (lent next.old count.old ids kinds starts ends bends counts px py cycles steps bx by) t }
-    ensures { Obeyed (entry next.old count.old ids kinds starts ends bends counts px py cycles steps bx by) (cut_face_vertex f p) (exit next.new count.new ids kinds starts ends bends counts px py cycles steps bx by) result }
+    requires { Ready (of_lists next.old count.old ids.old kinds.old starts.old ends.old bends.old counts.old px.old py.old cycles.old steps.old bx.now by.now) t }
+    ensures { Obeyed (of_lists next.old count.old ids.old kinds.old starts.old ends.old bends.old counts.old px.old py.old cycles.old steps.old bx.now by.now) (cut_face_vertex f p) (of_lists next.new count.new ids.new kinds.new starts.new ends.new bends.new counts.new px.new py.new cycles.new steps.new bx.now by.now) result }
 {
     if !coordinate::in_bounds(p) {
         return lent::line_of(3);

@@ -1,6 +1,5 @@
 -- The parts of an edge that is cut, by a flag that is true for an open one. Definitions only.
 use Rattle.std.specs.Prelude.{ℕ, ◌+◌, ◌-◌, ◌/◌, ◌%◌, Bool, true, false, List, Float}
-use Rattle.std.specs.Borrow.{Bor}
 use Rattle.coordinate.specs.declared.Position.{Position}
 use Rattle.rows_steps.specs.Swap.{one_for, two_for}
 use Rattle.lent.specs.Arrays.{Arrays}
@@ -21,27 +20,6 @@ parts_of true v e s m q =
     }
 parts_of false v e s m q =
     record { new = 2; i = 0; j = q / 2 + 1; start = v; first = m - q % 2; second = 0; swap = one_for e (v + 1) false }
-
--- arrays of which the rows are references
-abbrev pub rows_with : ℕ → ℕ → Bor (List ℕ) → Bor (List ℕ) → Bor (List ℕ) → Bor (List ℕ) → Bor (List ℕ) → Bor (List ℕ)
-    → Bor (List Float) → Bor (List Float) → List ℕ → List ℕ → List Float → List Float → Arrays
-rows_with next n is ks ss es bs cs px py cy st bx by =
-    record {
-      next = next;
-      count = n;
-      ids = is.now;
-      kinds = ks.now;
-      starts = ss.now;
-      ends = es.now;
-      bends = bs.now;
-      counts = cs.now;
-      px = px.now;
-      py = py.now;
-      cycles = cy;
-      steps = st;
-      bx = bx;
-      by = by;
-    }
 
 -- b with a vertex at p, an edge from s to it of i bends, and, where an open edge is cut, one from it to f of k bends
 abbrev pub parted : Bool → Arrays → Position → ℕ → ℕ → ℕ → ℕ → Arrays

@@ -1,14 +1,17 @@
+#![tactic(auto)]
+
 // What an edge that is cut falls into, and its rows.
 ghost use Rattle.std.specs.Prelude.{◌≡◌, true, false, List, ℕ, ◌+◌, ◌/◌, ◌%◌, ◌<◌, ◌≤◌, Float};
 ghost use Rattle.complex.specs.Sound.{cells_most, bends_most, ids_end};
-ghost use Rattle.kind_cut_parts.specs.Parting.{parts_of, rows_with, parted};
+ghost use Rattle.lent.specs.Arrays.{of_lists};
+ghost use Rattle.kind_cut_parts.specs.Parting.{parts_of, parted};
 
 use coordinate::Position;
 use rows_steps::Swap;
 
 // How an edge falls into parts: how many cells are new, which of its bends go last, where the first part starts, how many bends
 // the first part and the second have, and what becomes of the edge's steps.
-#[derive(Drop)]
+#[derive(Clone, Copy)]
 pub struct Parts {
     pub new: u32,
     pub i: usize,
@@ -82,7 +85,7 @@ pub fn put_parts(
     requires count_bound { count.old + 1 < cells_most }
     requires next_bound { next.old + 1 < ids_end }
     requires count_bound_2 { two ≡ true → (count.old + 2 < cells_most) × (next.old + 2 < ids_end) }
-    ensures { (cy st : List ℕ) (us vs : List Float) → rows_with next.new count.new ids.exit kinds.exit starts.exit ends.exit bends.exit counts.exit px.exit py.exit cy st us vs ≡ parted two (rows_with next.old count.old ids.entry kinds.entry starts.entry ends.entry bends.entry counts.entry px.entry py.entry cy st us vs) p s f i k }
+    ensures { (cy st : List ℕ) (us vs : List Float) → of_lists next.new count.new ids.new kinds.new starts.new ends.new bends.new counts.new px.new py.new cy st us vs ≡ parted two (of_lists next.old count.old ids.old kinds.old starts.old ends.old bends.old counts.old px.old py.old cy st us vs) p s f i k }
 {
     let v = *next;
     lent::put_position(px, py, *count, p);

@@ -1,10 +1,12 @@
+#![tactic(auto)]
+
 // What is found before an edge is cut: questions 4, 5, 7 and 8 of 0A, and where all stands.
 ghost use Rattle.std.specs.Prelude.{◌≡◌, true, false, ◌+◌, ◌/◌, ◌<◌, ◌≤◌, take, length};
 ghost use Rattle.complex.specs.Sound.{cells_most, bends_most};
 ghost use Rattle.store.specs.Index.{Rising, row_of};
 ghost use Rattle.store.specs.View.{width_sum};
 ghost use Rattle.ask_cut_edge.specs.Cuts.{point_place, open_between, next_bend, closed_between};
-ghost use Rattle.lent.specs.Arrays.{position_in, lent, entry};
+ghost use Rattle.lent.specs.Arrays.{position_in, of_lists};
 ghost use Rattle.lent.specs.Replies.{Ready};
 ghost use Rattle.kind_cut_plan.specs.Kinds.{new_by, exists_on, uses_on, place_on};
 ghost use Rattle.kind_cut_plan.specs.Plans.{Planned};
@@ -14,7 +16,7 @@ use coordinate::Position;
 
 // What is found before an edge is cut: the number of the question that says no, or whether the edge falls into two, as an
 // open one does, and where all stands. A closed edge has no start s, no end f and no uses that are counted.
-#[derive(Drop)]
+#[derive(Clone, Copy)]
 pub struct Plan {
     pub no: u32,
     pub two: bool,
@@ -181,8 +183,8 @@ pub fn cut_plan(
     e: u32,
     q: usize,
 ) -> Plan
-    requires { Ready (lent next count ids kinds starts ends bends counts px py cycles steps bx by) t }
-    ensures { Planned (entry next count ids kinds starts ends bends counts px py cycles steps bx by) e q result }
+    requires { Ready (of_lists next count ids.now kinds.now starts.now ends.now bends.now counts.now px.now py.now cycles.now steps.now bx.now by.now) t }
+    ensures { Planned (of_lists next count ids.now kinds.now starts.now ends.now bends.now counts.now px.now py.now cycles.now steps.now bx.now by.now) e q result }
 {
     let kind = store::value_at(4, ids, kinds, count, e);
     let new = new_cells(kind);

@@ -1,3 +1,5 @@
+#![tactic(auto)]
+
 ghost use Rattle.std.specs.Prelude.{◌≡◌, ◌+◌, ◌*◌, ◌≤◌, length};
 ghost use Rattle.number.specs.Numbers.{read_number};
 ghost use Rattle.bends.specs.Bends.{positions_at};
@@ -6,7 +8,7 @@ ghost use Rattle.complex.specs.Cut.{face_cut_round};
 ghost use Rattle.store.specs.View.{sheet_of};
 ghost use Rattle.decode_parts.specs.Lists.{Stand, numbers_read};
 ghost use Rattle.law_cut_face.specs.Rounds.{RoundCut, round_no};
-ghost use Rattle.lent.specs.Arrays.{held_by, rows_by, lent, entry, exit};
+ghost use Rattle.lent.specs.Arrays.{held_by, rows_by, of_lists};
 ghost use Rattle.lent.specs.Replies.{Ready, Obeyed, Holds};
 ghost use Rattle.kind_cut_round.specs.Asking.{FaceRows, index_with};
 
@@ -37,11 +39,11 @@ fn cut_round(
     moved: u32,
     place: usize,
 )
-    requires ready { Ready (lent next.old count.old ids kinds starts ends bends counts px py cycles steps bx by) t }
-    requires round_cut { RoundCut (held_by (lent next.old count.old ids kinds starts ends bends counts px py cycles steps bx by)) (rows_by (lent next.old count.old ids kinds starts ends bends counts px py cycles steps bx by)) script.now f k first moved place }
+    requires ready { Ready (of_lists next.old count.old ids.old kinds.old starts.old ends.old bends.old counts.old px.now py.now cycles.old steps.old bx.old by.old) t }
+    requires round_cut { RoundCut (held_by (of_lists next.old count.old ids.old kinds.old starts.old ends.old bends.old counts.old px.now py.now cycles.old steps.old bx.old by.old)) (rows_by (of_lists next.old count.old ids.old kinds.old starts.old ends.old bends.old counts.old px.now py.now cycles.old steps.old bx.old by.old)) script.now f k first moved place }
     ensures next_after { next.new ≡ next.old + 2 }
     ensures count_after { count.new ≡ count.old + 2 }
-    ensures holds { Holds (face_cut_round (sheet_of (held_by (entry next.old count.old ids kinds starts ends bends counts px py cycles steps bx by))) f (positions_at script.now first k) (numbers_read script.now place moved)) (exit next.new count.new ids kinds starts ends bends counts px py cycles steps bx by) }
+    ensures holds { Holds (face_cut_round (sheet_of (held_by (of_lists next.old count.old ids.old kinds.old starts.old ends.old bends.old counts.old px.now py.now cycles.old steps.old bx.old by.old))) f (positions_at script.now first k) (numbers_read script.now place moved)) (of_lists next.new count.new ids.new kinds.new starts.new ends.new bends.new counts.new px.now py.now cycles.new steps.new bx.new by.new) }
 {
     let row = store::find(ids, *count, f);
     let s = kernel_cycles::spans_at(counts, cycles, row, t);
@@ -125,10 +127,10 @@ pub fn cut_face_closed(
     moved: u32,
     place: usize,
 ) -> Line
-    requires ready { Ready (lent next.old count.old ids kinds starts ends bends counts px py cycles steps bx by) t }
+    requires ready { Ready (of_lists next.old count.old ids.old kinds.old starts.old ends.old bends.old counts.old px.now py.now cycles.old steps.old bx.old by.old) t }
     requires k_in_bounds { first + 16 * k ≤ length script.now }
     requires stand { Stand read_number script.now place moved }
-    ensures { Obeyed (entry next.old count.old ids kinds starts ends bends counts px py cycles steps bx by) (cut_face_closed f (positions_at script.now first k) (numbers_read script.now place moved)) (exit next.new count.new ids kinds starts ends bends counts px py cycles steps bx by) result }
+    ensures { Obeyed (of_lists next.old count.old ids.old kinds.old starts.old ends.old bends.old counts.old px.now py.now cycles.old steps.old bx.old by.old) (cut_face_closed f (positions_at script.now first k) (numbers_read script.now place moved)) (of_lists next.new count.new ids.new kinds.new starts.new ends.new bends.new counts.new px.now py.now cycles.new steps.new bx.new by.new) result }
 {
     if !bends::bends_within(script, first, k) {
         return lent::line_of(3);

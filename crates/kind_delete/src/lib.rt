@@ -1,5 +1,7 @@
+#![tactic(auto)]
+
 ghost use Rattle.complex.specs.Decode.{delete};
-ghost use Rattle.lent.specs.Arrays.{lent, entry, exit};
+ghost use Rattle.lent.specs.Arrays.{of_lists};
 ghost use Rattle.lent.specs.Replies.{Ready, Obeyed};
 
 use answer::Totals;
@@ -24,8 +26,8 @@ pub fn delete_cell(
     t: Totals,
     id: u32,
 ) -> Line
-    requires { Ready (lent next count.old ids kinds starts ends bends counts px py cycles steps bx by) t }
-    ensures { Obeyed (entry next count.old ids kinds starts ends bends counts px py cycles steps bx by) (delete id) (exit next count.new ids kinds starts ends bends counts px py cycles steps bx by) result }
+    requires { Ready (of_lists next count.old ids.old kinds.old starts.old ends.old bends.old counts.old px.old py.old cycles.old steps.old bx.old by.old) t }
+    ensures { Obeyed (of_lists next count.old ids.old kinds.old starts.old ends.old bends.old counts.old px.old py.old cycles.old steps.old bx.old by.old) (delete id) (of_lists next count.new ids.new kinds.new starts.new ends.new bends.new counts.new px.new py.new cycles.new steps.new bx.new by.new) result }
 {
     let n = *count;
     let row = store::find(ids, n, id);

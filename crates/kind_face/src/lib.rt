@@ -1,7 +1,9 @@
+#![tactic(auto)]
+
 ghost use Rattle.complex.specs.Cells.{face};
 ghost use Rattle.complex.specs.Decode.{create, read_cycle};
 ghost use Rattle.decode_parts.specs.Lists.{cycles_read, Stand};
-ghost use Rattle.lent.specs.Arrays.{lent, entry, exit};
+ghost use Rattle.lent.specs.Arrays.{of_lists};
 ghost use Rattle.lent.specs.Replies.{Ready, Obeyed};
 
 use answer::Totals;
@@ -28,9 +30,9 @@ pub fn add_face(
     k: u32,
     first: usize,
 ) -> Line
-    requires ready { Ready (lent next.old count.old ids kinds starts ends bends counts px py cycles steps bx by) t }
+    requires ready { Ready (of_lists next.old count.old ids.old kinds.old starts.old ends.old bends.old counts.old px.now py.now cycles.old steps.old bx.now by.now) t }
     requires stand { Stand read_cycle script.now first k }
-    ensures { Obeyed (entry next.old count.old ids kinds starts ends bends counts px py cycles steps bx by) (create (face (cycles_read script.now first k))) (exit next.new count.new ids kinds starts ends bends counts px py cycles steps bx by) result }
+    ensures { Obeyed (of_lists next.old count.old ids.old kinds.old starts.old ends.old bends.old counts.old px.now py.now cycles.old steps.old bx.now by.now) (create (face (cycles_read script.now first k))) (of_lists next.new count.new ids.new kinds.new starts.new ends.new bends.new counts.new px.now py.now cycles.new steps.new bx.now by.now) result }
 {
     let asked = ask_face::face_no(script, first, k, ids, kinds, starts, ends, *count);
     if asked != 0 {

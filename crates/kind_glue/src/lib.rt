@@ -1,5 +1,7 @@
+#![tactic(auto)]
+
 ghost use Rattle.complex.specs.Decode.{glue_vertices, glue_edges};
-ghost use Rattle.lent.specs.Arrays.{lent, entry, exit};
+ghost use Rattle.lent.specs.Arrays.{of_lists};
 ghost use Rattle.lent.specs.Replies.{Ready, Obeyed};
 
 use answer::Totals;
@@ -25,8 +27,8 @@ pub fn glue_vertices(
     a: u32,
     b: u32,
 ) -> Line
-    requires { Ready (lent next count.old ids kinds starts ends bends counts px py cycles steps bx by) t }
-    ensures { Obeyed (entry next count.old ids kinds starts ends bends counts px py cycles steps bx by) (glue_vertices a b) (exit next count.new ids kinds starts ends bends counts px py cycles steps bx by) result }
+    requires { Ready (of_lists next count.old ids.old kinds.old starts.old ends.old bends.old counts.old px.old py.old cycles.now steps.old bx.now by.now) t }
+    ensures { Obeyed (of_lists next count.old ids.old kinds.old starts.old ends.old bends.old counts.old px.old py.old cycles.now steps.old bx.now by.now) (glue_vertices a b) (of_lists next count.new ids.new kinds.new starts.new ends.new bends.new counts.new px.new py.new cycles.now steps.new bx.now by.now) result }
 {
     let n = *count;
     let no = ask_glue::vertices_no(ids, kinds, n, a, b);
@@ -72,8 +74,8 @@ pub fn glue_edges(
     b: u32,
     flag: u32,
 ) -> Line
-    requires { Ready (lent next count.old ids kinds starts ends bends counts px py cycles steps bx by) t }
-    ensures { Obeyed (entry next count.old ids kinds starts ends bends counts px py cycles steps bx by) (glue_edges a b flag) (exit next count.new ids kinds starts ends bends counts px py cycles steps bx by) result }
+    requires { Ready (of_lists next count.old ids.old kinds.old starts.old ends.old bends.old counts.old px.old py.old cycles.old steps.old bx.old by.old) t }
+    ensures { Obeyed (of_lists next count.old ids.old kinds.old starts.old ends.old bends.old counts.old px.old py.old cycles.old steps.old bx.old by.old) (glue_edges a b flag) (of_lists next count.new ids.new kinds.new starts.new ends.new bends.new counts.new px.new py.new cycles.new steps.new bx.new by.new) result }
 {
     let n = *count;
     let ka = store::value_at(4, ids, kinds, n, a);

@@ -1,5 +1,7 @@
+#![tactic(auto)]
+
 ghost use Rattle.complex.specs.Decode.{move};
-ghost use Rattle.lent.specs.Arrays.{lent, entry, exit};
+ghost use Rattle.lent.specs.Arrays.{of_lists};
 ghost use Rattle.lent.specs.Replies.{Ready, Obeyed};
 
 use answer::Totals;
@@ -26,8 +28,8 @@ pub fn move_vertex(
     v: u32,
     p: Position,
 ) -> Line
-    requires { Ready (lent next count ids kinds starts ends bends counts px py cycles steps bx by) t }
-    ensures { Obeyed (entry next count ids kinds starts ends bends counts px py cycles steps bx by) (move v p) (exit next count ids kinds starts ends bends counts px py cycles steps bx by) result }
+    requires { Ready (of_lists next count ids.now kinds.now starts.now ends.now bends.now counts.now px.old py.old cycles.now steps.now bx.now by.now) t }
+    ensures { Obeyed (of_lists next count ids.now kinds.now starts.now ends.now bends.now counts.now px.old py.old cycles.now steps.now bx.now by.now) (move v p) (of_lists next count ids.now kinds.now starts.now ends.now bends.now counts.now px.new py.new cycles.now steps.now bx.now by.now) result }
 {
     if !coordinate::in_bounds(p) {
         return lent::line_of(3);

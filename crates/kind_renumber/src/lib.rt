@@ -1,4 +1,6 @@
-ghost use Rattle.lent.specs.Arrays.{lent, entry, exit};
+#![tactic(auto)]
+
+ghost use Rattle.lent.specs.Arrays.{of_lists};
 ghost use Rattle.lent.specs.Replies.{Ready, Renewed};
 
 use answer::Totals;
@@ -22,8 +24,8 @@ pub fn renumber(
     by: &[f64; 2048],
     t: Totals,
 ) -> Line
-    requires { Ready (lent next.old count ids kinds starts ends bends counts px py cycles steps bx by) t }
-    ensures { Renewed (entry next.old count ids kinds starts ends bends counts px py cycles steps bx by) (exit next.new count ids kinds starts ends bends counts px py cycles steps bx by) result }
+    requires { Ready (of_lists next.old count ids.old kinds.now starts.old ends.old bends.now counts.now px.now py.now cycles.now steps.old bx.now by.now) t }
+    ensures { Renewed (of_lists next.old count ids.old kinds.now starts.old ends.old bends.now counts.now px.now py.now cycles.now steps.old bx.now by.now) (of_lists next.new count ids.new kinds.now starts.new ends.new bends.now counts.now px.now py.now cycles.now steps.new bx.now by.now) result }
 {
     kernel_renumber::renumber(
         next, count, ids, kinds, starts, ends, bends, counts, px, py, cycles, steps, bx, by,

@@ -1,5 +1,7 @@
+#![tactic(auto)]
+
 ghost use Rattle.complex.specs.Decode.{uncut as uncutting};
-ghost use Rattle.lent.specs.Arrays.{lent, entry, exit};
+ghost use Rattle.lent.specs.Arrays.{of_lists};
 ghost use Rattle.lent.specs.Replies.{Ready, Obeyed};
 ghost use Rattle.kind_uncut.specs.Found.{AsksIn, FoundIn};
 
@@ -56,8 +58,8 @@ pub fn uncut(
     t: Totals,
     i: u32,
 ) -> Line
-    requires { Ready (lent next.old count.old ids kinds starts ends bends counts px py cycles steps bx by) t }
-    ensures { Obeyed (entry next.old count.old ids kinds starts ends bends counts px py cycles steps bx by) (uncutting i) (exit next.new count.new ids kinds starts ends bends counts px py cycles steps bx by) result }
+    requires { Ready (of_lists next.old count.old ids.old kinds.old starts.old ends.old bends.old counts.old px.old py.old cycles.old steps.old bx.old by.old) t }
+    ensures { Obeyed (of_lists next.old count.old ids.old kinds.old starts.old ends.old bends.old counts.old px.old py.old cycles.old steps.old bx.old by.old) (uncutting i) (of_lists next.new count.new ids.new kinds.new starts.new ends.new bends.new counts.new px.new py.new cycles.new steps.new bx.new by.new) result }
 {
     let c = case_in(
         *count, ids, kinds, starts, ends, counts, cycles, t.cycles, steps, i,

@@ -1,3 +1,5 @@
+#![tactic(auto)]
+
 ghost use Rattle.std.specs.Prelude.{◌≡◌, true, ◌-◌, ◌<◌, ◌≤◌, length};
 ghost use Rattle.complex.specs.Decode.{uncut};
 ghost use Rattle.complex.specs.Uncut.{uncut_case, uncut_result};
@@ -5,7 +7,7 @@ ghost use Rattle.complex.specs.Sound.{cells_most};
 ghost use Rattle.store.specs.View.{sheet_of};
 ghost use Rattle.ask_uncut_uses.specs.Uses.{use_at, case_of};
 ghost use Rattle.law_uncut_edge.specs.Needs.{gone_with, more_cycles};
-ghost use Rattle.lent.specs.Arrays.{held_by, lent, entry, exit};
+ghost use Rattle.lent.specs.Arrays.{held_by, of_lists};
 ghost use Rattle.lent.specs.Replies.{Ready, Obeyed, Holds};
 ghost use Rattle.kind_uncut_edge.specs.Left.{Leaves, LeavesIn, LeftIn};
 
@@ -100,8 +102,8 @@ fn take_out(
     numbers: &mut [u32],
     places: &mut [u32],
 ) -> usize
-    requires { Leaves (lent next count ids kinds starts ends bends counts px py cycles steps bx by) t e k u w (length numbers.old) (length places.old) }
-    ensures { Holds (uncut_result (sheet_of (held_by (entry next count ids kinds starts ends bends counts px py cycles steps bx by))) e (case_of k (use_at e u) (use_at e w))) (exit next result ids kinds starts ends bends counts px py cycles steps bx by) }
+    requires { Leaves (of_lists next count ids.old kinds.old starts.old ends.old bends.old counts.old px.old py.old cycles.old steps.old bx.old by.old) t e k u w (length numbers.old) (length places.old) }
+    ensures { Holds (uncut_result (sheet_of (held_by (of_lists next count ids.old kinds.old starts.old ends.old bends.old counts.old px.old py.old cycles.old steps.old bx.old by.old))) e (case_of k (use_at e u) (use_at e w))) (of_lists next result ids.new kinds.new starts.new ends.new bends.new counts.new px.new py.new cycles.new steps.new bx.new by.new) }
 {
     let l = left(
         count, ids, starts, ends, counts, cycles, steps, t, e, k, u, w, numbers, places,
@@ -159,9 +161,9 @@ pub fn uncut_edge(
     u: Use,
     w: Use,
 ) -> Line
-    requires ready { Ready (lent next.old count.old ids kinds starts ends bends counts px py cycles steps bx by) t }
-    requires e_value { uncut_case (sheet_of (held_by (lent next.old count.old ids kinds starts ends bends counts px py cycles steps bx by))) e ≡ case_of k (use_at e u) (use_at e w) }
-    ensures { Obeyed (entry next.old count.old ids kinds starts ends bends counts px py cycles steps bx by) (uncut e) (exit next.new count.new ids kinds starts ends bends counts px py cycles steps bx by) result }
+    requires ready { Ready (of_lists next.old count.old ids.old kinds.old starts.old ends.old bends.old counts.old px.old py.old cycles.old steps.old bx.old by.old) t }
+    requires e_value { uncut_case (sheet_of (held_by (of_lists next.old count.old ids.old kinds.old starts.old ends.old bends.old counts.old px.old py.old cycles.old steps.old bx.old by.old))) e ≡ case_of k (use_at e u) (use_at e w) }
+    ensures { Obeyed (of_lists next.old count.old ids.old kinds.old starts.old ends.old bends.old counts.old px.old py.old cycles.old steps.old bx.old by.old) (uncut e) (of_lists next.new count.new ids.new kinds.new starts.new ends.new bends.new counts.new px.new py.new cycles.new steps.new bx.new by.new) result }
 {
     let id = *next;
     let n = *count;

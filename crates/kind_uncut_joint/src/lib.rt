@@ -1,3 +1,5 @@
+#![tactic(auto)]
+
 ghost use Rattle.std.specs.Prelude.{◌≡◌, true, false, cond, ◌+◌, ◌-◌, ◌<◌, ◌≤◌, take, length};
 ghost use Rattle.complex.specs.Lists.{total};
 ghost use Rattle.complex.specs.Sound.{cells_most, bends_most};
@@ -6,7 +8,7 @@ ghost use Rattle.complex.specs.Decode.{uncut};
 ghost use Rattle.store.specs.Index.{Rising, row_of};
 ghost use Rattle.store.specs.View.{sheet_of};
 ghost use Rattle.store.specs.Edits.{places_of};
-ghost use Rattle.lent.specs.Arrays.{held_by, lent, entry, exit};
+ghost use Rattle.lent.specs.Arrays.{held_by, of_lists};
 ghost use Rattle.lent.specs.Replies.{Ready, Obeyed};
 ghost use Rattle.kind_uncut_joint.specs.Joining.{side_from, order_of, Merges, MergedIn, turned_if, joined_runs, Joins, Joined};
 
@@ -46,7 +48,7 @@ fn side_at(
 }
 
 // Two edges in the order of their bends, each with whether it is turned round.
-#[derive(Drop)]
+#[derive(Clone, Copy)]
 pub struct Order {
     pub first: Side,
     pub turned: bool,
@@ -95,8 +97,8 @@ fn merge_steps(
     x: u32,
     y: u32,
 )
-    requires { Merges (lent next count ids kinds starts ends bends counts px py cycles steps bx by) k m x y }
-    ensures { MergedIn (entry next count ids kinds starts ends bends counts px py cycles steps bx by) x y (exit next count ids kinds starts ends bends counts px py cycles steps bx by) }
+    requires { Merges (of_lists next count ids.now kinds.now starts.now ends.now bends.now counts.now px.now py.now cycles.old steps.old bx.now by.now) k m x y }
+    ensures { MergedIn (of_lists next count ids.now kinds.now starts.now ends.now bends.now counts.now px.now py.now cycles.old steps.old bx.now by.now) x y (of_lists next count ids.now kinds.now starts.now ends.now bends.now counts.now px.now py.now cycles.new steps.new bx.now by.now) }
 {
     let one = rows_steps::one_for(x, next, false);
     kernel_swap::swap_steps(
@@ -155,8 +157,8 @@ fn join(
     t: usize,
     p: Position,
 ) -> Line
-    requires { Joins (lent next.old count.old ids kinds starts ends bends counts px py cycles steps bx by) o bare t p }
-    ensures { Joined (entry next.old count.old ids kinds starts ends bends counts px py cycles steps bx by) o bare p (exit next.new count.new ids kinds starts ends bends counts px py cycles steps bx by) result }
+    requires { Joins (of_lists next.old count.old ids.old kinds.old starts.old ends.old bends.old counts.old px.old py.old cycles.now steps.now bx.old by.old) o bare t p }
+    ensures { Joined (of_lists next.old count.old ids.old kinds.old starts.old ends.old bends.old counts.old px.old py.old cycles.now steps.now bx.old by.old) o bare p (of_lists next.new count.new ids.new kinds.new starts.new ends.new bends.new counts.new px.new py.new cycles.now steps.now bx.new by.new) result }
 {
     let n = *count;
     let id = *next;
@@ -208,9 +210,9 @@ pub fn jointed(
     y: u32,
     back2: bool,
 ) -> Line
-    requires ready { Ready (lent next.old count.old ids kinds starts ends bends counts px py cycles steps bx by) t }
-    requires v_value { uncut_case (sheet_of (held_by (lent next.old count.old ids kinds starts ends bends counts px py cycles steps bx by))) v ≡ joint (record { edge = x; backward = back1 }) (record { edge = y; backward = back2 }) }
-    ensures { Obeyed (entry next.old count.old ids kinds starts ends bends counts px py cycles steps bx by) (uncut v) (exit next.new count.new ids kinds starts ends bends counts px py cycles steps bx by) result }
+    requires ready { Ready (of_lists next.old count.old ids.old kinds.old starts.old ends.old bends.old counts.old px.old py.old cycles.old steps.old bx.old by.old) t }
+    requires v_value { uncut_case (sheet_of (held_by (of_lists next.old count.old ids.old kinds.old starts.old ends.old bends.old counts.old px.old py.old cycles.old steps.old bx.old by.old))) v ≡ joint (record { edge = x; backward = back1 }) (record { edge = y; backward = back2 }) }
+    ensures { Obeyed (of_lists next.old count.old ids.old kinds.old starts.old ends.old bends.old counts.old px.old py.old cycles.old steps.old bx.old by.old) (uncut v) (of_lists next.new count.new ids.new kinds.new starts.new ends.new bends.new counts.new px.new py.new cycles.new steps.new bx.new by.new) result }
 {
     let n = *count;
     let id = *next;

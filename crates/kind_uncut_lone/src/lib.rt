@@ -1,3 +1,5 @@
+#![tactic(auto)]
+
 ghost use Rattle.std.specs.Prelude.{◌≡◌, ◌<◌, length};
 ghost use Rattle.complex.specs.Lists.{one, without};
 ghost use Rattle.complex.specs.Decode.{uncut};
@@ -5,7 +7,7 @@ ghost use Rattle.complex.specs.Sound.{cycles_most, steps_most};
 ghost use Rattle.complex.specs.Uncut.{lonely};
 ghost use Rattle.rows_spans.specs.Building.{Built};
 ghost use Rattle.rows_corners.specs.Faces.{Within, cycles_at};
-ghost use Rattle.lent.specs.Arrays.{lent, entry, exit};
+ghost use Rattle.lent.specs.Arrays.{of_lists};
 ghost use Rattle.lent.specs.Replies.{Obeyed};
 ghost use Rattle.kind_uncut_lone.specs.Cases.{CaseIn};
 
@@ -60,8 +62,8 @@ pub fn lonely(
     t: Totals,
     v: u32,
 ) -> Line
-    requires { CaseIn (lent next.old count.old ids kinds starts ends bends counts px py cycles steps bx by) t v lonely }
-    ensures { Obeyed (entry next.old count.old ids kinds starts ends bends counts px py cycles steps bx by) (uncut v) (exit next.new count.new ids kinds starts ends bends counts px py cycles steps bx by) result }
+    requires { CaseIn (of_lists next.old count.old ids.old kinds.old starts.old ends.old bends.old counts.old px.old py.old cycles.old steps.old bx.old by.old) t v lonely }
+    ensures { Obeyed (of_lists next.old count.old ids.old kinds.old starts.old ends.old bends.old counts.old px.old py.old cycles.old steps.old bx.old by.old) (uncut v) (of_lists next.new count.new ids.new kinds.new starts.new ends.new bends.new counts.new px.new py.new cycles.new steps.new bx.new by.new) result }
 {
     let n = *count;
     let id = *next;

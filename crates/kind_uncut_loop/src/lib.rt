@@ -1,8 +1,10 @@
+#![tactic(auto)]
+
 ghost use Rattle.std.specs.Prelude.{◌≡◌};
 ghost use Rattle.complex.specs.Decode.{uncut};
 ghost use Rattle.complex.specs.Uncut.{loop, uncut_case};
 ghost use Rattle.store.specs.View.{sheet_of};
-ghost use Rattle.lent.specs.Arrays.{held_by, lent, entry, exit};
+ghost use Rattle.lent.specs.Arrays.{held_by, of_lists};
 ghost use Rattle.lent.specs.Replies.{Ready, Obeyed};
 
 use answer::Totals;
@@ -29,9 +31,9 @@ pub fn looped(
     v: u32,
     e: u32,
 ) -> Line
-    requires ready { Ready (lent next.old count.old ids kinds starts ends bends counts px py cycles steps bx by) t }
-    requires v_value { uncut_case (sheet_of (held_by (lent next.old count.old ids kinds starts ends bends counts px py cycles steps bx by))) v ≡ loop e }
-    ensures { Obeyed (entry next.old count.old ids kinds starts ends bends counts px py cycles steps bx by) (uncut v) (exit next.new count.new ids kinds starts ends bends counts px py cycles steps bx by) result }
+    requires ready { Ready (of_lists next.old count.old ids.old kinds.old starts.old ends.old bends.old counts.old px.old py.old cycles.old steps.old bx.old by.old) t }
+    requires v_value { uncut_case (sheet_of (held_by (of_lists next.old count.old ids.old kinds.old starts.old ends.old bends.old counts.old px.old py.old cycles.old steps.old bx.old by.old))) v ≡ loop e }
+    ensures { Obeyed (of_lists next.old count.old ids.old kinds.old starts.old ends.old bends.old counts.old px.old py.old cycles.old steps.old bx.old by.old) (uncut v) (of_lists next.new count.new ids.new kinds.new starts.new ends.new bends.new counts.new px.new py.new cycles.new steps.new bx.new by.new) result }
 {
     let n = *count;
     let id = *next;

@@ -1,7 +1,9 @@
+#![tactic(auto)]
+
 ghost use Rattle.std.specs.Prelude.{◌≡◌, cond, eqb};
 ghost use Rattle.complex.specs.Decode.{unglue as ungluing};
 ghost use Rattle.rows_uses.specs.declared.Use.TheVariants.{Step, Ring};
-ghost use Rattle.lent.specs.Arrays.{lent, entry, exit};
+ghost use Rattle.lent.specs.Arrays.{of_lists};
 ghost use Rattle.lent.specs.Replies.{Ready, Obeyed};
 
 use answer::Totals;
@@ -37,8 +39,8 @@ pub fn unglue(
     t: Totals,
     i: u32,
 ) -> Line
-    requires { Ready (lent next.old count.old ids kinds starts ends bends counts px py cycles steps bx by) t }
-    ensures { Obeyed (entry next.old count.old ids kinds starts ends bends counts px py cycles steps bx by) (ungluing i) (exit next.new count.new ids kinds starts ends bends counts px py cycles steps bx by) result }
+    requires { Ready (of_lists next.old count.old ids.old kinds.old starts.old ends.old bends.old counts.old px.old py.old cycles.old steps.old bx.old by.old) t }
+    ensures { Obeyed (of_lists next.old count.old ids.old kinds.old starts.old ends.old bends.old counts.old px.old py.old cycles.old steps.old bx.old by.old) (ungluing i) (of_lists next.new count.new ids.new kinds.new starts.new ends.new bends.new counts.new px.new py.new cycles.new steps.new bx.new by.new) result }
 {
     let n = *count;
     let k = store::value_at(4, ids, kinds, n, i);

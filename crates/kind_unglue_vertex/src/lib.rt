@@ -1,9 +1,11 @@
+#![tactic(auto)]
+
 ghost use Rattle.std.specs.Prelude.{◌≤◌, T};
 ghost use Rattle.complex.specs.Cells.{cell_at, is_vertex};
 ghost use Rattle.complex.specs.Decode.{unglue as ungluing};
 ghost use Rattle.store.specs.View.{sheet_of};
 ghost use Rattle.ask_unglue.specs.Places.{GroupedEnds, Fresh};
-ghost use Rattle.lent.specs.Arrays.{held_by, rows_by, lent, entry, exit};
+ghost use Rattle.lent.specs.Arrays.{held_by, rows_by, of_lists};
 ghost use Rattle.lent.specs.Replies.{Ready, Obeyed};
 ghost use Rattle.kind_unglue_vertex.specs.Parts.{VertexOf, Linkable};
 
@@ -34,10 +36,10 @@ fn link_ends(
     xs: &mut [u32],
     ys: &mut [u32],
 ) -> u32
-    requires ready { Ready (lent next count ids kinds starts ends bends counts px py cycles steps bx by) t }
-    requires t { T (is_vertex (cell_at (sheet_of (held_by (lent next count ids kinds starts ends bends counts px py cycles steps bx by))) v)) }
-    requires linkable { Linkable (rows_by (lent next count ids kinds starts ends bends counts px py cycles steps bx by)) v count at.now groups.old t.steps xs.old ys.old }
-    ensures grouped_ends { GroupedEnds (held_by (entry next count ids kinds starts ends bends counts px py cycles steps bx by)) (rows_by (entry next count ids kinds starts ends bends counts px py cycles steps bx by)) v result at.now groups.new }
+    requires ready { Ready (of_lists next count ids.now kinds.now starts.now ends.now bends.now counts.now px.now py.now cycles.now steps.now bx.now by.now) t }
+    requires t { T (is_vertex (cell_at (sheet_of (held_by (of_lists next count ids.now kinds.now starts.now ends.now bends.now counts.now px.now py.now cycles.now steps.now bx.now by.now))) v)) }
+    requires linkable { Linkable (rows_by (of_lists next count ids.now kinds.now starts.now ends.now bends.now counts.now px.now py.now cycles.now steps.now bx.now by.now)) v count at.now groups.old t.steps xs.old ys.old }
+    ensures grouped_ends { GroupedEnds (held_by (of_lists next count ids.now kinds.now starts.now ends.now bends.now counts.now px.now py.now cycles.now steps.now bx.now by.now)) (rows_by (of_lists next count ids.now kinds.now starts.now ends.now bends.now counts.now px.now py.now cycles.now steps.now bx.now by.now)) v result at.now groups.new }
     ensures upper_bound { result ≤ 512 }
 {
     let k = rows_links::find_links(ids, count, at, cycles, t.cycles, steps, xs, ys);
@@ -65,10 +67,10 @@ fn group_ends(
     at: &mut [bool],
     groups: &mut [u32],
 ) -> u32
-    requires ready { Ready (lent next count ids kinds starts ends bends counts px py cycles steps bx by) t }
-    requires t { T (is_vertex (cell_at (sheet_of (held_by (lent next count ids kinds starts ends bends counts px py cycles steps bx by))) v)) }
+    requires ready { Ready (of_lists next count ids.now kinds.now starts.now ends.now bends.now counts.now px.now py.now cycles.now steps.now bx.now by.now) t }
+    requires t { T (is_vertex (cell_at (sheet_of (held_by (of_lists next count ids.now kinds.now starts.now ends.now bends.now counts.now px.now py.now cycles.now steps.now bx.now by.now))) v)) }
     requires fresh { Fresh at.old groups.old }
-    ensures grouped_ends { GroupedEnds (held_by (entry next count ids kinds starts ends bends counts px py cycles steps bx by)) (rows_by (entry next count ids kinds starts ends bends counts px py cycles steps bx by)) v result at.new groups.new }
+    ensures grouped_ends { GroupedEnds (held_by (of_lists next count ids.now kinds.now starts.now ends.now bends.now counts.now px.now py.now cycles.now steps.now bx.now by.now)) (rows_by (of_lists next count ids.now kinds.now starts.now ends.now bends.now counts.now px.now py.now cycles.now steps.now bx.now by.now)) v result at.new groups.new }
     ensures upper_bound { result ≤ 512 }
 {
     rows_ends::mark_ends(kinds, starts, ends, count, v, at);
@@ -107,8 +109,8 @@ pub fn unglue_vertex(
     t: Totals,
     v: u32,
 ) -> Line
-    requires { VertexOf (lent next.old count.old ids kinds starts ends bends counts px py cycles steps bx by) t v }
-    ensures { Obeyed (entry next.old count.old ids kinds starts ends bends counts px py cycles steps bx by) (ungluing v) (exit next.new count.new ids kinds starts ends bends counts px py cycles steps bx by) result }
+    requires { VertexOf (of_lists next.old count.old ids.old kinds.old starts.old ends.old bends.old counts.old px.old py.old cycles.old steps.old bx.old by.old) t v }
+    ensures { Obeyed (of_lists next.old count.old ids.old kinds.old starts.old ends.old bends.old counts.old px.old py.old cycles.old steps.old bx.old by.old) (ungluing v) (of_lists next.new count.new ids.new kinds.new starts.new ends.new bends.new counts.new px.new py.new cycles.new steps.new bx.new by.new) result }
 {
     let n = *count;
     let id = *next;

@@ -1,7 +1,9 @@
+#![tactic(auto)]
+
 use rows_corners::Listed;
 
 // The cycles of two faces.
-#[derive(Drop)]
+#[derive(Clone, Copy)]
 pub struct Parts {
     pub old: Listed,
     pub new: Listed,

@@ -1,3 +1,5 @@
+#![tactic(auto)]
+
 ghost use Rattle.std.specs.Prelude.{◌≡◌, length};
 ghost use Rattle.complex.specs.Sound.{cells_most, cycles_most, steps_most, bends_most};
 

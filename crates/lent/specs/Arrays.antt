@@ -1,8 +1,6 @@
 -- The drawing that lent arrays hold, a row of numbers for each cell. Definitions only.
 use Rattle.std.specs.Prelude.{ℕ, zero, suc, ◌≡◌, Bool, true, ◌&&◌, cond, List, [], ◌∷◌, eqb, Float, get_or, length, take}
 use Rattle.std.specs.Float.{nan}
-use Rattle.std.specs.Borrow.{Bor}
-use denote.Triple.Both.{Both}
 use Rattle.coordinate.specs.declared.Position.{Position}
 use Rattle.complex.specs.Lists.{total}
 use Rattle.complex.specs.Sound.{cells_most, cycles_most, steps_most, bends_most}
@@ -141,28 +139,3 @@ pub record Lengths (a : Arrays) : Type 0 where
   pub steps : length a.steps ≡ steps_most
   pub bx : length a.bx ≡ bends_most
   pub by : length a.by ≡ bends_most
-
--- ---- names for a contract: the arrays of references, at a call's entry, and at its exit
-abbrev pub lent : ℕ → ℕ
-    → Bor (List ℕ) → Bor (List ℕ) → Bor (List ℕ) → Bor (List ℕ) → Bor (List ℕ) → Bor (List ℕ)
-    → Bor (List Float) → Bor (List Float) → Bor (List ℕ) → Bor (List ℕ) → Bor (List Float) → Bor (List Float) → Arrays
-lent next n is ks ss es bs cs px py cy st bx by =
-    of_lists next n is.now ks.now ss.now es.now bs.now cs.now px.now py.now cy.now st.now bx.now by.now
-
-abbrev pub Numbers : Type 0
-Numbers = Both (Bor (List ℕ)) (Bor (List ℕ))
-
-abbrev pub Floats : Type 0
-Floats = Both (Bor (List Float)) (Bor (List Float))
-
-abbrev pub entry : ℕ → ℕ → Numbers → Numbers → Numbers → Numbers → Numbers → Numbers
-    → Floats → Floats → Numbers → Numbers → Floats → Floats → Arrays
-entry next n is ks ss es bs cs px py cy st bx by =
-    lent next n is.entry ks.entry ss.entry es.entry bs.entry cs.entry px.entry py.entry
-    cy.entry st.entry bx.entry by.entry
-
-abbrev pub exit : ℕ → ℕ → Numbers → Numbers → Numbers → Numbers → Numbers → Numbers
-    → Floats → Floats → Numbers → Numbers → Floats → Floats → Arrays
-exit next n is ks ss es bs cs px py cy st bx by =
-    lent next n is.exit ks.exit ss.exit es.exit bs.exit cs.exit px.exit py.exit
-    cy.exit st.exit bx.exit by.exit

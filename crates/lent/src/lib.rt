@@ -1,7 +1,9 @@
+#![tactic(auto)]
+
 ghost use Rattle.std.specs.Prelude.{◌≡◌, ◌<◌, set};
 ghost use Rattle.complex.specs.Sound.{cells_most, bends_most};
 ghost use Rattle.answer.specs.Late.{Summed};
-ghost use Rattle.lent.specs.Arrays.{position_in, totals_by, Lengths, entry};
+ghost use Rattle.lent.specs.Arrays.{position_in, totals_by, Lengths, of_lists};
 ghost use Rattle.lent.specs.Growing.{RowPut};
 ghost use Rattle.lent.specs.Replies.{line_of};
 
@@ -10,7 +12,7 @@ use coordinate::Position;
 use store::{Cell, Shape};
 
 // What a command answers beside the drawing.
-#[derive(Drop)]
+#[derive(Clone, Copy)]
 pub struct Line {
     pub number: u32,
     pub first: u32,
@@ -47,7 +49,7 @@ pub fn known(
     bx: &[f64; 2048],
     by: &[f64; 2048],
 )
-    ensures { Lengths (entry next count ids kinds starts ends bends counts px py cycles steps bx by) }
+    ensures { Lengths (of_lists next count ids.now kinds.now starts.now ends.now bends.now counts.now px.now py.now cycles.now steps.now bx.now by.now) }
 {
     lengths::rows_long(ids);
     lengths::rows_long(kinds);

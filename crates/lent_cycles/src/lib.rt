@@ -1,3 +1,5 @@
+#![tactic(auto)]
+
 ghost use Rattle.std.specs.Prelude.{◌≡◌, cond, ◌+◌, ◌<◌, ◌≤◌, eqb, take, drop, length};
 ghost use Rattle.number.specs.Said.{done, no};
 ghost use Rattle.complex.specs.Lists.{all};
@@ -14,7 +16,7 @@ const OPEN: u32 = 1;
 const CLOSED: u32 = 2;
 
 // How many steps the cycles have up to the last that was looked at, or a fault of one.
-#[derive(Drop)]
+#[derive(Clone, Copy)]
 pub enum Steps {
     Upto(usize),
     Fault,

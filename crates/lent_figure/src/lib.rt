@@ -1,3 +1,5 @@
+#![tactic(auto)]
+
 // The tests of one row on its own: its id, its normal form, what its kind asks.
 ghost use Rattle.std.specs.Prelude.{◌≡◌, ◌<◌};
 ghost use Rattle.complex.specs.Sound.{cells_most};

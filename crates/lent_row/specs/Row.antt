@@ -1,6 +1,5 @@
 -- The rules of one row of lent arrays, but for the places of its bends. Definitions only.
 use Rattle.std.specs.Prelude.{ℕ, ◌+◌, ◌≤◌, ◌≡◌, Bool, ◌&&◌, List, [], leb, Float, take, get_or}
-use Rattle.std.specs.Borrow.{Bor}
 use Rattle.number.specs.Said.{Said, done, no}
 use Rattle.complex.specs.Lists.{total}
 use Rattle.complex.specs.Sound.{cells_most, cycles_most, steps_most, bends_most}
@@ -8,7 +7,7 @@ use Rattle.complex.specs.Visits.{id_right}
 use Rattle.store.specs.Edits.{places_of}
 use Rattle.sound.specs.Rows.{Rows, rows_of}
 use Rattle.answer.specs.declared.Totals.{Totals}
-use Rattle.lent.specs.Arrays.{Arrays, Lengths, Numbers, Floats, of_lists, position_in, normal_at, totals_by}
+use Rattle.lent.specs.Arrays.{Arrays, Lengths, of_lists, position_in, normal_at, totals_by}
 use Rattle.lent_cycles.specs.Ring.{cycles_right}
 use Rattle.lent_figure.specs.Figure.{figure_right}
 use Rattle.lent_row.specs.declared.Row.{Row}
@@ -38,15 +37,9 @@ abbrev pub bare_of : Arrays → Arrays
 bare_of a =
     of_lists a.next a.count a.ids a.kinds a.starts a.ends a.bends a.counts a.px a.py a.cycles a.steps [] []
 
--- names for a contract: those of references, and at a call's entry
-abbrev pub bare : ℕ → ℕ → Bor (List ℕ) → Bor (List ℕ) → Bor (List ℕ) → Bor (List ℕ) → Bor (List ℕ) → Bor (List ℕ)
-    → Bor (List Float) → Bor (List Float) → Bor (List ℕ) → Bor (List ℕ) → Arrays
-bare next n is ks ss es bs cs px py cy st =
-    of_lists next n is.now ks.now ss.now es.now bs.now cs.now px.now py.now cy.now st.now [] []
-
-abbrev pub at_entry : ℕ → ℕ → Numbers → Numbers → Numbers → Numbers → Numbers → Numbers → Floats → Floats → Numbers → Numbers → Arrays
-at_entry next n is ks ss es bs cs px py cy st =
-    bare next n is.entry ks.entry ss.entry es.entry bs.entry cs.entry px.entry py.entry cy.entry st.entry
+-- arrays of lists, with no place of a bend
+abbrev pub bare : ℕ → ℕ → List ℕ → List ℕ → List ℕ → List ℕ → List ℕ → List ℕ → List Float → List Float → List ℕ → List ℕ → Arrays
+bare next n is ks ss es bs cs px py cy st = of_lists next n is ks ss es bs cs px py cy st [] []
 
 -- with some places of bends these arrays have their lengths
 pub record RowLengths (a : Arrays) : Type 0 where

@@ -1,7 +1,9 @@
+#![tactic(auto)]
+
 ghost use Rattle.std.specs.Prelude.{◌≡◌, cond, ◌+◌, ◌<◌};
 ghost use Rattle.number.specs.Said.{done, no};
 ghost use Rattle.lent_table.specs.Table.{Table};
-ghost use Rattle.lent_row.specs.Row.{row_right, row_says, totals_upto, bare, at_entry, Upto};
+ghost use Rattle.lent_row.specs.Row.{row_right, row_says, totals_upto, bare, Upto};
 
 use answer::Totals;
 use coordinate::Position;
@@ -12,7 +14,7 @@ const CYCLES_MOST: usize = 512;
 const BENDS_MOST: usize = 2048;
 
 // The sums with a row, or its fault.
-#[derive(Drop)]
+#[derive(Clone, Copy)]
 pub enum Row {
     Sums(Totals),
     Fault,
@@ -37,10 +39,10 @@ pub fn row_right(
     table: &[u8; 1024],
     i: usize,
 ) -> Row
-    requires upto { Upto (bare next count ids kinds starts ends bends counts px py cycles steps) i t }
+    requires upto { Upto (bare next count ids.now kinds.now starts.now ends.now bends.now counts.now px.now py.now cycles.now steps.now) i t }
     requires table { Table count table.now ids.now }
     requires i_lt_count { i < count }
-    ensures { row_says result ≡ cond (row_right (at_entry next count ids kinds starts ends bends counts px py cycles steps) i) (done (totals_upto (at_entry next count ids kinds starts ends bends counts px py cycles steps) (i + 1))) (no 1) }
+    ensures { row_says result ≡ cond (row_right (bare next count ids.now kinds.now starts.now ends.now bends.now counts.now px.now py.now cycles.now steps.now) i) (done (totals_upto (bare next count ids.now kinds.now starts.now ends.now bends.now counts.now px.now py.now cycles.now steps.now) (i + 1))) (no 1) }
 {
     if !lent_figure::id_right(next, ids, i) {
         return Row::Fault;

@@ -1,9 +1,11 @@
+#![tactic(auto)]
+
 ghost use Rattle.std.specs.Prelude.{◌≡◌, true, false, cond, ◌&&◌, ◌-◌, ◌≤◌};
 ghost use Rattle.number.specs.Said.{done, no};
 ghost use Rattle.complex.specs.Sound.{bends_most};
 ghost use Rattle.complex.specs.Visits.{bounds_right};
 ghost use Rattle.sound.specs.Rows.{all_from};
-ghost use Rattle.lent.specs.Arrays.{totals_of, Lengths, entry};
+ghost use Rattle.lent.specs.Arrays.{totals_of, Lengths, of_lists};
 ghost use Rattle.lent_sound.specs.Walk.{bend_right, walk_right, walk_visits, walk_says, visit_says, visit_count};
 
 use answer::Totals;
@@ -15,14 +17,14 @@ const CELLS_MOST: usize = 256;
 const IDS_END: u32 = 65536;
 
 // The sums of all cells; or a fault, and the count of cells visited.
-#[derive(Drop)]
+#[derive(Clone, Copy)]
 pub enum Visited {
     All(Totals),
     Upto(usize),
 }
 
 // The same without the count.
-#[derive(Drop)]
+#[derive(Clone, Copy)]
 pub enum Walked {
     Sound(Totals),
     Fault,
@@ -97,9 +99,9 @@ pub fn visit(
     table: &mut [u8; 1024],
     look: bool,
 ) -> Visited
-    ensures result_value { visit_says result ≡ cond (walk_right look (entry next count ids kinds starts ends bends counts px py cycles steps bx by)) (done (totals_of (entry next count ids kinds starts ends bends counts px py cycles steps bx by))) (no 1) }
-    ensures result_value_2 { visit_count result ≡ walk_visits look (entry next count ids kinds starts ends bends counts px py cycles steps bx by) }
-    ensures lengths { Lengths (entry next count ids kinds starts ends bends counts px py cycles steps bx by) }
+    ensures result_value { visit_says result ≡ cond (walk_right look (of_lists next count ids.now kinds.now starts.now ends.now bends.now counts.now px.now py.now cycles.now steps.now bx.now by.now)) (done (totals_of (of_lists next count ids.now kinds.now starts.now ends.now bends.now counts.now px.now py.now cycles.now steps.now bx.now by.now))) (no 1) }
+    ensures result_value_2 { visit_count result ≡ walk_visits look (of_lists next count ids.now kinds.now starts.now ends.now bends.now counts.now px.now py.now cycles.now steps.now bx.now by.now) }
+    ensures lengths { Lengths (of_lists next count ids.now kinds.now starts.now ends.now bends.now counts.now px.now py.now cycles.now steps.now bx.now by.now) }
 {
     lent::known(
         next, count, ids, kinds, starts, ends, bends, counts, px, py, cycles, steps, bx, by,
@@ -150,8 +152,8 @@ pub fn walk(
     table: &mut [u8; 1024],
     look: bool,
 ) -> Walked
-    ensures result_value { walk_says result ≡ cond (walk_right look (entry next count ids kinds starts ends bends counts px py cycles steps bx by)) (done (totals_of (entry next count ids kinds starts ends bends counts px py cycles steps bx by))) (no 1) }
-    ensures lengths { Lengths (entry next count ids kinds starts ends bends counts px py cycles steps bx by) }
+    ensures result_value { walk_says result ≡ cond (walk_right look (of_lists next count ids.now kinds.now starts.now ends.now bends.now counts.now px.now py.now cycles.now steps.now bx.now by.now)) (done (totals_of (of_lists next count ids.now kinds.now starts.now ends.now bends.now counts.now px.now py.now cycles.now steps.now bx.now by.now))) (no 1) }
+    ensures lengths { Lengths (of_lists next count ids.now kinds.now starts.now ends.now bends.now counts.now px.now py.now cycles.now steps.now bx.now by.now) }
 {
     let Visited::All(t) = visit(
         next, count, ids, kinds, starts, ends, bends, counts, px, py, cycles, steps, bx, by, table,

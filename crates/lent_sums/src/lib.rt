@@ -1,6 +1,8 @@
+#![tactic(auto)]
+
 // The sums of sound arrays.
 ghost use Rattle.std.specs.Prelude.{T};
-ghost use Rattle.lent.specs.Arrays.{sound_arrays, lent, entry};
+ghost use Rattle.lent.specs.Arrays.{sound_arrays, of_lists};
 ghost use Rattle.lent.specs.Replies.{Ready};
 
 use answer::Totals;
@@ -22,8 +24,8 @@ pub fn sums(
     bx: &[f64; 2048],
     by: &[f64; 2048],
 ) -> Totals
-    requires { T (sound_arrays (lent next count ids kinds starts ends bends counts px py cycles steps bx by)) }
-    ensures { Ready (entry next count ids kinds starts ends bends counts px py cycles steps bx by) result }
+    requires { T (sound_arrays (of_lists next count ids.now kinds.now starts.now ends.now bends.now counts.now px.now py.now cycles.now steps.now bx.now by.now)) }
+    ensures { Ready (of_lists next count ids.now kinds.now starts.now ends.now bends.now counts.now px.now py.now cycles.now steps.now bx.now by.now) result }
 {
     lent::known(
         next, count, ids, kinds, starts, ends, bends, counts, px, py, cycles, steps, bx, by,

@@ -1,3 +1,5 @@
+#![tactic(auto)]
+
 ghost use Rattle.std.specs.Prelude.{◌≡◌, ◌≤◌, take, length};
 ghost use Rattle.complex.specs.Sound.{cells_most};
 ghost use Rattle.store.specs.Index.{row_of};

@@ -1,7 +1,9 @@
+#![tactic(auto)]
+
 // What the program `edit` prints, piece by piece, in a lent buffer.
 ghost use Rattle.std.specs.Prelude.{◌≡◌, ◌+◌, ◌≤◌, ◌<◌, T, length};
 ghost use Rattle.store.specs.View.{sheet_of};
-ghost use Rattle.lent.specs.Arrays.{held_by, sound_arrays, lent, entry, exit};
+ghost use Rattle.lent.specs.Arrays.{held_by, sound_arrays, of_lists};
 ghost use Rattle.text.specs.Texts.{line_most, last_most, TextPut};
 ghost use Rattle.printing.specs.Lines.{last_text, LinesPut};
 ghost use Rattle.printing.specs.Texts.{LongPut, Pieced};
@@ -20,7 +22,7 @@ pub fn script_space() -> [u8; 65537]
 }
 
 // A piece of what is printed: the place where the script goes on, how many bytes it has, and whether it is the last.
-#[derive(Drop)]
+#[derive(Clone, Copy)]
 pub struct Printed {
     pub at: usize,
     pub count: usize,
@@ -28,7 +30,7 @@ pub struct Printed {
 }
 
 // The place of the script after the lines that were put, and the place after them.
-#[derive(Drop)]
+#[derive(Clone, Copy)]
 struct Lined {
     at: usize,
     end: usize,
@@ -54,8 +56,8 @@ fn put_lines(
     from: usize,
     out: &mut [u8],
 ) -> Lined
-    requires { T (sound_arrays (lent next.old count.old ids kinds starts ends bends counts px py cycles steps bx by)) }
-    ensures lines_put { LinesPut (entry next.old count.old ids kinds starts ends bends counts px py cycles steps bx by) script.now from (exit next.new count.new ids kinds starts ends bends counts px py cycles steps bx by) out.old out.new result.at result.end }
+    requires { T (sound_arrays (of_lists next.old count.old ids.old kinds.old starts.old ends.old bends.old counts.old px.old py.old cycles.old steps.old bx.old by.old)) }
+    ensures lines_put { LinesPut (of_lists next.old count.old ids.old kinds.old starts.old ends.old bends.old counts.old px.old py.old cycles.old steps.old bx.old by.old) script.now from (of_lists next.new count.new ids.new kinds.new starts.new ends.new bends.new counts.new px.new py.new cycles.new steps.new bx.new by.new) out.old out.new result.at result.end }
     ensures out_len_bound { result.at < length script.now → length out.new < result.end + line_most }
 {
     let mut at = from;
@@ -94,9 +96,9 @@ fn put_last(
     out: &mut [u8],
     at: usize,
 ) -> usize
-    requires t { T (sound_arrays (lent next count ids kinds starts ends bends counts px py cycles steps bx by)) }
+    requires t { T (sound_arrays (of_lists next count ids.now kinds.now starts.now ends.now bends.now counts.now px.now py.now cycles.now steps.now bx.now by.now)) }
     requires last_most_in_bounds { at + last_most ≤ length out.old }
-    ensures { TextPut out.old at (last_text (sheet_of (held_by (entry next count ids kinds starts ends bends counts px py cycles steps bx by)))) last_most out.new result }
+    ensures { TextPut out.old at (last_text (sheet_of (held_by (of_lists next count ids.now kinds.now starts.now ends.now bends.now counts.now px.now py.now cycles.now steps.now bx.now by.now)))) last_most out.new result }
 {
     lent::known(
         next, count, ids, kinds, starts, ends, bends, counts, px, py, cycles, steps, bx, by,
@@ -147,8 +149,8 @@ pub fn piece(
     at: usize,
     out: &mut [u8],
 ) -> Printed
-    requires { T (sound_arrays (lent next.old count.old ids kinds starts ends bends counts px py cycles steps bx by)) }
-    ensures { Pieced (entry next.old count.old ids kinds starts ends bends counts px py cycles steps bx by) script.now at (exit next.new count.new ids kinds starts ends bends counts px py cycles steps bx by) out.old out.new result }
+    requires { T (sound_arrays (of_lists next.old count.old ids.old kinds.old starts.old ends.old bends.old counts.old px.old py.old cycles.old steps.old bx.old by.old)) }
+    ensures { Pieced (of_lists next.old count.old ids.old kinds.old starts.old ends.old bends.old counts.old px.old py.old cycles.old steps.old bx.old by.old) script.now at (of_lists next.new count.new ids.new kinds.new starts.new ends.new bends.new counts.new px.new py.new cycles.new steps.new bx.new by.new) out.old out.new result }
 {
     if SCRIPT_MOST < script.len() {
         return too_long(at, out);

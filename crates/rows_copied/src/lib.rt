@@ -1,3 +1,5 @@
+#![tactic(auto)]
+
 ghost use Rattle.std.specs.Prelude.{◌≡◌, ◌+◌, ◌≤◌, take, drop, length};
 ghost use Rattle.complex.specs.Uses.{counting};
 ghost use Rattle.complex.specs.Unglue.{copy_of, new_lone};

@@ -1,3 +1,5 @@
+#![tactic(auto)]
+
 ghost use Rattle.std.specs.Prelude.{◌≡◌, not, map, ◌+◌, ◌<◌, ◌≤◌, length, take, drop};
 ghost use Rattle.complex.specs.Lists.{one};
 ghost use Rattle.complex.specs.Cells.{face};
@@ -7,7 +9,7 @@ ghost use Rattle.rows_corners.specs.Arcs.{arc_of, Arc, Pasted};
 use rows_spans::{Spans, Used};
 
 // A list of cycles in two number arrays.
-#[derive(Drop)]
+#[derive(Clone, Copy)]
 pub struct Listed {
     pub counts: [u32; 512],
     pub steps: [u32; 2048],

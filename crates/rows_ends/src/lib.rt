@@ -1,3 +1,5 @@
+#![tactic(auto)]
+
 // The ends of open edges at a vertex: their marks, and the copies of the vertex that they get.
 ghost use Rattle.std.specs.Prelude.{◌≡◌, ◌+◌, ◌*◌, ◌≤◌, ◌<◌, false, length};
 ghost use Rattle.complex.specs.Sound.{ids_end};

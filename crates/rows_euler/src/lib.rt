@@ -1,10 +1,12 @@
+#![tactic(auto)]
+
 ghost use Rattle.std.specs.Prelude.{◌≡◌, ◌≤◌, take, length};
 ghost use Rattle.std.proofs.Math.IntN.{sub_ℕ};
 ghost use Rattle.rows_marks.specs.Marks.{sum_of};
 ghost use Rattle.rows_euler.specs.Shares.{gain_in, loss_in, euler_in};
 
 // What Euler answers: its number, and the Euler number.
-#[derive(Drop)]
+#[derive(Clone, Copy)]
 pub struct EulerNumber {
     pub number: u32,
     pub value: i32,

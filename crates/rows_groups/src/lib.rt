@@ -1,3 +1,5 @@
+#![tactic(auto)]
+
 // Groups of places that links join: each gets a number, by a search along the links.
 ghost use Rattle.std.specs.Prelude.{◌≡◌, ◌+◌, ◌≤◌, ◌<◌, length};
 ghost use Rattle.rows_groups.specs.Search.{differs as differ, Links, FirstSplit, Reached, LinksReady, Sorting};

@@ -1,3 +1,5 @@
+#![tactic(auto)]
+
 // What a row says of a halfedge: where it begins, and whether a walk goes on with it.
 ghost use Rattle.std.specs.Prelude.{◌≡◌, ◌<◌, ◌≤◌, take, length};
 ghost use Rattle.complex.specs.Sound.{cells_most};

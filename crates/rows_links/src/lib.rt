@@ -1,3 +1,5 @@
+#![tactic(auto)]
+
 // Links between the places of edge ends: a link for each passage of a cycle from one step on to the next.
 ghost use Rattle.std.specs.Prelude.{◌≡◌, ◌+◌, ◌*◌, ◌≤◌, ◌<◌, false, map, length, take, get_or};
 ghost use Rattle.complex.specs.Lists.{one};

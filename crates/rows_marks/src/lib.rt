@@ -1,3 +1,5 @@
+#![tactic(auto)]
+
 ghost use Rattle.std.specs.Prelude.{◌≡◌, ◌+◌, ◌<◌, ◌≤◌, take, drop, length, map, ◌||◌};
 ghost use Rattle.complex.specs.Lists.{any};
 ghost use Rattle.complex.specs.Sound.{cells_most, cycles_most, steps_most};
@@ -149,7 +151,7 @@ fn cycle_marked(
 }
 
 // A face's mark, and the place after its steps.
-#[derive(Drop)]
+#[derive(Clone, Copy)]
 struct Walk {
     marked: bool,
     next: usize,

@@ -1,10 +1,12 @@
+#![tactic(auto)]
+
 ghost use Rattle.rows_new.specs.Runs.{run_at};
 
 use coordinate::Position;
 
 // Bends of a drawing: `count` places from `first` on, then the position `at` if `middle`, then `count2` places from
 // `first2` on; a run is taken back to front if it is turned.
-#[derive(Drop)]
+#[derive(Clone, Copy)]
 pub struct Runs {
     pub first: usize,
     pub count: usize,

@@ -1,10 +1,12 @@
+#![tactic(auto)]
+
 // The pieces of a drawing as ways up: each row leads to itself or to a row before it, and the rows of a piece to the lowest of them.
 ghost use Rattle.std.specs.Prelude.{◌≡◌, ◌+◌, ◌≤◌, ◌<◌, length};
 ghost use Rattle.complex.specs.Sound.{cells_most};
 ghost use Rattle.rows_pieces.specs.Ways.{Leads, Owns, Topped, Joins};
 
 // What `pieces` answers: its number, and how many pieces there are.
-#[derive(Drop)]
+#[derive(Clone, Copy)]
 pub struct PieceCount {
     pub number: u32,
     pub count: u32,

@@ -1,10 +1,12 @@
+#![tactic(auto)]
+
 ghost use Rattle.std.specs.Prelude.{◌≡◌, ◌≤◌, take, length, map};
 ghost use Rattle.complex.specs.Lists.{total};
 ghost use Rattle.store.specs.View.{halfedge_of, width, width_sum, cycle_of, cycles_from};
 ghost use Rattle.rows_sides.specs.Sides.{side_use, forward_use, backward_use, forward_in, backward_in};
 
 // How many steps of an edge there are in each direction.
-#[derive(Drop)]
+#[derive(Clone, Copy)]
 pub struct Sides {
     pub forward: usize,
     pub backward: usize,

@@ -1,3 +1,5 @@
+#![tactic(auto)]
+
 ghost use Rattle.std.specs.Prelude.{◌≡◌, true, false, ◌+◌, ◌<◌, ◌≤◌, take, length};
 ghost use Rattle.complex.specs.Lists.{total};
 ghost use Rattle.complex.specs.Sound.{cells_most, cycles_most, steps_most, bends_most};
@@ -121,7 +123,7 @@ pub fn dead_until(dead: &[bool], i: usize, n: usize) -> usize
 }
 
 // Dead rows up to mid, the living ones after them up to next, and how many places the dead and the living have.
-#[derive(Drop)]
+#[derive(Clone, Copy)]
 struct Stretch {
     mid: usize,
     next: usize,

@@ -1,3 +1,5 @@
+#![tactic(auto)]
+
 ghost use Rattle.std.specs.Prelude.{◌≡◌, ◌∷◌, [], ◌++◌, ◌+◌, ◌<◌, ◌≤◌, take, drop, set, length};
 ghost use Rattle.std.proofs.Math.Seq.{paste};
 ghost use Rattle.complex.specs.Cells.{lone};
@@ -7,7 +9,7 @@ ghost use Rattle.rows_spans.specs.Runs.{span_of, spans_of};
 ghost use Rattle.rows_spans.specs.Building.{Building, Built, built, more_cycle, Closes};
 
 // A run of places: where it begins, how many it has, and how many follow.
-#[derive(Drop)]
+#[derive(Clone, Copy)]
 pub struct Span {
     pub first: usize,
     pub count: usize,
@@ -56,7 +58,7 @@ pub fn span_of(z: usize, counts: &[u32], s: Span) -> Span
 }
 
 // The cycles and the steps of one cell.
-#[derive(Drop)]
+#[derive(Clone, Copy)]
 pub struct Spans {
     pub cycles: Span,
     pub steps: Span,
@@ -100,7 +102,7 @@ pub fn copy_run(src: &[u32], from: usize, n: usize, out: &mut [u32], at: usize) 
 }
 
 // How much of two number arrays a list of cycles under construction takes.
-#[derive(Drop)]
+#[derive(Clone, Copy)]
 pub struct Used {
     pub cycles: usize,
     pub steps: usize,

@@ -1,3 +1,5 @@
+#![tactic(auto)]
+
 ghost use Rattle.std.specs.Prelude.{◌≡◌, ◌+◌, ◌<◌, ◌≤◌, length, take, drop};
 ghost use Rattle.complex.specs.Lists.{one, distance};
 ghost use Rattle.store.specs.View.{width_sum};
@@ -7,7 +9,7 @@ use rows_corners::Listed;
 use rows_spans::Spans;
 
 // Where a cycle stands: its number of steps, 0 if it is a lone vertex, and the place of the first.
-#[derive(Drop)]
+#[derive(Clone, Copy)]
 pub struct Place {
     pub m: u32,
     pub at: usize,
@@ -43,7 +45,7 @@ pub fn between(m: usize, s: usize, t: usize) -> usize
 }
 
 // The cycles of two faces.
-#[derive(Drop)]
+#[derive(Clone, Copy)]
 pub struct Sides {
     pub old: Listed,
     pub new: Listed,

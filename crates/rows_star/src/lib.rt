@@ -1,3 +1,5 @@
+#![tactic(auto)]
+
 ghost use Rattle.std.specs.Prelude.{◌≡◌, ◌+◌, ◌<◌, ◌≤◌, take, drop, length, set, ◌++◌, cond};
 ghost use Rattle.complex.specs.Lists.{total};
 ghost use Rattle.complex.specs.Calls.{filled};
@@ -82,7 +84,7 @@ pub fn list_marked(ids: &[u32; 256], marks: &[bool; 256], n: usize, out: &mut [u
 }
 
 // What a call with a lent buffer answers: its number, and the count of places that it needs.
-#[derive(Drop)]
+#[derive(Clone, Copy)]
 pub struct Counted {
     pub number: u32,
     pub count: usize,

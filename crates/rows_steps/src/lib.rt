@@ -1,10 +1,12 @@
+#![tactic(auto)]
+
 ghost use Rattle.std.specs.Prelude.{◌≡◌, eqb, ◌+◌, ◌<◌, ◌≤◌, take, length, ◌∷◌, [], cond};
 ghost use Rattle.complex.specs.Lists.{one};
 ghost use Rattle.store.specs.Places.{bit};
 ghost use Rattle.rows_steps.specs.Swap.{swap_word, Wrote, one_for, two_for, none_for};
 
 // What the two steps of one edge become: n steps each, at most 2.
-#[derive(Drop)]
+#[derive(Clone, Copy)]
 pub struct Swap {
     pub fore: u32,
     pub back: u32,

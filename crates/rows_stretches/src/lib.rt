@@ -1,3 +1,5 @@
+#![tactic(auto)]
+
 ghost use Rattle.std.specs.Prelude.{◌≡◌, ◌+◌, ◌<◌, ◌≤◌};
 ghost use Rattle.complex.specs.Lists.{one, distance};
 ghost use Rattle.rows_stretches.specs.Paths.{all_but, between};
@@ -5,7 +7,7 @@ ghost use Rattle.rows_stretches.specs.Paths.{all_but, between};
 use rows_spans::Spans;
 
 // Steps one after another: len of the count steps of the cycle at a place, from one of them on and round the end.
-#[derive(Drop)]
+#[derive(Clone, Copy)]
 pub struct Stretch {
     pub at: usize,
     pub count: usize,
@@ -14,7 +16,7 @@ pub struct Stretch {
 }
 
 // One cycle of a face: where the face's cycles stand, which of them it is, how many steps it has and where they begin.
-#[derive(Drop)]
+#[derive(Clone, Copy)]
 pub struct Place {
     pub spans: Spans,
     pub cycle: usize,

@@ -1,3 +1,5 @@
+#![tactic(auto)]
+
 ghost use Rattle.std.specs.Prelude.{◌≡◌, ◌+◌, ◌<◌, ◌≤◌, take, length};
 ghost use Rattle.complex.specs.Lists.{total};
 ghost use Rattle.complex.specs.Uses.{step_use, ring_use, lone_use};
@@ -5,7 +7,7 @@ ghost use Rattle.store.specs.View.{width, width_sum, cycle_of, cycles_from};
 ghost use Rattle.rows_uses.specs.Uses.{uses_in};
 
 // What is copied with a use: a step of an open edge, a cycle of a closed edge, a lone cycle of a vertex.
-#[derive(Drop)]
+#[derive(Clone, Copy)]
 pub enum Use {
     Step,
     Ring,

@@ -8,7 +8,7 @@ use Rattle.complex.specs.Program.{run, commands_of}
 use Rattle.store.specs.View.{sheet_of}
 use Rattle.lent.specs.Arrays.{Arrays, held_by, sound_arrays}
 use Rattle.run_turns.specs.Runs.{run_from}
-use Rattle.std.specs.Demands.{Ends}
+use Rattle.register.specs.Demands.{Ends}
 use Rattle.run.specs.declared.Ran.{Ran}
 
 -- the run over the bytes from the arrays a leaves the arrays b after n commands

@@ -1,7 +1,9 @@
+#![tactic(auto)]
+
 // A script from the empty drawing. The drawing is in arrays of the function that begins the run.
 ghost use Rattle.std.specs.Prelude.{◌≡◌};
 ghost use Rattle.file_write.specs.Writes.{write_answered as written};
-ghost use Rattle.lent.specs.Arrays.{lent, entry, exit};
+ghost use Rattle.lent.specs.Arrays.{of_lists};
 ghost use Rattle.call_asked.specs.Entries.{EmptyIn};
 ghost use Rattle.run.specs.Runs.{RanOn, RanAll, saved_to};
 
@@ -9,7 +11,7 @@ use file_write::Written;
 use store::Drawing;
 
 // The drawing after a script's commands, and how many there were, one that is not read among them.
-#[derive(Drop)]
+#[derive(Clone, Copy)]
 pub struct Ran {
     pub drawing: Drawing,
     pub commands: usize,
@@ -34,8 +36,8 @@ fn run_on(
     by: &mut [f64; 2048],
     script: &[u8],
 ) -> usize
-    requires { EmptyIn (lent next.old count.old ids kinds starts ends bends counts px py cycles steps bx by) }
-    ensures { RanOn (entry next.old count.old ids kinds starts ends bends counts px py cycles steps bx by) script.now (exit next.new count.new ids kinds starts ends bends counts px py cycles steps bx by) result }
+    requires { EmptyIn (of_lists next.old count.old ids.old kinds.old starts.old ends.old bends.old counts.old px.old py.old cycles.old steps.old bx.old by.old) }
+    ensures { RanOn (of_lists next.old count.old ids.old kinds.old starts.old ends.old bends.old counts.old px.old py.old cycles.old steps.old bx.old by.old) script.now (of_lists next.new count.new ids.new kinds.new starts.new ends.new bends.new counts.new px.new py.new cycles.new steps.new bx.new by.new) result }
 {
     let mut at: usize = 0;
     let mut commands: usize = 0;

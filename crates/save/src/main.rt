@@ -1,21 +1,21 @@
-// Reads commands from standard input and writes the file of the drawing after them to standard output.
-use libc::STDERR_FILENO;
+#![tactic(auto)]
 
-fn main() {
+// Reads commands from standard input and writes the file of the drawing after them to standard output.
+fn main(rt: HostRuntime) {
     let mut script = printing::script_space();
-    let r = console::read_all(&mut script);
+    let r = console::read_all(&mut rt.reader(), &mut script);
     if r.failed {
-        io::write_all(STDERR_FILENO, b"save: cannot read standard input\n");
+        let _ = rt.eprintln("save: cannot read standard input");
         return;
     }
     let n = r.count;
     if 65536 < n {
-        io::write_all(STDERR_FILENO, b"too long\n");
+        let _ = rt.eprintln("too long");
         return;
     }
-    let mut file = io::large_buffer();
+    let mut file = [0u8; 65536];
     let w = run::save(&script[..n], &mut file);
-    if !console::give(&file, w.count) {
-        io::write_all(STDERR_FILENO, b"save: cannot write to standard output\n");
+    if !console::give(&rt, &file, w.count) {
+        let _ = rt.eprintln("save: cannot write to standard output");
     }
 }

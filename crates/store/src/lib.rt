@@ -1,3 +1,5 @@
+#![tactic(auto)]
+
 ghost use Rattle.std.specs.Prelude.{◌≡◌, ◌≤◌, take, length};
 ghost use Rattle.store.specs.View.{bend_count, cycle_count};
 ghost use Rattle.store.specs.Index.{Rising, row_of, value_at};
@@ -6,7 +8,7 @@ ghost use Rattle.store.specs.Edits.{places_of};
 use coordinate::Position;
 
 // What a cell is, and how many places of the arrays below are its.
-#[derive(Drop)]
+#[derive(Clone, Copy)]
 pub enum Shape {
     Vertex(Position),
     Open { start: u32, end: u32, bends: u32 },
@@ -14,7 +16,7 @@ pub enum Shape {
     Face { cycles: u32 },
 }
 
-#[derive(Drop)]
+#[derive(Clone, Copy)]
 pub struct Cell {
     pub id: u32,
     pub shape: Shape,
@@ -23,7 +25,7 @@ pub struct Cell {
 // A drawing in memory. The cells stand by rising id; the bends and the cycles of a cell follow those of the cells before
 // it, and so do the steps of a cycle. A cycle is its number of steps, 0 for a lone vertex, which takes one place of steps;
 // a step is 2 x id, plus 1 if backward. Nothing is stored that can be derived.
-#[derive(Drop)]
+#[derive(Clone, Copy)]
 pub struct Drawing {
     pub next: u32,
     pub count: usize,
@@ -64,7 +66,7 @@ pub fn cycle_count(s: Shape) -> u32
 }
 
 // A row of numbers for each cell.
-#[derive(Drop)]
+#[derive(Clone, Copy)]
 pub struct Index {
     pub ids: [u32; 256],
     pub kinds: [u32; 256],

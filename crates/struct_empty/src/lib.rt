@@ -1,3 +1,5 @@
+#![tactic(auto)]
+
 // The empty drawing, as a struct.
 ghost use Rattle.struct_empty.specs.Entries.{Empty};
 

@@ -1,3 +1,5 @@
+#![tactic(auto)]
+
 // The drawing of a file, as a struct.
 ghost use Rattle.file_read.specs.Outcome.{FileRead};
 

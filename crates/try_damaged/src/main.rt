@@ -1,7 +1,9 @@
+#![tactic(auto)]
+
 // Asks whether a sound drawing and damaged ones are sound, made by the lines of standard input, whose letters its first lines explain, and
 // prints a line for each: yes or no, and the count of cells visited.
 use coordinate::{Located, Position};
-use libc::{STDIN_FILENO, STDOUT_FILENO};
+use std::io;
 use store::{Cell, Drawing, Shape};
 
 // The number in four bytes, low byte first.
@@ -78,16 +80,12 @@ fn changed(d: Drawing, letter: u8, row: u8, a: u32, b: u32, c: u32, p: Position)
 // The drawing whose first n cells, up to 256, are vertices at zero, with ids from 1 on.
 fn crowd(d: Drawing, n: usize) -> Drawing {
     let mut e = d;
-    let mut i: usize = 0;
-    while i < 256 {
-        if i < n {
-            let at_zero = Shape::Vertex(Position { x: 0.0, y: 0.0 });
-            e.cells[i] = Cell {
-                id: i as u32 + 1,
-                shape: at_zero,
-            };
-        }
-        i = i + 1;
+    for i in 0..n.min(256) {
+        let at_zero = Shape::Vertex(Position { x: 0.0, y: 0.0 });
+        e.cells[i] = Cell {
+            id: i as u32 + 1,
+            shape: at_zero,
+        };
     }
     e.next = 257;
     e.count = n;
@@ -96,8 +94,8 @@ fn crowd(d: Drawing, n: usize) -> Drawing {
 
 // Whether two calls that ask question 1 say what the soundness test says; beside a 1 the count of pieces is 0.
 fn agree(sound: bool, d: Drawing) -> bool {
-    let a = core::euler(d);
-    let p = core::pieces(d);
+    let a = register::euler(d);
+    let p = register::pieces(d);
     if sound {
         return a.number == 0 && p.number == 0;
     }
@@ -105,43 +103,25 @@ fn agree(sound: bool, d: Drawing) -> bool {
 }
 
 // Whether the drawing is sound, and the count of cells visited. A call that asks question 1 must say the same.
-fn tell(text: &[u8], d: Drawing) {
-    io::write_all(STDOUT_FILENO, text);
-    let v = core::check(d);
+fn tell(rt: &impl Print, text: &[u8], d: Drawing) -> io::Result<()> {
+    rt.write_all(text)?;
+    let v = register::check(d);
     if v.sound {
-        io::write_all(STDOUT_FILENO, b" yes");
+        print!(rt; " yes")?;
     } else {
-        io::write_all(STDOUT_FILENO, b" no");
+        print!(rt; " no")?;
     }
-    try_text::tell(v.visited as u64);
+    try_text::tell(rt, v.visited as u64)?;
     if !agree(v.sound, d) {
-        io::write_all(STDOUT_FILENO, b" (question 1 is answered otherwise)");
+        print!(rt; " (question 1 is answered otherwise)")?;
     }
-    io::write_all(STDOUT_FILENO, b"\n");
+    println!(rt)
 }
 
-// The drawing after a line: with one value changed, or the whole one again after a question.
-fn try_line(whole: Drawing, d: Drawing, line: &[u8]) -> Drawing {
-    let end = bytes::scan::find(line, 0, line.len(), b':');
-    if line.len() <= end {
-        return d;
-    }
-    if end == 0 {
-        return d;
-    }
-    let letter = line[0];
-    if letter == b'#' {
-        return d;
-    }
-    if letter == b'e' {
-        return core::empty();
-    }
-    if letter == b'?' {
-        tell(&line[2..end + 1], d);
-        return whole;
-    }
-    let mut space = io::buffer();
-    let n = try_text::bytes_of(&line[end + 1..], &mut space);
+// The drawing with the value changed that a letter and bytes in hexadecimal name.
+fn changed_by(d: Drawing, letter: u8, text: &[u8]) -> Drawing {
+    let mut space = [0u8; 4096];
+    let n = try_text::bytes_of(text, &mut space);
     let row = space[0];
     let a = number(space[1], space[2], space[3], space[4]);
     let b = number(space[5], space[6], space[7], space[8]);
@@ -150,27 +130,44 @@ fn try_line(whole: Drawing, d: Drawing, line: &[u8]) -> Drawing {
     changed(d, letter, row, a, b, c, p)
 }
 
-// The drawing after the lines.
-fn try_lines(whole: Drawing, s: &[u8]) -> Drawing {
-    let mut d = whole;
-    let mut at: usize = 0;
-    while at < s.len() {
-        let end = bytes::scan::find(s, at, s.len(), b'\n');
-        d = try_line(whole, d, &s[at..end]);
-        if s.len() <= end {
-            return d;
-        }
-        at = end + 1;
+// The drawing after a line: with one value changed, or the whole one again after a question.
+fn try_line(rt: &impl Print, whole: Drawing, d: Drawing, line: &[u8]) -> io::Result<Drawing> {
+    let Some(end) = line.iter().position(|b| *b == b':') else {
+        return Ok(d);
+    };
+    if end == 0 {
+        return Ok(d);
     }
-    d
+    let letter = line[0];
+    if letter == b'#' {
+        return Ok(d);
+    }
+    if letter == b'e' {
+        return Ok(register::empty());
+    }
+    if letter == b'?' {
+        tell(rt, &line[2..end + 1], d)?;
+        return Ok(whole);
+    }
+    Ok(changed_by(d, letter, &line[end + 1..]))
+}
+
+// The drawing after the lines.
+fn try_lines(rt: &impl Print, whole: Drawing, s: &[u8]) -> io::Result<Drawing> {
+    let mut d = whole;
+    for line in s.split(|b| *b == b'\n') {
+        d = try_line(rt, whole, d, line)?;
+    }
+    Ok(d)
 }
 
 // The lines before the first `=` make the whole drawing of the empty one.
-fn main() {
-    let mut space = io::large_buffer();
-    let n = io::read_full(STDIN_FILENO, &mut space);
+fn main(rt: HostRuntime) -> io::Result<()> {
+    let mut space = [0u8; 65536];
+    let n = console::read_all(&mut rt.reader(), &mut space).count;
     let s = &space[..n];
-    let cut = bytes::scan::find(s, 0, s.len(), b'=');
-    let whole = try_lines(core::empty(), &s[0..cut]);
-    try_lines(whole, &s[cut..]);
+    let cut = s.iter().position(|b| *b == b'=').unwrap_or(n);
+    let whole = try_lines(&rt, register::empty(), &s[..cut])?;
+    try_lines(&rt, whole, &s[cut..])?;
+    Ok(())
 }

@@ -1,36 +1,50 @@
+#![tactic(auto)]
+
 // Replays scripts: what is printed for each, and the file of the drawing at the end, against what is stored. The arguments
 // name three files of the data folder for each script: the script, what is printed, the drawing's file.
-ghost use Rattle.lent.specs.Arrays.{lent};
+ghost use Rattle.std.specs.Prelude.{◌≤◌, length};
+ghost use Rattle.lent.specs.Arrays.{of_lists};
 ghost use Rattle.call_asked.specs.Entries.{EmptyIn};
-ghost use Rattle.io.specs.Counts.{IsPrefixLen};
 
-use libc::STDOUT_FILENO;
+use std::env::{Env, FillError};
+use std::io;
+use std::rt::Files;
 
 // Of the scripts replayed so far: how many, their commands, and how many texts and files differ from what is stored.
-#[derive(Drop)]
+#[derive(Clone, Copy)]
 struct Tally {
     scripts: u64,
     commands: u64,
     differ: u64,
 }
 
+// How many arguments there are, the name of the program among them.
+fn count_arguments(rt: &impl Env) -> usize {
+    let mut text = [0u8; 4096];
+    for i in 0..usize::MAX {
+        if let Err(FillError::NotPresent) = rt.arg(i, &mut text) {
+            return i;
+        }
+    }
+    usize::MAX
+}
+
 // Reads the file that an argument names into space, and answers how many bytes it has.
-fn load(argument: usize, space: &mut [u8]) -> usize
-    ensures { IsPrefixLen result space.new }
+fn load(rt: &(impl Env + Files + Eprint), argument: usize, space: &mut [u8]) -> usize
+    ensures { result ≤ length space.new }
 {
-    let mut name = io::buffer();
-    let k = os::arg(argument, &mut name);
-    try_text::load(&name[..k], space)
+    let mut name = [0u8; 4096];
+    let k = rt.arg(argument, &mut name).unwrap_or(0);
+    try_text::load(rt, &name[..k], space)
 }
 
 // One more where what was made is not what the argument's file stores.
-fn differing(argument: usize, same: bool, differ: u64) -> u64 {
+fn differing(rt: &impl Print, argument: usize, same: bool, differ: u64) -> io::Result<u64> {
     if same {
-        return differ;
+        return Ok(differ);
     }
-    io::print_decimal(STDOUT_FILENO, argument as u64);
-    io::write_all(STDOUT_FILENO, b": the argument's file differs\n");
-    std::num::wrapping_add_u64(differ, 1)
+    println!(rt; "{argument}: the argument's file differs")?;
+    Ok(differ.wrapping_add(1))
 }
 
 // Whether what is printed for a script from the empty drawing, a piece at a time, is what is stored.
@@ -52,9 +66,9 @@ fn same_text(
     script: &[u8],
     stored: &[u8],
 ) -> bool
-    requires { EmptyIn (lent next.old count.old ids kinds starts ends bends counts px py cycles steps bx by) }
+    requires { EmptyIn (of_lists next.old count.old ids.old kinds.old starts.old ends.old bends.old counts.old px.old py.old cycles.old steps.old bx.old by.old) }
 {
-    let mut out = io::buffer();
+    let mut out = [0u8; 4096];
     let mut at: usize = 0;
     let mut from: usize = 0;
     loop {
@@ -65,7 +79,7 @@ fn same_text(
         if !try_text::stands(&out, p.count, stored, from) {
             return false;
         }
-        from = std::num::wrapping_add_usize(from, p.count);
+        from = from.wrapping_add(p.count);
         if p.last {
             return from == stored.len();
         }
@@ -110,65 +124,65 @@ fn same_printed(script: &[u8], stored: &[u8]) -> bool {
 }
 
 // The drawing's file after a script, against the stored one. Zeros follow each in its buffer.
-fn replay_file(script: &[u8], argument: usize, t: Tally) -> Tally {
+fn replay_file(
+    rt: &(impl Env + Files + Print + Eprint),
+    script: &[u8],
+    argument: usize,
+    t: Tally,
+) -> io::Result<Tally> {
     let r = run::run(script);
-    let d = r.drawing;
-    let mut made = io::large_buffer();
-    let w = core::write(d, &mut made);
-    let mut stored = io::large_buffer();
-    let n = load(argument, &mut stored);
-    let mut same = false;
-    if w.number == 0 {
-        if w.count == n {
-            same = check::same(&made, &stored);
-        }
-    }
-    Tally {
+    let mut made = [0u8; 65536];
+    let w = register::write(r.drawing, &mut made);
+    let mut stored = [0u8; 65536];
+    let n = load(rt, argument, &mut stored);
+    let same = w.number == 0 && w.count == n && made == stored;
+    Ok(Tally {
         scripts: t.scripts,
-        commands: std::num::wrapping_add_u64(t.commands, r.commands as u64),
-        differ: differing(argument, same, t.differ),
-    }
+        commands: t.commands.wrapping_add(r.commands as u64),
+        differ: differing(rt, argument, same, t.differ)?,
+    })
 }
 
 // Replays a script. One that is too long has no drawing.
-fn replay(script: usize, printed: usize, stored: usize, t: Tally) -> Tally {
+fn replay(
+    rt: &(impl Env + Files + Print + Eprint),
+    script: usize,
+    printed: usize,
+    stored: usize,
+    t: Tally,
+) -> io::Result<Tally> {
     let mut space = printing::script_space();
-    let n = load(script, &mut space);
-    let mut text = io::large_buffer();
-    let k = load(printed, &mut text);
+    let n = load(rt, script, &mut space);
+    let mut text = [0u8; 65536];
+    let k = load(rt, printed, &mut text);
     let same = same_printed(&space[..n], &text[..k]);
     let t = Tally {
-        scripts: std::num::wrapping_add_u64(t.scripts, 1),
+        scripts: t.scripts.wrapping_add(1),
         commands: t.commands,
-        differ: differing(printed, same, t.differ),
+        differ: differing(rt, printed, same, t.differ)?,
     };
     if 65536 < n {
-        return t;
+        return Ok(t);
     }
-    replay_file(&space[..n], stored, t)
+    replay_file(rt, &space[..n], stored, t)
 }
 
-fn replay_all() -> Tally {
+fn replay_all(rt: &(impl Env + Files + Print + Eprint)) -> io::Result<Tally> {
     let mut t = Tally {
         scripts: 0,
         commands: 0,
         differ: 0,
     };
-    let n = os::arg_count() / 3;
-    let mut i: usize = 0;
-    while i < n {
-        t = replay(3 * i + 1, 3 * i + 2, 3 * i + 3, t);
-        i = i + 1;
+    for i in 0..count_arguments(rt) / 3 {
+        t = replay(rt, 3 * i + 1, 3 * i + 2, 3 * i + 3, t)?;
     }
-    t
+    Ok(t)
 }
 
-fn main() {
-    let t = replay_all();
-    io::print_decimal(STDOUT_FILENO, t.scripts);
-    io::write_all(STDOUT_FILENO, b" scripts, ");
-    io::print_decimal(STDOUT_FILENO, t.commands);
-    io::write_all(STDOUT_FILENO, b" commands, ");
-    io::print_decimal(STDOUT_FILENO, t.differ);
-    io::write_all(STDOUT_FILENO, b" differ\n");
+fn main(rt: HostRuntime) -> io::Result<()> {
+    let t = replay_all(&rt)?;
+    let scripts = t.scripts;
+    let commands = t.commands;
+    let differ = t.differ;
+    println!(rt; "{scripts} scripts, {commands} commands, {differ} differ")
 }

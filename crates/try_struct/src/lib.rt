@@ -1,3 +1,5 @@
+#![tactic(auto)]
+
 // The calls on a struct, for a program that tries them from outside.
 
 // Room for the longest file of a sound drawing.
@@ -14,16 +16,16 @@ pub extern "C" fn ds_command(
     out: &mut [u8],
     bytes: &mut u32,
 ) -> u32 {
-    let f = core::read(file);
+    let f = register::read(file);
     if f.number != 0 {
         return f.number;
     }
-    let a = core::command(f.drawing, script);
+    let a = register::command(f.drawing, script);
     line[0] = a.number;
     line[1] = a.first;
     line[2] = a.new;
     line[3] = a.removed;
-    let w = core::write(a.drawing, out);
+    let w = register::write(a.drawing, out);
     if w.count <= FILE_MOST {
         *bytes = w.count as u32;
     }

@@ -1,6 +1,8 @@
+#![tactic(auto)]
+
 // The calls that a caller makes. Each takes any struct and any bytes, and asks nothing of them beforehand. A struct is taken apart into
 // arrays, the call is made on the arrays, and the struct is put together again.
-ghost use Rattle.core.specs.Prelude.{◌≡◌};
+ghost use Rattle.std.specs.Prelude.{◌≡◌};
 ghost use Rattle.sound.specs.Visits.{check_of};
 ghost use Rattle.rows_star.specs.Calls.{star_answered as queried, star_of};
 ghost use Rattle.rows_euler.specs.Calls.{euler_answered, euler_of};
@@ -9,7 +11,7 @@ ghost use Rattle.file_write.specs.Writes.{write_answered as written, write_of};
 ghost use Rattle.file_read.specs.Outcome.{FileRead};
 ghost use Rattle.entry_check.specs.Verdicts.{verdict_by};
 ghost use Rattle.struct_empty.specs.Entries.{Empty};
-ghost use Rattle.core.specs.Entries.{Commanded, rest_of};
+ghost use Rattle.register.specs.Entries.{Commanded, rest_of};
 
 use answer::Answer;
 use entry_check::Verdict;

@@ -1,5 +1,5 @@
 -- Demand 3 of the entries. Definitions only.
-use Rattle.core.specs.Prelude.{ℕ, List, ℤ}
+use Rattle.std.specs.Prelude.{ℕ, List, ℤ}
 use Rattle.complex.specs.Demands.{Step, Each}
 use Rattle.demands.specs.Lists.{Calls, AfterCalls}
 use Rattle.demands.specs.Lists as lists
@@ -10,7 +10,7 @@ use Rattle.rows_star.specs.Calls.{star_of}
 use Rattle.rows_euler.specs.Calls.{euler_of}
 use Rattle.answer.specs.declared.Answer.{Answer}
 use Rattle.struct_empty.specs.Entries.{Empty}
-use Rattle.core.specs.Entries.{Commanded}
+use Rattle.register.specs.Entries.{Commanded}
 
 -- any bytes, with what the entry answered to them
 pub record Call : Type 0 where

@@ -1,5 +1,5 @@
 -- What the entries give for any struct. Definitions only.
-use Rattle.core.specs.Prelude.{◌≡◌, ℕ, cond, T, List, ◌≢◌}
+use Rattle.std.specs.Prelude.{◌≡◌, ℕ, cond, T, List, ◌≢◌}
 use Rattle.complex.specs.Answer.{Answer as Said, no, command, rest}
 use Rattle.store.specs.declared.Drawing.{Drawing}
 use Rattle.store.specs.View.{sheet_of}
