@@ -52,7 +52,7 @@ module _ {A : Type 0} {r : List ℕ → Read A} {s : List ℕ} {at n : ℕ} {b :
   walked_as e f {w = No} h = record { says = sym e ∙ h.says }
 
 -- ---- a question about each thing of a list, asked of the first thing by itself
-module _ {A : Type 0} {r : List ℕ → Read A} {s : List ℕ} {at n place left : ℕ} {p : A → Bool} {b : Bool}
+module _ {A : Type 0} (p : A → Bool) {r : List ℕ → Read A} {s : List ℕ} {at n place left : ℕ} {b : Bool}
     (a : Asking r s at n place left (all p) b) (L : Leaves r) (some : 0 < left) where
   one_answer : {x : A} {next : ℕ} → FieldAt r s place x next → p x ≡ all p (things_read r s place 1)
   one_answer {x} f = and_none (p x) ∙ sym (ap (all p) (field_list f))

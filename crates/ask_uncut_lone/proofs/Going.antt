@@ -113,7 +113,7 @@ module _ (d : Drawing) (z : Sizes d) (w : T (sound_drawing d)) (v : ℕ) (e : un
           place_below =
               let a = at_length d.cycles d.steps t s.within in
               let b = ap length (s.list ∙ cycles_of_lem) in
-              let p = o.place_in in
+              let p = o.place_in_lem in
               omega arith
 
           -- ---- the result

@@ -18,11 +18,12 @@ use Rattle.complex.specs.Cells.{head_of, bends_of, cycles_of, position_of}
 use Rattle.complex.specs.Sound.{double, figure_double, doubles, sound}
 use Rattle.complex.specs.Decode.{Command, create, move, delete, glue_vertices, glue_edges, unglue, cut_edge, cut_face_vertex, cut_face_open, cut_face_closed}
 use Rattle.complex.specs.Decode.{uncut}
-use Rattle.complex.specs.Edits.{keep_ids, reshape, numbered, rebuild, every_id, others, as_it_is, replaced}
+use Rattle.complex.specs.Edits.{keep_ids, reshape, numbered, rebuild, every_id, others, neither, none_of, as_it_is, replaced, rewired, same_vertex, in_place_of}
+use Rattle.complex.specs.Glue.{renamed}
 use Rattle.complex.specs.Uses.{on_uses}
 use Rattle.complex.specs.Unglue.{new_ends, copies, parts, ungluing}
-use Rattle.complex.specs.Cut.{points, cut_place, bends_before, bends_after, bends_round, cut_figure, split_in_two, bridged}
-use Rattle.complex.specs.Uncut.{Uncut, refused, lonely, loop, joint, two_faces, one_cycle, rings, without_lone, bends_along, joined, uncut_result, uncut_case}
+use Rattle.complex.specs.Cut.{points, cut_place, bends_before, bends_after, bends_round, in_two, cut_figure, split_in_two, bridged}
+use Rattle.complex.specs.Uncut.{Uncut, refused, lonely, loop, joint, two_faces, one_cycle, rings, without_lone, bends_along, joined, in_one, uncut_result, uncut_case}
 use Rattle.complex.specs.Commands.{positions, result}
 use Rattle.complex.specs.Answer.{Answer, renewed, command}
 use Rattle.complex.specs.Demands.{command_step, after}
@@ -158,7 +159,7 @@ module _ (s : Sheet) (S : T (doubles s)) where
       let v = vertex (cut_place (cell_at s) (some (open_edge a b bs)) q) in
       let x = open_edge a s.next (bends_before bs q) in
       let y = open_edge s.next b (bends_after bs q) in
-      rebuild_doubles (others e) _ (v ∷ x ∷ y ∷ []) s (double_rewired _ _)
+      rebuild_doubles (others e) (rewired same_vertex (in_two e (suc s.next) (suc (suc s.next)))) (v ∷ x ∷ y ∷ []) s (double_rewired same_vertex (in_two e (suc s.next) (suc (suc s.next))))
       (pair (figure_double v) (all figure_double (x ∷ y ∷ [])) (cut_double (cell_at s) (some (open_edge a b bs)) q h)
       (both_double x y (all_take double (q / 2) bs h) (all_drop double (q / 2 + q % 2) bs h))) S
   cut_kept e q (some (closed_edge bs)) h =
@@ -166,7 +167,7 @@ module _ (s : Sheet) (S : T (doubles s)) where
       let x = open_edge s.next s.next (bends_round bs q) in
       let m = q / 2 + 1 in
       let n = q / 2 + (1 - q % 2) in
-      rebuild_doubles (others e) _ (v ∷ x ∷ []) s (double_rewired _ _)
+      rebuild_doubles (others e) (rewired same_vertex (in_place_of e (suc s.next) false)) (v ∷ x ∷ []) s (double_rewired same_vertex (in_place_of e (suc s.next) false))
       (both_double v x (cut_double (cell_at s) (some (closed_edge bs)) q h)
       (all_append double (drop m bs) (take n bs) (all_drop double m bs h) (all_take double n bs h))) S
   cut_kept e q (some (face ks)) h = S
@@ -209,12 +210,12 @@ module _ (s : Sheet) (S : T (doubles s)) where
       let p = position_of (cell_at s i) in
       let bs = bends_of (cell_at s e) in
       let x = closed_edge (p ∷ bs) in
-      rebuild_doubles _ _ (one x) s (double_rewired _ _)
+      rebuild_doubles (neither i e) (rewired same_vertex (in_place_of e s.next false)) (one x) s (double_rewired same_vertex (in_place_of e s.next false))
       (single_double x (pair (double p) (all double bs) (place_at_lem (cell_at s i) (double_at s i S)) (bends_at (cell_at s e) (double_at s e S)))) S
   uncut_kept i (joint h k) =
       let p = position_of (cell_at s i) in
       let x = joined (cell_at s) p h k in
-      rebuild_doubles _ _ (one x) s (double_rewired _ _) (single_double x (joined_double p h k (place_at_lem (cell_at s i) (double_at s i S)))) S
+      rebuild_doubles (none_of i h.edge k.edge) (rewired same_vertex (in_one h.edge k.edge s.next)) (one x) s (double_rewired same_vertex (in_one h.edge k.edge s.next)) (single_double x (joined_double p h k (place_at_lem (cell_at s i) (double_at s i S)))) S
   uncut_kept i (two_faces u w) = rebuild_doubles _ _ [] s (replaced_steady _ _ tt) tt S
   uncut_kept i (one_cycle u w) = rebuild_doubles _ _ [] s (replaced_steady _ _ tt) tt S
   uncut_kept i (rings u w) = rebuild_doubles _ _ [] s (replaced_steady _ _ tt) tt S
@@ -239,8 +240,9 @@ module _ (s : Sheet) (S : T (doubles s)) where
   result_doubles (create x) t = rebuild_doubles every_id as_it_is (one x) s as_steady (single_double x (figure_from x t)) S
   result_doubles (move v p) t = rebuild_doubles every_id (replaced v (vertex p)) [] s (replaced_steady v (vertex p) (both (double p) true t).0) tt S
   result_doubles (delete i) t = rebuild_doubles _ as_it_is [] s as_steady tt S
-  result_doubles (glue_vertices a b) t = rebuild_doubles _ _ [] s (double_rewired _ _) tt S
-  result_doubles (glue_edges a b flag) t = rebuild_doubles _ _ [] s (double_rewired _ _) tt S
+  result_doubles (glue_vertices a b) t = rebuild_doubles (others b) (rewired (renamed a b) one) [] s (double_rewired (renamed a b) one) tt S
+  result_doubles (glue_edges a b flag) t =
+      rebuild_doubles (others b) (rewired same_vertex (in_place_of b a (eqb flag 1))) [] s (double_rewired same_vertex (in_place_of b a (eqb flag 1))) tt S
   result_doubles (unglue i) t =
       let o = cell_at s i in
       let n = parts s.cells i o in

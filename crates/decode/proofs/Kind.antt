@@ -2,7 +2,7 @@
 use mathlib.Core.Path.{◌≡◌, refl, sym, ap, ◌∙◌}
 use mathlib.Core.Logic.{◌⊎◌, ⊎_elim}
 use mathlib.Core.List.{List, [], ◌∷◌}
-use Prim.Native.Nat.{ℕ, suc, ◌≤◌}
+use Prim.Native.Nat.{ℕ, ◌≤◌}
 use native.Mathlib.Omega.{arith}
 use lib.ListN.{length, get_or, drop, get_or-eq_default}
 use Rattle.number.specs.Readers.{Read, bad}
@@ -30,9 +30,6 @@ pub no_field : (s : List ℕ) → (length s ≡ 0 → ⊥) → Decodes s 1 (get_
 no_field s some = record { answer = refl; ends = record { after = omega arith; fits = omega arith; lists = tt } }
 
 -- ---- a byte that is no kind
-pub above : (n : ℕ) {k : ℕ} → n ≤ k → (k ≡ n → ⊥) → suc n ≤ k
-above n l z = omega arith
-
 no_kind : (k : ℕ) → (k ≡ 0) ⊎ (16 ≤ k) → get_or kinds k unreadable ≡ unreadable
 no_kind k h = ⊎_elim (λ e. ap (λ (i : ℕ). get_or kinds i unreadable) e) (λ l. get_or-eq_default kinds unreadable l) h
 

@@ -62,8 +62,7 @@ cells_double (c ∷ cs) ks bs t u =
     (cells_double cs (drop (cycle_count s) ks) (drop (bend_count s) bs) b.1 (all_drop double (bend_count s) bs u))
 
 -- ---- of what lies in memory
-bends_held : (ps : List Position) (us : List Val) → shadow (each (position.the_field).row.Denot (position.the_field).row.own_val
-    (map (position.the_field).into ps) us) → T (all double ps)
+bends_held : (ps : List Position) (us : List Val) → shadow (each (position.the_row).Denot (position.the_row).own_val ps us) → T (all double ps)
 bends_held [] us h = tt
 bends_held (p ∷ ps) [] h = absurd h
 bends_held (p ∷ ps) (u ∷ us) h = pair (double p) (all double ps) (fits_double p (held p (u ∷ []) h.0)) (bends_held ps us h.1)
@@ -74,7 +73,7 @@ shape_held (Open s e n) vs h = tt
 shape_held (Closed n) vs h = tt
 shape_held (Face k) vs h = tt
 
-cells_held : (cs : List Cell) (us : List Val) → shadow (each (cell.the_field).row.Denot (cell.the_field).row.own_val (map (cell.the_field).into cs) us)
+cells_held : (cs : List Cell) (us : List Val) → shadow (each (cell.the_row).Denot (cell.the_row).own_val cs us)
     → T (all (λ (c : Cell). shape_double c.shape) cs)
 cells_held [] us h = tt
 cells_held (c ∷ cs) [] h = absurd h

@@ -36,9 +36,9 @@ module _ (a : Arrays) (e n : ℕ) (flip : Bool) (t : Swap) (et : t ≡ one_for e
       let z = held_sizes a l in
       let c : t.n ≡ 1 = ap (λ (y : Swap). y.n) et in
       let real = subst (λ (σ : Halfedge → List Halfedge). all_real (spread entry_cycles (reshape (rewired same_vertex σ) (sheet_of d).cells)) ≡ true) (sym half)
-      (real_with d z f _ (one_some e n flip)) in
+      (real_with d z f (in_place_of e n flip) (one_some e n flip)) in
       let room = subst (λ (σ : Halfedge → List Halfedge). over steps_in (reshape (rewired same_vertex σ) (sheet_of d).cells) ≤ 2048) (sym half)
-      (room_with d z f _ (one_few e n flip)) in
+      (room_with d z f (in_place_of e n flip) (one_few e n flip)) in
       (f, (l, (ek, (omega (arith, c), (real, (room, (em, inl (omega (arith, c), refl))))))))
 
   pub one_swapped : (b : Arrays) → SwappedIn t a b

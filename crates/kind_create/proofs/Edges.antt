@@ -1,9 +1,8 @@
 -- A new edge: refused for its bends; or, where 3 to 6 got a yes and n is what 7 and 8 say, refused, or with room it comes. Assumes nothing.
 use Prim.Native.Nat.{ℕ, ◌+◌, ◌<◌, ◌≤◌}
 use native.Mathlib.Omega.{arith}
-use borrow.Author.Tests.{not-true}
 use mathlib.Core.Path.{◌≡◌, refl, sym, ◌∙◌}
-use mathlib.Core.Bool.{Bool, true, not}
+use mathlib.Core.Bool.{Bool, false}
 use mathlib.Core.List.{List}
 use lib.Ieee.{Float}
 use lib.ListN.{length}
@@ -32,9 +31,9 @@ use Rattle.kernel_add.proofs.Put.{with_placed, placed_long, open_grew, closed_gr
 use Rattle.kind_create.specs.Edges.{EdgeRow, open_row, closed_row, edge_by}
 
 -- b is what `bends_within` says of the positions of q
-pub bends_out : (a : Arrays) (t : Totals) → Ready a t → (q : Command) (b : Bool) → b ≡ all within (positions q) → not b ≡ true → (l : Line) → l ≡ line_of 3
+pub bends_out : (a : Arrays) (t : Totals) → Ready a t → (q : Command) (b : Bool) → b ≡ all within (positions q) → b ≡ false → (l : Line) → l ≡ line_of 3
     → Obeyed a q a l
-bends_out a t r q b e n l el = ready_no a t r q 3 l el (no_3 _ q (out_bends q (sym e ∙ not-true b n)))
+bends_out a t r q b e n l el = ready_no a t r q 3 l el (no_3 _ q (out_bends q (sym e ∙ n)))
 
 module _ (a : Arrays) (t : Totals) (r : Ready a t) (bs : List Position) (k : ℕ) (lk : length bs ≡ k) (m : ℕ) (em : m ≡ k) (n : ℕ)
     (en : n ≡ late_no a.next 1 (changed_by (sizes_by t) (more_less (sized 1 0 0 m) nothing))) where

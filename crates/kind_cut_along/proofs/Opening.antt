@@ -1,9 +1,9 @@
 -- 0C in lent arrays: questions 3 to 5. Assumes nothing.
 use Prim.Native.Nat.{ℕ, ◌+◌, ◌*◌, ◌<◌, ◌≤◌}
 use mathlib.Core.Path.{◌≡◌, refl, sym, ap, subst, ◌∙◌}
-use mathlib.Core.Bool.{Bool, true, false, not, ◌&&◌}
+use mathlib.Core.Bool.{Bool, true, false, ◌&&◌}
 use mathlib.Core.List.{List}
-use borrow.Author.Tests.{eq-eqb, ne_eqb, not-true, not-false}
+use borrow.Author.Tests.{eq-eqb, ne_eqb}
 use lib.Dec.{eqb}
 use lib.ListN.{length, take}
 use Rattle.number.specs.Readers.{all}
@@ -46,9 +46,9 @@ corners_are look ks c1 s1 c2 s2 ms n en true true ex ey = both_there look ks c1 
 
 -- b is what question 5 says: on a no its line is the answer, and else questions 3 to 6 got a yes
 pub record Five (a : Arrays) (t : Totals) (script : List ℕ) (f : ℕ) (s : Spans) (c1 s1 c2 s2 k first moved place : ℕ) (b : Bool) : Type 0 where
-  pub refused : not b ≡ true → (l : Line) → l ≡ line_of 5
+  pub refused : b ≡ false → (l : Line) → l ≡ line_of 5
       → Obeyed a (cut_face_open f c1 s1 c2 s2 (positions_at script first k) (numbers_read script place moved)) a l
-  pub passes : not b ≡ false → Asks a t script f s c1 s1 c2 s2 k first moved place
+  pub passes : b ≡ true → Asks a t script f s c1 s1 c2 s2 k first moved place
 
 module _ (a : Arrays) (t : Totals) (y : Ready a t) (script : List ℕ) (f c1 s1 c2 s2 k first moved place : ℕ) where
   abbrev cut : Command
@@ -111,12 +111,12 @@ module _ (a : Arrays) (t : Totals) (y : Ready a t) (script : List ℕ) (f c1 s1 
                     refused =
                         λ nb l el. ready_no a t y cut 5 l el
                         (no_corner (sheet_of (held_by a)) f c1 s1 c2 s2 (positions_at script first k) (numbers_read script place moved) q named.face
-                        (told ∙ not-true b nb));
+                        (told ∙ nb));
                     passes =
                         λ nb. record {
                           ready = y;
                           spans = es ∙ ap (λ (r : ℕ). spans_of a.counts t.cells r a.cycles) er;
                           bounds = q;
-                          along = record { sound = ready_drawing a t y; named = named; bytes = h; stand = w; corners = told ∙ not-false b nb };
+                          along = record { sound = ready_drawing a t y; named = named; bytes = h; stand = w; corners = told ∙ nb };
                         };
                   }

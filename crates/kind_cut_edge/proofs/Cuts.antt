@@ -39,10 +39,10 @@ module _ (a : Arrays) (l : Lengths a) (w : T (sound_arrays a)) (e q : ℕ) (r : 
       → (a.next ≤ 65536) × ((e < 65536) × ((r.m ≤ 2048) × ((o ≡ true → q / 2 + q % 2 ≤ r.m) × (o ≡ false → q / 2 < r.m))))
   parts_asks true g =
       let place = opens.place_in a l w e q r g in
-      (next_in_lem (held_by a) (drawing_of a w), (opens.edge_in a l w e q r g, (omega (arith, g.cuts.range), (λ z. place, λ z. absurd (false≢true (sym z))))))
+      (next_in_lem (held_by a) (drawing_of a w), (opens.edge_in_lem a l w e q r g, (omega (arith, g.cuts.range), (λ z. place, λ z. absurd (false≢true (sym z))))))
   parts_asks false g =
       let place = rings.place_in a l w e q r g in
-      (next_in_lem (held_by a) (drawing_of a w), (rings.edge_in a l w e q r g, (omega (arith, g.cuts.range), (λ z. absurd (false≢true z), λ z. place))))
+      (next_in_lem (held_by a) (drawing_of a w), (rings.edge_in_lem a l w e q r g, (omega (arith, g.cuts.range), (λ z. absurd (false≢true z), λ z. place))))
 
   swaps : (o : Bool) → Goes o a e q r → (t : Swap) → t ≡ (parts o).swap → SwapAsks a r.cycles r.steps r.uses t
   swaps true g = opens.swap_asks a l w e q r g

@@ -121,9 +121,9 @@ module _ (a : Arrays) (t : Totals) (y : Ready a t) where
       let h : swap_half s ≡ in_place_of b e flip = ap swap_half es ∙ one_for_lem b e flip in
       let n : s.n ≡ 1 = ap (λ (k : Swap). k.n) es in
       let real = subst (λ (σ : Halfedge → List Halfedge). all_real (spread entry_cycles (reshape (rewired same_vertex σ) (sheet_of d).cells)) ≡ true) (sym h)
-      (real_with d z f _ (one_some b e flip)) in
+      (real_with d z f (in_place_of b e flip) (one_some b e flip)) in
       let room = subst (λ (σ : Halfedge → List Halfedge). over steps_in (reshape (rewired same_vertex σ) (sheet_of d).cells) ≤ 2048) (sym h)
-      (room_with d z f _ (one_few b e flip)) in
+      (room_with d z f (in_place_of b e flip) (one_few b e flip)) in
       (f, (y.long, (ready_cycles a t y, (omega (arith, n), (real, (room, (ready_steps a t y, inl (omega (arith, n), refl))))))))
 
   pub swapped_is : (b e : ℕ) (flip : Bool) (s : Swap) → s ≡ one_for b e flip → (mid : Arrays) → SwappedIn s a mid

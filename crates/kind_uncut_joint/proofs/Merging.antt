@@ -109,9 +109,9 @@ module _ (a : Arrays) (k m x y : ℕ) (g : Merges a k m x y) (s : Swap) (es : s 
       let z = held_sizes a g.long in
       let n : s.n ≡ 1 = ap (λ (t : Swap). t.n) es in
       let real = subst (λ (σ : Halfedge → List Halfedge). all_real (spread entry_cycles (reshape (rewired same_vertex σ) (sheet_of d).cells)) ≡ true) (sym half)
-      (real_with d z g.fits _ (one_some x a.next false)) in
+      (real_with d z g.fits (in_place_of x a.next false) (one_some x a.next false)) in
       let room = subst (λ (σ : Halfedge → List Halfedge). over stepsHeld (reshape (rewired same_vertex σ) (sheet_of d).cells) ≤ 2048) (sym half)
-      (room_with d z g.fits _ (one_few x a.next false)) in
+      (room_with d z g.fits (in_place_of x a.next false) (one_few x a.next false)) in
       (g.fits, (g.long, (g.cycles, (omega (arith, n), (real, (room, (g.steps, inl (omega (arith, n), refl))))))))
 
   module _ (b : Arrays) (sw : SwappedIn s a b) (ec : cycle_total (held_by b) ≡ cycle_total (held_by a)) (u : Swap) (eu : u ≡ none_for y) where

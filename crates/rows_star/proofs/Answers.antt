@@ -60,8 +60,8 @@ module _ (d : Drawing) (z : Sizes d) (t : Index) (x : Indexes d t) (s : T (sound
   sheet_sound : sound (sheet_of d) ≡ true
   sheet_sound = true_of (sound (sheet_of d)) (sound_sheet_lem d s)
 
-  is_live : (i : ℕ) → ltb (row_of i (take d.count t.ids)) (length (take d.count t.ids)) ≡ is_live (cell_at (sheet_of d) i)
-  is_live i = ap (λ (l : List ℕ). ltb (row_of i l) (length l)) (ids_are d z (sound_fits d s) t x) ∙ live_row (sheet_of d).cells i
+  row_live : (i : ℕ) → ltb (row_of i (take d.count t.ids)) (length (take d.count t.ids)) ≡ is_live (cell_at (sheet_of d) i)
+  row_live i = ap (λ (l : List ℕ). ltb (row_of i l) (length l)) (ids_are d z (sound_fits d s) t x) ∙ live_row (sheet_of d).cells i
 
   star_called : (i : ℕ) (buffer : List ℕ) → cond (is_live (cell_at (sheet_of d) i)) (filled (star (sheet_of d).cells i) buffer) (unfilled 4 buffer)
       ≡ star_call (sheet_of d) i buffer
@@ -74,6 +74,6 @@ module _ (d : Drawing) (z : Sizes d) (t : Index) (x : Indexes d t) (s : T (sound
       → star_in (take d.count t.ids) (take d.count t.kinds) (take d.count t.starts) (take d.count t.ends) (take d.count t.cycles)
       d.cycles d.steps i buffer ≡ star_of d i buffer
   star_answer i buffer =
-      ap₂ (λ (b : Bool) (l : List ℕ). cond b (filled l buffer) (unfilled 4 buffer)) (is_live i) (star_meant d z (sound_fits d s) t x i)
+      ap₂ (λ (b : Bool) (l : List ℕ). cond b (filled l buffer) (unfilled 4 buffer)) (row_live i) (star_meant d z (sound_fits d s) t x i)
       ∙ star_called i buffer
       ∙ sym (star_of_sheet d s i buffer)

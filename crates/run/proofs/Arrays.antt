@@ -14,7 +14,7 @@ use Rattle.lent.proofs.Replies.{drawing_of}
 use Rattle.call_asked.specs.Entries.{EmptyIn}
 use Rattle.run_turns.specs.Runs.{run_from}
 use Rattle.run_turns.proofs.Progress.{run_empty}
-use Rattle.std.proofs.Demand.{ends-after}
+use Rattle.register.proofs.Demand.{ends_after}
 use Rattle.run.specs.Runs.{RanOn}
 use Rattle.run.specs.Runs.{RanAll}
 use Rattle.run.specs.declared.Ran.{Ran}
@@ -37,7 +37,7 @@ module _ {a : Arrays} (z : EmptyIn a) {script : List ℕ} {b : Arrays} {n : ℕ}
         sheet = g;
         commands = r.commands ∙ ap (λ (x : Run). length x.lines) run_is;
         reached = q;
-        ends = ends-after d w (commands_of script) q;
+        ends = ends_after d w (commands_of script) q;
       }
 
   -- the file of the drawing after the run

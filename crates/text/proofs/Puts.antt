@@ -1,12 +1,12 @@
 -- Texts put one after the other. Assumes nothing.
-use Prim.Native.Nat.{ℕ, suc, ◌+◌, ◌≤◌, ◌<◌}
+use Prim.Native.Nat.{ℕ, ◌+◌, ◌≤◌, ◌<◌}
 use native.Mathlib.Omega.{arith}
 use native.Mathlib.Numerals.{add-one}
 use mathlib.Core.Path.{◌≡◌, refl, sym, ap, ap₂, ◌∙◌, subst}
-use mathlib.Core.List.{List, [], ◌∷◌, ◌++◌, append_assoc, append-nil}
+use mathlib.Core.List.{List, [], ◌∷◌, ◌++◌, append_assoc}
 use lib.IntN.{ℤ}
-use lib.ListN.{length, take, drop, set, get_or, length-append}
-use lib.Seq.{sets, length-sets, sets-eq, take-suc, take_all}
+use lib.ListN.{length, take, set, get_or, length-append}
+use lib.Seq.{sets, length-sets, take-suc, take_all}
 use Rattle.number.specs.Readers.{spread}
 use Rattle.complex.specs.Program.{Line, printed, decimal, signed, euler_word, cells_word, line_text, output_text}
 use Rattle.text.specs.Texts.{TextPut, end_text}

@@ -1,0 +1,17 @@
+-- `rename_ends` meets its contract. Assumes nothing.
+use borrow.Author.Rules.{rules}
+use Prim.Native.Nat.{◌-◌, ◌<◌, ◌≤◌}
+use native.Mathlib.Omega.{arith}
+use mathlib.Core.Path.{◌≡◌}
+use mathlib.Core.Logic.{⊎_elim}
+use lib.ListN.{length, take}
+use Rattle.kernel_rename.proofs.Ends.{Renaming, renaming_start, renaming_end, renaming_open, renaming_other}
+use Rattle.kernel_renumber.specs.Renumbers.{new_id}
+use Rattle.kernel_renumber.proofs.rename_ends.Given as goal
+
+abbrev pub invariant-loop-i : goal.invariant-loop-i
+invariant-loop-i l =
+    (l.i ≤ l.n) × Renaming (new_id (take l.n l.ids)) l.kinds l.initial.starts l.i l.starts × Renaming (new_id (take l.n l.ids)) l.kinds l.initial.ends l.i l.ends
+
+abbrev pub decreases-loop-i : goal.decreases-loop-i
+decreases-loop-i l = l.n - l.i

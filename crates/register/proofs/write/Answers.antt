@@ -1,0 +1,7 @@
+-- `write` meets its contract: the file of the arrays is the file of the struct. Assumes nothing.
+use mathlib.Core.Path.{◌∙◌}
+use Rattle.register.proofs.Doors.{write_apart}
+use Rattle.register.proofs.write.Goals as goal
+
+pub returns : goal.returns
+returns c = c.write.ensures ∙ write_apart _ _ c.take_apart.ensures _
