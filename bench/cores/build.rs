@@ -1,5 +1,5 @@
 //! Feature `structs`: links the archive of the calls on structs, the one that TRY_STRUCT_LIB names, else
-//! `target/staticlib/libtry_struct.a` of the repository, which `rt staticlib try_struct` writes.
+//! `crates/try_struct/out/libtry_struct.a` of the repository, which `rt lib` in crates/try_struct writes.
 
 use std::path::PathBuf;
 
@@ -10,11 +10,11 @@ fn main() {
     }
     let archive = match std::env::var_os("TRY_STRUCT_LIB") {
         Some(path) => PathBuf::from(path),
-        None => PathBuf::from(env!("CARGO_MANIFEST_DIR")).join("../../target/staticlib/libtry_struct.a"),
+        None => PathBuf::from(env!("CARGO_MANIFEST_DIR")).join("../../crates/try_struct/out/libtry_struct.a"),
     };
     println!("cargo::rerun-if-changed={}", archive.display());
     let Ok(path) = archive.canonicalize() else {
-        panic!("no {}: run `rt staticlib try_struct`, or name the archive in TRY_STRUCT_LIB", archive.display());
+        panic!("no {}: run `rt lib` in crates/try_struct, or name the archive in TRY_STRUCT_LIB", archive.display());
     };
     let name = path.file_stem().and_then(|stem| stem.to_str()).and_then(|stem| stem.strip_prefix("lib"));
     let (Some(folder), Some(name)) = (path.parent(), name) else { panic!("{} is no libNAME.a", path.display()) };

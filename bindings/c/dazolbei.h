@@ -1,4 +1,4 @@
-/* The proved core of the boundary register. `rt staticlib dazolbei` writes target/staticlib/libdazolbei.a.
+/* The proved core of the boundary register. `rt lib` in crates/dazolbei writes crates/dazolbei/out/libdazolbei.a.
 
    A drawing is held in a block of the caller's memory, a dz_sheet, that the functions dz_sheet_... edit in place; or it
    crosses as its file, with the other functions. The empty drawing's file is the two bytes 01 00. Every function is proved
