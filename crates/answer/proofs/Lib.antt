@@ -6,3 +6,4 @@ pub mod SizesAfter
 pub mod Laws
 pub mod Asked
 pub mod Late
+pub mod Questions

@@ -1,3 +1,4 @@
 pub mod Sizes
 pub mod Answers
 pub mod Late
+pub mod Questions

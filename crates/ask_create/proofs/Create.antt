@@ -46,7 +46,7 @@ module _ (d : Drawing) (x : Figure) where
   unfolding result
   result_is = sym (appended_rebuild (sheet_of d) x)
 
--- ---- what is known where `cell_no` has answered r
+-- ---- what is known where `cell_asked` has answered r
 module _ (d : Drawing) (z : Sizes d) (w : T (sound_drawing d)) (x : Figure) (p : Passed (sheet_of d) (create x)) (ix : Index) (ex : Indexes d ix) (t : Totals)
     (et : t ≡ totals_in d z (sound_fits d w) ix ex) (r : ℕ)
     (er : r ≡ late_no d.next 1 (changed_by (sizes_by t) (more_less (sized 1 (cycles_in x) (steps_in x) (bends_in x)) nothing))) where

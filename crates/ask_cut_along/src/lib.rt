@@ -5,9 +5,10 @@ ghost use Rattle.complex.specs.Sound.{ids_end};
 ghost use Rattle.answer.specs.Late.{Small};
 ghost use Rattle.number.specs.Numbers.{read_number};
 ghost use Rattle.decode_parts.specs.Lists.{Stand, numbers_read};
+ghost use Rattle.answer.specs.Questions.{no_of};
 ghost use Rattle.ask_cut_along.specs.Corners.{lone_count, cut_no, moved_fit};
 
-use answer::Totals;
+use answer::{Question, Totals};
 use rows_spans::Spans;
 
 // 1 if cycle c of the spans is a lone vertex, which counts as one step, else 0.
@@ -23,13 +24,21 @@ pub fn lone_step(cycles: &[u32; 512], t: Spans, c: u32) -> usize
     0
 }
 
-// Questions 7 and 8 of a cut with k bends from a corner of cycle c1 to one of cycle c2: the number of the first no, or 0.
-pub fn cut_no(next: u32, t: Totals, cycles: &[u32; 512], s: Spans, c1: u32, c2: u32, k: u32) -> u32
+// Questions 7 and 8 of a cut with k bends from a corner of cycle c1 to one of cycle c2: the first no.
+pub fn cut_asked(
+    next: u32,
+    t: Totals,
+    cycles: &[u32; 512],
+    s: Spans,
+    c1: u32,
+    c2: u32,
+    k: u32,
+) -> Result<(), Question>
     requires next_le_ids_end { next ≤ ids_end }
     requires small { Small t }
     requires c1_bound { s.cycles.first + c1 < 512 }
     requires c2_bound { s.cycles.first + c2 < 512 }
-    ensures { result ≡ cut_no next t cycles.now s c1 c2 k }
+    ensures { no_of result ≡ cut_no next t cycles.now s c1 c2 k }
 {
     let bends = store::wide(k);
     let alone = lone_step(cycles, s, c1);
@@ -46,7 +55,7 @@ pub fn cut_no(next: u32, t: Totals, cycles: &[u32; 512], s: Spans, c1: u32, c2: 
             steps: alone,
             bends: 0,
         };
-        return answer::late_no(next, 2, t, more, less);
+        return answer::late_asked(next, 2, t, more, less);
     }
     let both = alone + lone_step(cycles, s, c2);
     let more = Totals {
@@ -61,7 +70,7 @@ pub fn cut_no(next: u32, t: Totals, cycles: &[u32; 512], s: Spans, c1: u32, c2: 
         steps: both,
         bends: 0,
     };
-    answer::late_no(next, 1, t, more, less)
+    answer::late_asked(next, 1, t, more, less)
 }
 
 // Whether the moved cycles rise strictly below k and are without c1; where c1 and c2 differ, whether there are none.

@@ -1,6 +1,7 @@
 #![tactic(auto)]
 
-// Question 6 of the cycles of a new face in a script: the steps of each join. Rows are looked up by hints.
+// Question 6 of the cycles of a new face in a script: the steps of each join. A walk along a list that
+// asks this of it answers the place after the list, or none at a no. Rows are looked up by hints.
 ghost use Rattle.std.specs.Prelude.{eqb, take, length, ◌≡◌, true, false, ◌≤◌, ◌<◌};
 ghost use Rattle.number.specs.Numbers.{read_number};
 ghost use Rattle.complex.specs.Lists.{all};
@@ -10,8 +11,6 @@ ghost use Rattle.sound.specs.Rows.{rows_of, leads_in, joins_in};
 ghost use Rattle.decode_parts.specs.Lists.{numbers_read, cycles_read, Stand};
 ghost use Rattle.ask_face_named.specs.Walks.{Rowed, Walked, passes_in};
 ghost use Rattle.ask_face_joins.specs.Hints.{Hinted};
-
-use ask_face_named::Walk;
 
 // The places of the hints at rows.
 const HINTS: usize = 256;
@@ -40,22 +39,20 @@ fn row_of(ids: &[u32; 256], n: usize, hints: &mut [u8; 256], id: u32) -> usize
 }
 
 // Whether m steps in a script are all s.
-fn repeated(script: &[u8], at: usize, m: u32, s: u32) -> Walk
+fn repeated(script: &[u8], at: usize, m: u32, s: u32) -> Option<usize>
     requires { Stand read_number script.now at m }
     ensures { Walked read_number script.now at m (all (eqb s) (numbers_read script.now at m)) result }
 {
     let mut place = at;
-    let mut left = m;
-    while 0 < left {
+    for _ in 0..m {
         let taken = script::take_number(script, place);
         let t = taken.value;
         if s != t {
-            return Walk::No;
+            return None;
         }
         place = taken.next;
-        left -= 1;
     }
-    Walk::To(place)
+    Some(place)
 }
 
 // Whether m steps in a script, of open edges, lead from u to w.
@@ -71,33 +68,31 @@ fn leads(
     hints: &mut [u8; 256],
     u: u32,
     w: u32,
-) -> Walk
+) -> Option<usize>
     requires stand { Stand read_number script.now at m }
     requires hinted { Hinted n ids.now kinds.now starts.now ends.now hints.old }
     ensures walked { Walked read_number script.now at m (leads_in (rows_of n ids.now kinds.now starts.now ends.now) u (numbers_read script.now at m) w) result }
     ensures hints_len { length hints.new ≡ 256 }
 {
     let mut place = at;
-    let mut left = m;
     let mut here = u;
-    while 0 < left {
+    for _ in 0..m {
         let taken = script::take_number(script, place);
         let s = taken.value;
         let row = row_of(ids, n, hints, s / 2);
         if n <= row {
-            return Walk::No;
+            return None;
         }
         if !rows_halfedge::goes_on(kinds, starts, ends, n, row, here, s) {
-            return Walk::No;
+            return None;
         }
         here = rows_halfedge::side(ends, starts, n, row, s);
         place = taken.next;
-        left -= 1;
     }
     if here == w {
-        return Walk::To(place);
+        return Some(place);
     }
-    Walk::No
+    None
 }
 
 // Whether m steps in a script join last to first, or are all one closed edge in one direction.
@@ -111,7 +106,7 @@ fn path_joins(
     ends: &[u32; 256],
     n: usize,
     hints: &mut [u8; 256],
-) -> Walk
+) -> Option<usize>
     requires stand { Stand read_number script.now at m }
     requires le_m { 1 ≤ m }
     requires hinted { Hinted n ids.now kinds.now starts.now ends.now hints.old }
@@ -122,7 +117,7 @@ fn path_joins(
     let s = taken.value;
     let row = row_of(ids, n, hints, s / 2);
     if n <= row {
-        return Walk::No;
+        return None;
     }
     if kinds[row] == 2 {
         return repeated(script, at, m, s);
@@ -141,7 +136,7 @@ fn cycle_joins(
     ends: &[u32; 256],
     n: usize,
     hints: &mut [u8; 256],
-) -> Walk
+) -> Option<usize>
     requires stand { Stand read_cycle script.now at 1 }
     requires hinted { Hinted n ids.now kinds.now starts.now ends.now hints.old }
     ensures walked { Walked read_cycle script.now at 1 (all (passes_in (rows_of n ids.now kinds.now starts.now ends.now) false) (cycles_read script.now at 1)) result }
@@ -174,13 +169,11 @@ pub fn cycles_join(
     ensures { result ≡ all (passes_in (rows_of n ids.now kinds.now starts.now ends.now) false) (cycles_read script.now first k) }
 {
     let mut at = first;
-    let mut left = k;
-    while 0 < left {
-        let Walk::To(next) = cycle_joins(script, at, ids, kinds, starts, ends, n, hints) else {
+    for _ in 0..k {
+        let Some(next) = cycle_joins(script, at, ids, kinds, starts, ends, n, hints) else {
             return false;
         };
         at = next;
-        left -= 1;
     }
     true
 }

@@ -1,4 +1,5 @@
 -- A cycle of a script passes as its numbers do, and as the sheet has it. Assumes nothing.
+use Rattle.std.specs.Prelude.{Option, Some, None}
 use Prim.Native.Nat.{ℕ, zero, suc, ◌-◌, ◌<◌}
 use native.Mathlib.Omega.{arith}
 use mathlib.Core.Path.{◌≡◌, refl, sym, ap, ap₂, ◌∙◌, subst}
@@ -25,8 +26,6 @@ use Rattle.decode_parts.proofs.Stands.{stand_length}
 use Rattle.script.proofs.Steps.{one_stands, reach_field, field_list, Asking, asking_stop, asking_turn}
 use Rattle.script.proofs.Cycles.{cycle_from, from_number, from_places, numbers_stand, cycle_is, cycle_reach}
 use Rattle.ask_face_named.specs.Walks.{Valued, Rowed, Walked, edge_in, step_named, passes_in}
-use Rattle.ask_face_named.specs.declared.Walk.{Walk}
-use Rattle.ask_face_named.specs.declared.Walk.TheVariants.{To, No}
 use Rattle.ask_face_named.proofs.Walking.{first_no_lem, first_yes}
 
 and_none : (b : Bool) → b ≡ (b && true)
@@ -39,17 +38,17 @@ same_both false b = refl
 
 -- ---- what a walk says, by its result
 module _ {A : Type 0} {r : List ℕ → Read A} {s : List ℕ} {at n : ℕ} {b : Bool} where
-  pub walked_to : {w : Walk} {next : ℕ} → Walked r s at n b w → w ≡ To next → (b ≡ true) × Reaches r s at n next
+  pub walked_to : {w : Option ℕ} {next : ℕ} → Walked r s at n b w → w ≡ Some next → (b ≡ true) × Reaches r s at n next
   walked_to h e = (subst (Walked r s at n b) e h).says
 
-  pub walked_no : {w : Walk} → Walked r s at n b w → w ≡ No → b ≡ false
+  pub walked_no : {w : Option ℕ} → Walked r s at n b w → w ≡ None → b ≡ false
   walked_no h e = (subst (Walked r s at n b) e h).says
 
   -- the same of another list that ends where this one does
   pub walked_as : {C : Type 0} {q : List ℕ → Read C} {at' n' : ℕ} {b' : Bool} → b ≡ b' → ((next : ℕ) → Reaches r s at n next → Reaches q s at' n' next)
-      → {w : Walk} → Walked r s at n b w → Walked q s at' n' b' w
-  walked_as e f {w = To next} h = record { says = (sym e ∙ h.says.0, f next h.says.1) }
-  walked_as e f {w = No} h = record { says = sym e ∙ h.says }
+      → {w : Option ℕ} → Walked r s at n b w → Walked q s at' n' b' w
+  walked_as e f {w = Some next} h = record { says = (sym e ∙ h.says.0, f next h.says.1) }
+  walked_as e f {w = None} h = record { says = sym e ∙ h.says }
 
 -- ---- a question about each thing of a list, asked of the first thing by itself
 module _ {A : Type 0} (p : A → Bool) {r : List ℕ → Read A} {s : List ℕ} {at n place left : ℕ} {b : Bool}

@@ -1,4 +1,5 @@
 -- Questions 4 and 6 of a cycle of a new face, as the rows of an index answer them. Definitions only.
+use Rattle.std.specs.Prelude.{Option, Some, None}
 use Rattle.std.specs.Prelude.{ℕ, ◌/◌, ◌≤◌, ◌≡◌, Bool, true, false, cond, ◌||◌, List, eqb, length, take}
 use Rattle.number.specs.Readers.{Read}
 use Rattle.complex.specs.Lists.{all}
@@ -7,8 +8,6 @@ use Rattle.store.specs.Index.{Rising, value_at}
 use Rattle.store.specs.Places.{num_of, cycle_words}
 use Rattle.decode_parts.specs.Lists.{Reaches}
 use Rattle.sound.specs.Rows.{Rows, is_vertex_in, cycle_good}
-use Rattle.ask_face_named.specs.declared.Walk.{Walk}
-use Rattle.ask_face_named.specs.declared.Walk.TheVariants.{To, No}
 
 -- the arrays of n rows whose ids rise, with a value for each
 pub record Valued (n : ℕ) (is vs : List ℕ) : Type 0 where
@@ -27,11 +26,11 @@ pub record Rowed (n : ℕ) (is ks ss es : List ℕ) : Type 0 where
   pub rising : Rising (take n is)
 
 -- what a walk along n things, each read by r, says: b holds and they reach to a place, or b does not hold
-abbrev pub walk_says : {A : Type 0} → (List ℕ → Read A) → List ℕ → ℕ → ℕ → Bool → Walk → Type 0
-walk_says r s at n b (To next) = (b ≡ true) × Reaches r s at n next
-walk_says r s at n b No = b ≡ false
+abbrev pub walk_says : {A : Type 0} → (List ℕ → Read A) → List ℕ → ℕ → ℕ → Bool → Option ℕ → Type 0
+walk_says r s at n b (Some next) = (b ≡ true) × Reaches r s at n next
+walk_says r s at n b None = b ≡ false
 
-pub record Walked {A : Type 0} (r : List ℕ → Read A) (s : List ℕ) (at n : ℕ) (b : Bool) (w : Walk) : Type 0 where
+pub record Walked {A : Type 0} (r : List ℕ → Read A) (s : List ℕ) (at n : ℕ) (b : Bool) (w : Option ℕ) : Type 0 where
   pub says : walk_says r s at n b w
 
 -- whether the cell e is an edge, where is are the cells' ids and ks their kinds

@@ -1,6 +1,7 @@
 #![tactic(auto)]
 
-// Question 4 of the cycles of a new face in a script: they name vertices and edges.
+// Question 4 of the cycles of a new face in a script: they name vertices and edges. A walk along a list
+// that asks this of it answers the place after the list, or none at a no.
 ghost use Rattle.std.specs.Prelude.{eqb, take, get_or, ◌≡◌, true, false, ◌||◌, ◌<◌};
 ghost use Rattle.number.specs.Numbers.{read_number};
 ghost use Rattle.complex.specs.Lists.{all};
@@ -9,15 +10,14 @@ ghost use Rattle.sound.specs.Rows.{is_vertex_in};
 ghost use Rattle.decode_parts.specs.Lists.{numbers_read, cycles_read, Stand};
 ghost use Rattle.ask_face_named.specs.Walks.{Valued, Walked, step_named, names_in};
 
-// A walk along a list of a script that asks something of it: the place after the list, or a no.
-#[derive(Clone, Copy)]
-pub enum Walk {
-    To(usize),
-    No,
-}
-
 // Whether a lone vertex is one.
-pub fn lone_named(script: &[u8], at: usize, ids: &[u32; 256], kinds: &[u32; 256], n: usize) -> Walk
+pub fn lone_named(
+    script: &[u8],
+    at: usize,
+    ids: &[u32; 256],
+    kinds: &[u32; 256],
+    n: usize,
+) -> Option<usize>
     requires stand { Stand read_number script.now at 1 }
     requires valued { Valued n ids.now kinds.now }
     ensures { Walked read_number script.now at 1 (is_vertex_in (take n ids.now) (take n kinds.now) (get_or (numbers_read script.now at 1) 0 0)) result }
@@ -25,9 +25,9 @@ pub fn lone_named(script: &[u8], at: usize, ids: &[u32; 256], kinds: &[u32; 256]
     let taken = script::take_number(script, at);
     let kind = store::value_at(4, ids, kinds, n, taken.value);
     if kind == 0 {
-        return Walk::To(taken.next);
+        return Some(taken.next);
     }
-    Walk::No
+    None
 }
 
 fn is_edge(kind: u32) -> bool
@@ -58,20 +58,18 @@ fn cycle_named(script: &[u8], at: usize, ids: &[u32; 256], kinds: &[u32; 256], n
     let m = size.value;
     let first = size.next;
     if m == 0 {
-        let Walk::To(_) = lone_named(script, first, ids, kinds, n) else {
+        let Some(_) = lone_named(script, first, ids, kinds, n) else {
             return false;
         };
         return true;
     }
     let mut place = first;
-    let mut left = m;
-    while 0 < left {
+    for _ in 0..m {
         let taken = script::take_number(script, place);
         if !step_named(ids, kinds, n, taken.value) {
             return false;
         }
         place = taken.next;
-        left -= 1;
     }
     true
 }
@@ -90,13 +88,11 @@ pub fn cycles_named(
     ensures { result ≡ all (names_in (take n ids.now) (take n kinds.now)) (cycles_read script.now first k) }
 {
     let mut at = first;
-    let mut left = k;
-    while 0 < left {
+    for _ in 0..k {
         if !cycle_named(script, at, ids, kinds, n) {
             return false;
         }
         at = script::cycle_end(script, at);
-        left -= 1;
     }
     true
 }

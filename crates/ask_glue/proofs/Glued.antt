@@ -1,5 +1,5 @@
 -- One cell goes and the others change: the answer of the drawing that is made. Assumes nothing.
-use Prim.Native.Nat.{ℕ, ◌≤◌}
+use Prim.Native.Nat.{ℕ}
 use mathlib.Core.Path.{◌≡◌, ◌∙◌}
 use mathlib.Core.Bool.{Bool, true, false}
 use mathlib.Core.List.{List}
@@ -11,7 +11,7 @@ use Rattle.complex.specs.Decode.{Command}
 use Rattle.complex.specs.Commands.{result}
 use Rattle.store.specs.declared.Drawing.{Drawing}
 use Rattle.store.specs.declared.Index.{Index}
-use Rattle.store.specs.Index.{Indexes, Rising, row_of}
+use Rattle.store.specs.Index.{Indexes, row_of}
 use Rattle.store.specs.Sizes.{Sizes}
 use Rattle.store.specs.View.{sheet_of, Fits}
 use Rattle.store.specs.Edits.{kept, with_entries}
@@ -25,10 +25,6 @@ use Rattle.ask_glue.specs.Questions.{NumberRows}
 -- ---- the rows of an index
 pub rows_of : (d : Drawing) → Sizes d → T (sound_drawing d) → (ix : Index) → Indexes d ix → (vs : List ℕ) → length vs ≡ 256 → NumberRows ix.ids vs d.count
 rows_of d z w ix x vs l = record { few = (sound_fits d w).cells; id_rows = x.sizes.0; value_rows = l; rising = (looks d z ix x w).rising }
-
--- as a look-up asks it
-pub look_asks : {is vs : List ℕ} {n : ℕ} → NumberRows is vs n → (n ≤ 256) × ((length is ≡ 256) × ((length vs ≡ 256) × Rising (take n is)))
-look_asks r = (r.few, (r.id_rows, (r.value_rows, r.rising)))
 
 -- the command c passes all questions, the cell b goes, and f changes the others
 pub record Glues (d : Drawing) (c : Command) (b : ℕ) (f : ℕ → Figure → Figure) : Type 0 where

@@ -2,23 +2,32 @@
 
 ghost use Rattle.std.specs.Prelude.{◌≡◌, ◌||◌, eqb, take};
 ghost use Rattle.store.specs.Index.{value_at};
+ghost use Rattle.answer.specs.Questions.{no_of};
 ghost use Rattle.ask_glue.specs.Questions.{NumberRows, vertices_no, ends_meet, may_glue_by, edges_no};
 
-// Questions 4 and 6 of 07: the number of the first no, or 0.
-pub fn vertices_no(ids: &[u32; 256], kinds: &[u32; 256], n: usize, a: u32, b: u32) -> u32
+use answer::Question;
+
+// Questions 4 and 6 of 07: the first no.
+pub fn vertices_asked(
+    ids: &[u32; 256],
+    kinds: &[u32; 256],
+    n: usize,
+    a: u32,
+    b: u32,
+) -> Result<(), Question>
     requires { NumberRows ids.now kinds.now n }
-    ensures { result ≡ vertices_no (value_at 4 (take n ids.now) (take n kinds.now) a) (value_at 4 (take n ids.now) (take n kinds.now) b) (eqb a b) }
+    ensures { no_of result ≡ vertices_no (value_at 4 (take n ids.now) (take n kinds.now) a) (value_at 4 (take n ids.now) (take n kinds.now) b) (eqb a b) }
 {
     if store::value_at(4, ids, kinds, n, a) != 0 {
-        return 4;
+        return Err(Question::Live);
     }
     if store::value_at(4, ids, kinds, n, b) != 0 {
-        return 4;
+        return Err(Question::Live);
     }
     if a == b {
-        return 6;
+        return Err(Question::Rule);
     }
-    0
+    Ok(())
 }
 
 fn is_edge(k: u32) -> bool
@@ -83,24 +92,24 @@ fn may_glue(ka: u32, kb: u32, meet: bool) -> bool
     meet
 }
 
-// Questions 4, 5 and 6 of 08: the number of the first no, or 0.
-pub fn edges_no(ka: u32, kb: u32, same: bool, flag: u32, meet: bool) -> u32
-    ensures { result ≡ edges_no ka kb same flag meet }
+// Questions 4, 5 and 6 of 08: the first no.
+pub fn edges_asked(ka: u32, kb: u32, same: bool, flag: u32, meet: bool) -> Result<(), Question>
+    ensures { no_of result ≡ edges_no ka kb same flag meet }
 {
     if !is_edge(ka) {
-        return 4;
+        return Err(Question::Live);
     }
     if !is_edge(kb) {
-        return 4;
+        return Err(Question::Live);
     }
     if 1 < flag {
-        return 5;
+        return Err(Question::Exists);
     }
     if same {
-        return 6;
+        return Err(Question::Rule);
     }
     if may_glue(ka, kb, meet) {
-        return 0;
+        return Ok(());
     }
-    6
+    Err(Question::Rule)
 }

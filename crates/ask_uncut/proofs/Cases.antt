@@ -1,6 +1,6 @@
 -- From the case that the code finds to the case of the definitions. Assumes nothing.
 use Prim.Native.Nat.{ℕ}
-use mathlib.Core.Path.{◌≡◌, refl, ap, sym, ◌∙◌}
+use mathlib.Core.Path.{◌≡◌, refl, ap, sym, ◌∙◌, subst}
 use mathlib.Core.Bool.{Bool, true, false, cond, false≢true}
 use mathlib.Core.List.{List}
 use mathlib.Core.Option.{Option, none, some}
@@ -8,7 +8,6 @@ use Rattle.complex.specs.Cells.{Figure, vertex, open_edge, closed_edge, face, Li
 use Rattle.complex.specs.Uses.{passages_at, ends_at, lone_use, uses_by, uses_of}
 use Rattle.complex.specs.Uncut.{Uncut, uncut_vertex, uncut_open, uncut_closed, uncut_figure, uncut_case, allowed}
 use Rattle.complex.proofs.Every.{Every}
-use native.Mathlib.Omega.{arith}
 use Rattle.number.specs.Said.{Said, done, no}
 use Rattle.number.proofs.Laws.{not_done, done_one}
 use Rattle.complex.proofs.UncutEdge.{every_more, Real, own_cells, uses_real}
@@ -78,22 +77,16 @@ module _ (c : Uncut) where
   by_done k true false e = absurd (not_done 6 k (sym e))
   by_done k false b e = absurd (not_done 4 k (sym e))
 
-  by_6 : (a b : Bool) → no 6 ≡ said_by c a b → (a ≡ true) × (b ≡ false)
-  by_6 true true e = absurd (not_done 6 c e)
-  by_6 true false e = (refl, refl)
-  by_6 false b e = let z = no_same 6 4 e in absurd (omega arith)
-
-  by_4 : (a b : Bool) → no 4 ≡ said_by c a b → a ≡ false
-  by_4 true true e = absurd (not_done 4 c e)
-  by_4 true false e = let z = no_same 4 6 e in absurd (omega arith)
-  by_4 false b e = refl
+  -- the number of a no is 6 or 4
+  by_no : (P : ℕ → Type 0) (n : ℕ) (a b : Bool) → no n ≡ said_by c a b → (a ≡ true → b ≡ false → P 6) → (a ≡ false → P 4) → P n
+  by_no P n true true e f g = absurd (not_done n c e)
+  by_no P n true false e f g = subst P (sym (no_same n 6 e)) (f refl refl)
+  by_no P n false b e f g = subst P (sym (no_same n 4 e)) (g refl)
 
 module _ (s : Sheet) (i : ℕ) where
   pub asked_case : {k : Uncut} → done k ≡ uncut_asked s i → uncut_case s i ≡ k
   asked_case {k} e = by_done (uncut_case s i) k (is_vertex_or_edge (cell_at s i)) (allowed (uncut_case s i)) e
 
-  pub asked_6 : no 6 ≡ uncut_asked s i → (is_vertex_or_edge (cell_at s i) ≡ true) × (allowed (uncut_case s i) ≡ false)
-  asked_6 e = by_6 (uncut_case s i) (is_vertex_or_edge (cell_at s i)) (allowed (uncut_case s i)) e
-
-  pub asked_4 : no 4 ≡ uncut_asked s i → is_vertex_or_edge (cell_at s i) ≡ false
-  asked_4 e = by_4 (uncut_case s i) (is_vertex_or_edge (cell_at s i)) (allowed (uncut_case s i)) e
+  pub asked_no : (P : ℕ → Type 0) (n : ℕ) → no n ≡ uncut_asked s i
+      → (is_vertex_or_edge (cell_at s i) ≡ true → allowed (uncut_case s i) ≡ false → P 6) → (is_vertex_or_edge (cell_at s i) ≡ false → P 4) → P n
+  asked_no P n e f g = by_no (uncut_case s i) P n (is_vertex_or_edge (cell_at s i)) (allowed (uncut_case s i)) e f g

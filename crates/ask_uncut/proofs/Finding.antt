@@ -6,9 +6,11 @@ use native.Mathlib.Omega.{arith}
 use lib.Dec.{T, eqb}
 use lib.ListN.{length, take}
 use borrow.Author.Tests.{eq-eqb, ne_eqb}
+use Rattle.number.specs.Said.{Said}
 use Rattle.complex.specs.Lists.{total}
 use Rattle.complex.specs.Cells.{cell_at, is_vertex, is_open, is_closed, is_edge, is_vertex_or_edge}
 use Rattle.complex.specs.Uses.{lone_use, uses_of}
+use Rattle.complex.specs.Uncut.{Uncut}
 use Rattle.complex.proofs.Bools.{or_none}
 use Rattle.store.specs.declared.Drawing.{Drawing}
 use Rattle.store.specs.declared.Index.{Index}
@@ -21,13 +23,11 @@ use Rattle.sound.specs.Looks.{index_value, Looks}
 use Rattle.sound.proofs.Meaning.{sound_fits, looks, vertex_at, open_at, closed_at}
 use Rattle.answer.proofs.Asked.{sound_in}
 use Rattle.ask_uncut_uses.specs.declared.Uses.{Uses}
-use Rattle.ask_uncut.specs.declared.AtEdge.{AtEdge}
-use Rattle.ask_uncut_ends.specs.declared.AtVertex.{AtVertex}
 use Rattle.ask_uncut_turns.specs.Turns.{Rowed, turns_in}
 use Rattle.ask_uncut_ends.specs.Ends.{ends_in, two_ends}
 use Rattle.ask_uncut_uses.specs.Uses.{row_uses, uses_two}
-use Rattle.ask_uncut_ends.specs.Cases.{vertex_says, ends_case}
-use Rattle.ask_uncut.specs.Cases.{edge_says, EdgeSays, open_case, closed_case}
+use Rattle.ask_uncut_ends.specs.Cases.{ends_case}
+use Rattle.ask_uncut.specs.Cases.{open_case, closed_case}
 use Rattle.ask_uncut.proofs.Deciding.{open_case_lem, closed_case_lem}
 use Rattle.law_uncut.proofs.Held.{cycle_places}
 use Rattle.ask_uncut_turns.proofs.Meaning.{rows_in, rowed_is}
@@ -46,14 +46,14 @@ module _ (d : Drawing) (z : Sizes d) (w : T (sound_drawing d)) (ix : Index) (x :
         let e = em ∙ cycle_places d ix x in
         (rowed_is d f ix x (looks d z ix x w), (z.cycles, (z.steps, (omega (arith, f.cycles), rw e f.steps))))
 
-    pub vertex_found : is_vertex (cell_at (sheet_of d) v) ≡ true → (c : AtVertex)
-        → vertex_says c ≡ ends_case (turns_in (rows_in d ix) true v (cycles_from (take m d.cycles) d.steps))
+    pub vertex_found : is_vertex (cell_at (sheet_of d) v) ≡ true → (a : Said Uncut)
+        → a ≡ ends_case (turns_in (rows_in d ix) true v (cycles_from (take m d.cycles) d.steps))
         (turns_in (rows_in d ix) false v (cycles_from (take m d.cycles) d.steps))
         (total (lone_use v) (cycles_from (take m d.cycles) d.steps))
         (two_ends (ends_in v (take d.count ix.ids) (take d.count ix.kinds) (take d.count ix.starts) (take d.count ix.ends)))
-        → vertex_says c ≡ uncut_asked (sheet_of d) v
-    vertex_found k c e =
-        vertex_told (sheet_of d) v k (ap (λ (b : Bool). b || is_edge (cell_at (sheet_of d) v)) k) (vertex_says c)
+        → a ≡ uncut_asked (sheet_of d) v
+    vertex_found k a e =
+        vertex_told (sheet_of d) v k (ap (λ (b : Bool). b || is_edge (cell_at (sheet_of d) v)) k) a
         (e ∙ vertex_total d z (sound_fits d w) ix x (looks d z ix x w) v m (em ∙ cycle_places d ix x))
 
   -- ---- an edge
@@ -69,15 +69,15 @@ module _ (d : Drawing) (z : Sizes d) (w : T (sound_drawing d)) (ix : Index) (x :
     is_one_lem : is_vertex_or_edge (cell_at (sheet_of d) e) ≡ true
     is_one_lem = ap (λ (b : Bool). is_vertex (cell_at (sheet_of d) e) || b) g ∙ or_true (is_vertex (cell_at (sheet_of d) e))
 
-    pub edge_found : (closed : Bool) → is_closed (cell_at (sheet_of d) e) ≡ closed → (c : AtEdge) → EdgeSays c (cond closed (closed_case u) (open_case u))
-        → edge_says e c ≡ uncut_asked (sheet_of d) e
-    edge_found true k c q =
-        closed_told (sheet_of d) e is_one_lem (edge_says e c) k
-        (q e ∙ ap (λ (y : Uses). closed_case y e) uses_is ∙ closed_case_lem e (uses_of (sheet_of d).cells e) (own_uses (sheet_of d) (sound_in d w) e))
-    edge_found false k c q =
-        open_told (sheet_of d) e is_one_lem (edge_says e c)
+    pub edge_found : (closed : Bool) → is_closed (cell_at (sheet_of d) e) ≡ closed → (a : Said Uncut) → a ≡ cond closed (closed_case u e) (open_case u e)
+        → a ≡ uncut_asked (sheet_of d) e
+    edge_found true k a q =
+        closed_told (sheet_of d) e is_one_lem a k
+        (q ∙ ap (λ (y : Uses). closed_case y e) uses_is ∙ closed_case_lem e (uses_of (sheet_of d).cells e) (own_uses (sheet_of d) (sound_in d w) e))
+    edge_found false k a q =
+        open_told (sheet_of d) e is_one_lem a
         (sym (or_none (is_open (cell_at (sheet_of d) e))) ∙ ap (λ (b : Bool). is_open (cell_at (sheet_of d) e) || b) (sym k) ∙ g)
-        (q e ∙ ap (λ (y : Uses). open_case y e) uses_is ∙ open_case_lem e (uses_of (sheet_of d).cells e) (own_uses (sheet_of d) (sound_in d w) e))
+        (q ∙ ap (λ (y : Uses). open_case y e) uses_is ∙ open_case_lem e (uses_of (sheet_of d).cells e) (own_uses (sheet_of d) (sound_in d w) e))
 
 -- ---- the kind of the cell i, by its number k
 edge_number : (k : ℕ) → (k ≡ 0 → ⊥) → k ≤ 2 → eqb k 1 || eqb k 2 ≡ true

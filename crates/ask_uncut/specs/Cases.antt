@@ -1,21 +1,22 @@
 -- Which case of 0E holds at an edge, by the numbers that the readers give. Definitions only.
-use Rattle.std.specs.Prelude.{ℕ, not, ◌&&◌, cond, ◌≡◌, eqb}
+use Rattle.std.specs.Prelude.{ℕ, not, ◌&&◌, cond, ◌≡◌, eqb, Result, Ok, Err}
 use Rattle.std.specs.Bool.{beq}
 use Rattle.number.specs.Said.{Said, done, no}
 use Rattle.complex.specs.Uncut.{Uncut, two_faces, one_cycle, rings}
+use Rattle.answer.specs.declared.Question.{Question}
+use Rattle.answer.specs.Questions.{number_of}
+use Rattle.ask_uncut_uses.specs.declared.Between.{Between}
 use Rattle.ask_uncut_uses.specs.declared.Use.{Use}
 use Rattle.ask_uncut_uses.specs.declared.Uses.{Uses}
 use Rattle.ask_uncut_uses.specs.Uses.{use_at, case_of}
-use Rattle.ask_uncut.specs.declared.AtEdge.{AtEdge}
-use Rattle.ask_uncut.specs.declared.AtEdge.TheVariants.{Refused as Neither, Used}
 
--- the cases of `AtEdge` at the edge e: 0 with a case of 0E, or 6
-abbrev pub edge_says : ℕ → AtEdge → Said Uncut
-edge_says e Neither = no 6
-edge_says e (Used k u w) = done (case_of k (use_at e u) (use_at e w))
+-- how the uses of the edge e lie: 0 with a case of 0E, or the number of the question
+abbrev pub edge_says : ℕ → Result (Between × Use × Use) Question → Said Uncut
+edge_says e (Err q) = no (number_of q)
+edge_says e (Ok (k, u, w)) = done (case_of k (use_at e u) (use_at e w))
 
 -- whatever the edge's id is, r says f of it
-abbrev pub EdgeSays : AtEdge → (ℕ → Said Uncut) → Type 0
+abbrev pub EdgeSays : Result (Between × Use × Use) Question → (ℕ → Said Uncut) → Type 0
 EdgeSays r f = (e : ℕ) → edge_says e r ≡ f e
 
 abbrev pub open_pair : Use → Use → ℕ → Said Uncut

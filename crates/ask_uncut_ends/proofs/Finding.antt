@@ -24,13 +24,6 @@ module _ (x : Ends) (h : Halfedge) where
   abbrev later : Ends
   later = record { count = suc x.count; one = x.one; back1 = x.back1; two = x.two; back2 = x.back2 }
 
-  pub end_first : x.count ≡ 0 → record { count = 1; one = h.edge; back1 = h.backward; two = 0; back2 = false } ≡ one_end x h
-  end_first e = sym (ap (λ (b : Bool). cond b first (cond (eqb x.count 1) second later)) (eq-eqb x.count 0 e))
-
-  pub end_second : x.count ≡ 1 → record { count = 2; one = x.one; back1 = x.back1; two = h.edge; back2 = h.backward } ≡ one_end x h
-  end_second e =
-      sym (ap₂ (λ (b c : Bool). cond b first (cond c second later)) (ne_eqb x.count 0 (λ z. omega arith)) (eq-eqb x.count 1 e))
-
   pub end_later : (x.count ≡ 0 → ⊥) → (x.count ≡ 1 → ⊥)
       → record { count = suc x.count; one = x.one; back1 = x.back1; two = x.two; back2 = x.back2 } ≡ one_end x h
   end_later e g = sym (ap₂ (λ (b c : Bool). cond b first (cond c second later)) (ne_eqb x.count 0 e) (ne_eqb x.count 1 g))
@@ -47,13 +40,6 @@ pub ends_count : (x : Ends) (l : List Halfedge) → (foldl one_end x l).count �
 ends_count x [] = omega arith
 ends_count x (h ∷ l) = let e = end_count x h in let g = ends_count (one_end x h) l in omega arith
 
-pub if_few : (x : Ends) (b : Bool) (h : Halfedge) (a : Ends) → a ≡ foldl one_end x (cons_if b h []) → a.count ≤ x.count + 1
-if_few x b h a e = let c = ap (λ (z : Ends). z.count) e ∙ ends_count x (cons_if b h []) in let w = one_most b in omega arith
-  where
-    one_most : (c : Bool) → length (cons_if c h []) ≤ 1
-    one_most true = omega arith
-    one_most false = omega arith
-
 if_count : (b c : Bool) (x y : Halfedge) → length (cons_if b x (cons_if c y [])) ≤ 2
 if_count true true x y = omega arith
 if_count true false x y = omega arith
@@ -68,15 +54,6 @@ row_count v i k s e = go (eqb k 1)
     go false = omega arith
 
 -- ---- a row
-if_both : (b c : Bool) (h g : Halfedge) (x : Ends) → foldl one_end (foldl one_end x (cons_if b h [])) (cons_if c g []) ≡ foldl one_end x (cons_if b h (cons_if c g []))
-if_both true c h g x = refl
-if_both false c h g x = refl
-
-pub edge_both : (x : Ends) (v i s e : ℕ) (a r : Ends) → a ≡ foldl one_end x (cons_if (eqb s v) (along i) [])
-    → r ≡ foldl one_end a (cons_if (eqb e v) (against i) []) → r ≡ foldl one_end x (edge_ends v i s e)
-edge_both x v i s e a r f g =
-    g ∙ ap (λ (y : Ends). foldl one_end y (cons_if (eqb e v) (against i) [])) f ∙ if_both (eqb s v) (eqb e v) (along i) (against i) x
-
 module _ (x : Ends) (v i k s e : ℕ) where
   pub row_open : k ≡ 1 → (r : Ends) → r ≡ foldl one_end x (edge_ends v i s e) → r ≡ foldl one_end x (row_ends v i k s e)
   row_open h r g = g ∙ sym (ap (λ (b : Bool). foldl one_end x (cond b (edge_ends v i s e) [])) (eq-eqb k 1 h))

@@ -1,17 +1,19 @@
 -- Which case of 0E holds at a vertex, by the numbers that the readers give. Definitions only.
-use Rattle.std.specs.Prelude.{ℕ, Bool, not, cond, eqb}
+use Rattle.std.specs.Prelude.{ℕ, Bool, not, cond, eqb, Result, Ok, Err}
 use Rattle.number.specs.Said.{Said, done, no}
 use Rattle.complex.specs.Uncut.{Uncut, lonely, loop, joint, ends_of_one_edge}
+use Rattle.answer.specs.declared.Question.{Question}
+use Rattle.answer.specs.Questions.{number_of}
 use Rattle.ask_uncut_ends.specs.declared.Ends.{Ends}
 use Rattle.ask_uncut_ends.specs.declared.AtVertex.{AtVertex}
-use Rattle.ask_uncut_ends.specs.declared.AtVertex.TheVariants.{Refused, Lonely, Loop, Joint}
+use Rattle.ask_uncut_ends.specs.declared.AtVertex.TheVariants.{Lonely, Loop, Joint}
 
--- the cases of `AtVertex`: 0 with a case of 0E, or 6
-abbrev pub vertex_says : AtVertex → Said Uncut
-vertex_says Refused = no 6
-vertex_says Lonely = done lonely
-vertex_says (Loop e) = done (loop e)
-vertex_says (Joint a p b q) = done (joint (record { edge = a; backward = p }) (record { edge = b; backward = q }))
+-- the cases of `AtVertex`: 0 with a case of 0E, or the number of the question
+abbrev pub vertex_says : Result AtVertex Question → Said Uncut
+vertex_says (Err q) = no (number_of q)
+vertex_says (Ok Lonely) = done lonely
+vertex_says (Ok (Loop e)) = done (loop e)
+vertex_says (Ok (Joint a p b q)) = done (joint (record { edge = a; backward = p }) (record { edge = b; backward = q }))
 
 -- the ends x of one edge, and of two
 abbrev pub loop_of : Ends → Uncut

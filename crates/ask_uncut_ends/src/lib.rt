@@ -11,6 +11,8 @@ ghost use Rattle.ask_uncut_turns.specs.Turns.{Rowed, Cycled, turns_in};
 ghost use Rattle.ask_uncut_ends.specs.Ends.{edge_ends, ends_in, one_end, two_ends};
 ghost use Rattle.ask_uncut_ends.specs.Cases.{vertex_says, pair_case, ends_case};
 
+use answer::Question;
+
 // How many edge ends, and the first two: an edge and whether its halfedge leaves backward.
 #[derive(Clone, Copy)]
 pub struct Ends {
@@ -21,10 +23,9 @@ pub struct Ends {
     pub back2: bool,
 }
 
-// Which case of a vertex holds: a lone cycle, both ends of one edge, or the ends of two edges.
+// A vertex that may be uncut: a lone cycle, both ends of one edge, or the ends of two edges.
 #[derive(Clone, Copy)]
 pub enum AtVertex {
-    Refused,
     Lonely,
     Loop(u32),
     Joint {
@@ -105,12 +106,10 @@ pub fn ends_at(
         two: 0,
         back2: false,
     };
-    let mut i: usize = 0;
-    while i < n {
+    for i in 0..n {
         if kinds[i] == 1 {
             x = edge_ends(x, ids[i], starts[i], ends[i], v);
         }
-        i = i + 1;
     }
     x
 }
@@ -125,7 +124,7 @@ fn one_edge(a: u32, back1: bool, b: u32, back2: bool) -> bool
     false
 }
 
-// The case of two ends.
+// The case of two ends, or question 6.
 fn pair_case(
     ids: &[u32; 256],
     kinds: &[u32; 256],
@@ -137,7 +136,7 @@ fn pair_case(
     steps: &[u32; 2048],
     v: u32,
     x: Ends,
-) -> AtVertex
+) -> Result<AtVertex, Question>
     requires rowed { Rowed n ids.now kinds.now starts.now ends.now }
     requires cycled { Cycled m cycles.now steps.now }
     ensures { vertex_says result ≡ pair_case (turns_in (rows_of n ids.now kinds.now starts.now ends.now) true v (cycles_from (take m cycles.now) steps.now)) (turns_in (rows_of n ids.now kinds.now starts.now ends.now) false v (cycles_from (take m cycles.now) steps.now)) x }
@@ -146,20 +145,20 @@ fn pair_case(
     let b = x.two;
     let one = one_edge(a, x.back1, b, x.back2);
     if ask_uncut_turns::turns(ids, kinds, starts, ends, n, one, cycles, m, steps, v) {
-        return AtVertex::Refused;
+        return Err(Question::Rule);
     }
     if one {
-        return AtVertex::Loop(a);
+        return Ok(AtVertex::Loop(a));
     }
-    AtVertex::Joint {
+    Ok(AtVertex::Joint {
         one: a,
         back1: x.back1,
         two: b,
         back2: x.back2,
-    }
+    })
 }
 
-// The case of the vertex v.
+// The case of the vertex v, or question 6.
 pub fn at_vertex(
     ids: &[u32; 256],
     kinds: &[u32; 256],
@@ -170,7 +169,7 @@ pub fn at_vertex(
     m: usize,
     steps: &[u32; 2048],
     v: u32,
-) -> AtVertex
+) -> Result<AtVertex, Question>
     requires rowed { Rowed n ids.now kinds.now starts.now ends.now }
     requires cycles_len { length cycles.now ≡ 512 }
     requires steps_len { length steps.now ≡ 2048 }
@@ -180,18 +179,9 @@ pub fn at_vertex(
 {
     let x = ends_at(ids, kinds, starts, ends, n, v);
     let lones = rows_uses::count_lone(cycles, m, steps, v);
-    let k = x.count;
-    if k == 0 {
-        if lones == 1 {
-            return AtVertex::Lonely;
-        }
-        return AtVertex::Refused;
+    match (x.count, lones) {
+        (0, 1) => Ok(AtVertex::Lonely),
+        (2, 0) => pair_case(ids, kinds, starts, ends, n, cycles, m, steps, v, x),
+        _ => Err(Question::Rule),
     }
-    if k == 2 {
-        if lones == 0 {
-            return pair_case(ids, kinds, starts, ends, n, cycles, m, steps, v, x);
-        }
-        return AtVertex::Refused;
-    }
-    AtVertex::Refused
 }

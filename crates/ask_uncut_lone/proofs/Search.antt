@@ -62,7 +62,7 @@ module _ {v : ℕ} {ns st : List ℕ} {m from i : ℕ} (x : Seeking v ns st m fr
         (drop-drop (width (get_or ns i 0)) from st ∙ ap (λ (y : ℕ). drop (from + y) st) (sym f)) in
         record { from_is = ap (λ (y : ℕ). from + y) f ∙ sum; rest = omega arith }
 
-  pub seeking_end : i ≡ m → i ≡ lone_place v (cycles_from (take m ns) st)
+  pub seeking_end : i ≡ m → m ≡ lone_place v (cycles_from (take m ns) st)
   seeking_end e =
       let a = x.rest in
       let b = ap (λ (y : List ℕ). lone_place v (cycles_from y (drop from st))) (left_none ns m i h e) in
@@ -97,7 +97,7 @@ module _ (ks : List ℕ) (n j : ℕ) where
         let e : i + (1 + o.row) ≡ i + 1 + o.row = omega arith in
         record { rest = asked false (le-ltb p k (omega arith)) ∙ ap (λ (r : ℕ). record { row = r; place = o.place }) e }
 
-  pub passing_end : n ≤ length ks → (p i : ℕ) → i ≡ n → Passing p i → record { row = i; place = p } ≡ holding (take n ks) j
+  pub passing_end : n ≤ length ks → (p i : ℕ) → i ≡ n → Passing p i → record { row = n; place = p } ≡ holding (take n ks) j
   passing_end h p i e x =
-      let z : i ≡ i + 0 = omega arith in
+      let z : n ≡ i + 0 = omega arith in
       ap (λ (r : ℕ). record { row = r; place = p }) z ∙ sym (x.rest ∙ ap (λ (y : List ℕ). rows_on i (holding y p)) (left_none ks n i h e))

@@ -34,16 +34,14 @@ pub fn lone_place<'a>(cycles: &'a [u32; 512], m: usize, steps: &'a [u32; 2048], 
     ensures { result ≡ lone_place v (cycles_from (take m cycles.now) steps.now) }
 {
     let mut from: usize = 0;
-    let mut i: usize = 0;
-    while i < m {
+    for i in 0..m {
         let c = cycles[i];
         if is_lone(c, steps, from, v) {
             return i;
         }
-        from = from + store::places(1, c);
-        i = i + 1;
+        from += store::places(1, c);
     }
-    i
+    m
 }
 
 // Which of n rows holds the cycle j, and its place there, by the rows' numbers of cycles.
@@ -53,20 +51,12 @@ pub fn row_holding(counts: &[u32; 256], n: usize, j: usize) -> Held
     ensures { result ≡ holding (take n counts.now) j }
 {
     let mut place = j;
-    let mut i: usize = 0;
-    while i < n {
+    for i in 0..n {
         let k = store::wide(counts[i]);
         if place < k {
-            return Held {
-                row: i,
-                place: place,
-            };
+            return Held { row: i, place };
         }
-        place = place - k;
-        i = i + 1;
+        place -= k;
     }
-    Held {
-        row: i,
-        place: place,
-    }
+    Held { row: n, place }
 }

@@ -1,13 +1,13 @@
 -- Turns along paths and cycles. Assumes nothing.
 use Prim.Native.Nat.{ℕ, zero, suc, ◌+◌, ◌<◌, ◌≤◌, ◌/◌, ◌%◌}
 use mathlib.Core.Path.{◌≡◌, refl, ap, sym, ◌∙◌}
-use mathlib.Core.Bool.{Bool, true, false, not, ◌&&◌, ◌||◌, cond, beq}
+use mathlib.Core.Bool.{Bool, true, false, not, ◌&&◌, ◌||◌, beq}
 use mathlib.Core.List.{List, [], ◌∷◌, ◌++◌, map}
 use native.Mathlib.Omega.{arith}
 use lib.Dec.{eqb}
-use lib.ListN.{length, take, drop, get_or}
+use lib.ListN.{length, take, drop, get_or, get_or-eq_default}
 use lib.Seq.{get_or-drop, drop-drop}
-use borrow.Author.Tests.{eq-eqb, ne_eqb}
+use borrow.Author.Tests.{eqb-true, eqb-false, eq-eqb, ne_eqb}
 use Rattle.number.specs.Readers.{spread}
 use Rattle.complex.specs.Lists.{any}
 use Rattle.complex.specs.Cells.{Cycle, steps_of}
@@ -16,8 +16,8 @@ use Rattle.complex.proofs.Bools.{or_none, or_assoc}
 use Rattle.store.specs.View.{halfedge_of, width, width_sum, cycle_of, cycles_from}
 use Rattle.store.proofs.Lists.{sum_more, sum_le}
 use Rattle.sound.proofs.Testing.{left_cons, left_none}
-use Rattle.store.specs.Index.{value_at}
-use Rattle.sound.specs.Rows.{Rows}
+use Rattle.store.specs.Index.{row_of, value_at}
+use Rattle.sound.specs.Rows.{Rows, goes_on_at}
 use Rattle.sound.proofs.Walking.{room}
 use Rattle.ask_uncut_turns.specs.Turns.{side_in, leaves_in, turns_back, turns_at}
 
@@ -44,23 +44,26 @@ pub opposite_forth : (p q : Bool) → p ≡ false → q ≡ beq (not p) q
 opposite_forth p true e = sym (ap (λ (b : Bool). beq (not b) true) e)
 opposite_forth p false e = sym (ap (λ (b : Bool). beq (not b) false) e)
 
+eqb_turned : (a b : ℕ) → eqb a b ≡ eqb b a
+eqb_turned a b = go (eqb a b) refl
+  where
+    go : (t : Bool) → eqb a b ≡ t → t ≡ eqb b a
+    go true e = sym (eq-eqb b a (sym (eqb-true a b e)))
+    go false e = sym (ne_eqb b a (λ f. eqb-false a b e (sym f)))
+
 -- ---- one halfedge
-module _ (is ss es : List ℕ) (s : ℕ) where
-  pub side_back : s % 2 ≡ 1 → value_at 0 is es (s / 2) ≡ side_in is ss es (halfedge_of s)
-  side_back e = sym (ap (λ (b : Bool). cond b (value_at 0 is es (s / 2)) (value_at 0 is ss (s / 2))) (eq-eqb (s % 2) 1 e))
+module _ (t : Rows) (v s r : ℕ) (er : r ≡ row_of (s / 2) t.ids) where
+  -- a row that goes on with it has an edge that leaves
+  pub leaves_row : goes_on_at t.kinds t.starts t.ends r v s ≡ leaves_in t v (halfedge_of s)
+  leaves_row =
+      ap (λ (i : ℕ). goes_on_at t.kinds t.starts t.ends i v s) er
+      ∙ ap (λ (b : Bool). eqb (value_at 4 t.ids t.kinds (s / 2)) 1 && b) (eqb_turned v (side_in t.ids t.starts t.ends (halfedge_of s)))
 
-  pub side_forth : (s % 2 ≡ 1 → ⊥) → value_at 0 is ss (s / 2) ≡ side_in is ss es (halfedge_of s)
-  side_forth e = sym (ap (λ (b : Bool). cond b (value_at 0 is es (s / 2)) (value_at 0 is ss (s / 2))) (ne_eqb (s % 2) 1 e))
-
-module _ (t : Rows) (v s k : ℕ) (ek : k ≡ value_at 4 t.ids t.kinds (s / 2)) where
-  pub leaves_open : k ≡ 1 → (u : ℕ) → u ≡ side_in t.ids t.starts t.ends (halfedge_of s) → eqb u v ≡ leaves_in t v (halfedge_of s)
-  leaves_open e u eu =
-      ap (λ (x : ℕ). eqb x v) eu
-      ∙ sym (ap (λ (b : Bool). b && eqb (side_in t.ids t.starts t.ends (halfedge_of s)) v) (ap (λ (x : ℕ). eqb x 1) (sym ek) ∙ eq-eqb k 1 e))
-
-  pub leaves_none : (k ≡ 1 → ⊥) → false ≡ leaves_in t v (halfedge_of s)
-  leaves_none e =
-      sym (ap (λ (b : Bool). b && eqb (side_in t.ids t.starts t.ends (halfedge_of s)) v) (ap (λ (x : ℕ). eqb x 1) (sym ek) ∙ ne_eqb k 1 e))
+  -- the id of no row leaves nothing
+  pub leaves_none : length t.kinds ≤ r → false ≡ leaves_in t v (halfedge_of s)
+  leaves_none h =
+      sym (ap (λ (k : ℕ). eqb k 1 && eqb (side_in t.ids t.starts t.ends (halfedge_of s)) v)
+      (ap (λ (i : ℕ). get_or t.kinds i 4) (sym er) ∙ get_or-eq_default t.kinds 4 h))
 
 -- ---- one passage
 bits : (x y : ℕ) → x < 2 → y < 2 → not (eqb x y) ≡ beq (not (eqb x 1)) (eqb y 1)

@@ -7,7 +7,7 @@ ghost use Rattle.complex.specs.Cells.{steps_of};
 ghost use Rattle.complex.specs.Uses.{passage, passages};
 ghost use Rattle.store.specs.View.{halfedge_of, width, cycle_of, cycles_from};
 ghost use Rattle.sound.specs.Rows.{rows_of};
-ghost use Rattle.ask_uncut_turns.specs.Turns.{Rowed, Cycled, side_in, leaves_in, turns_back, turns_at, turns_in};
+ghost use Rattle.ask_uncut_turns.specs.Turns.{Rowed, Cycled, leaves_in, turns_back, turns_at, turns_in};
 
 // Whether one of two directions is backward and the other not.
 pub fn opposite(p: bool, q: bool) -> bool
@@ -17,18 +17,6 @@ pub fn opposite(p: bool, q: bool) -> bool
         return !q;
     }
     q
-}
-
-// Where the halfedge s begins; with starts and ends exchanged, where it ends.
-fn side(ids: &[u32; 256], starts: &[u32; 256], ends: &[u32; 256], n: usize, s: u32) -> u32
-    requires { Rowed n ids.now starts.now starts.now ends.now }
-    ensures { result ≡ side_in (take n ids.now) (take n starts.now) (take n ends.now) (halfedge_of s) }
-{
-    let e = s / 2;
-    if s % 2 == 1 {
-        return store::value_at(0, ids, ends, n, e);
-    }
-    store::value_at(0, ids, starts, n, e)
 }
 
 // Whether the halfedge s is of an open edge and begins at v.
@@ -44,11 +32,9 @@ fn leaves(
     requires { Rowed n ids.now kinds.now starts.now ends.now }
     ensures { result ≡ leaves_in (rows_of n ids.now kinds.now starts.now ends.now) v (halfedge_of s) }
 {
-    let e = s / 2;
-    let k = store::value_at(4, ids, kinds, n, e);
-    if k == 1 {
-        let u = side(ids, starts, ends, n, s);
-        return u == v;
+    let row = store::find(ids, n, s / 2);
+    if row < n {
+        return rows_halfedge::goes_on(kinds, starts, ends, n, row, v, s);
     }
     false
 }
@@ -111,14 +97,12 @@ fn path_turns(
 {
     let first = steps[from];
     let mut h = first;
-    let mut i: usize = 1;
-    while i < m {
+    for i in 1..m {
         let k = steps[from + i];
         if turns_at(ids, kinds, starts, ends, n, whole, h, k, v) {
             return true;
         }
         h = k;
-        i = i + 1;
     }
     turns_at(ids, kinds, starts, ends, n, whole, h, first, v)
 }
@@ -176,14 +160,12 @@ pub fn turns(
     ensures { result ≡ turns_in (rows_of n ids.now kinds.now starts.now ends.now) whole v (cycles_from (take m cycles.now) steps.now) }
 {
     let mut from: usize = 0;
-    let mut i: usize = 0;
-    while i < m {
+    for i in 0..m {
         let c = cycles[i];
         if cycle_turns(ids, kinds, starts, ends, n, whole, steps, from, c, v) {
             return true;
         }
         from = from + store::places(1, c);
-        i = i + 1;
     }
     false
 }

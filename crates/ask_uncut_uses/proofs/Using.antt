@@ -1,7 +1,7 @@
 -- The uses of an edge, one after another. Assumes nothing.
 use Prim.Native.Nat.{ℕ, zero, suc, ◌+◌, ◌<◌, ◌≤◌, ◌/◌, ◌%◌}
 use mathlib.Core.Path.{◌≡◌, refl, ap, ap₂, sym, ◌∙◌}
-use mathlib.Core.Bool.{Bool, true, false, cond}
+use mathlib.Core.Bool.{Bool, true, false}
 use mathlib.Core.List.{List, [], ◌∷◌, map, foldl, foldl-append}
 use native.Mathlib.Omega.{arith}
 use native.Mathlib.Numerals.{add-one}
@@ -24,20 +24,6 @@ use Rattle.ask_uncut_uses.specs.declared.Past.{Past}
 use Rattle.ask_uncut_uses.specs.Uses.{use_of, no_uses, add_use, one_use, uses_two, row_uses, Faces}
 
 -- ---- one use more
-module _ (x : Uses) (u : Use) where
-  abbrev choice : Bool → Bool → Uses
-  choice b c =
-      cond b (record { count = 1; one = u; two = u }) (cond c (record { count = 2; one = x.one; two = u }) (record { count = 3; one = x.one; two = x.two }))
-
-  pub add_first : x.count ≡ 0 → record { count = 1; one = u; two = u } ≡ add_use x u
-  add_first e = sym (ap (λ (b : Bool). choice b (eqb x.count 1)) (eq-eqb x.count 0 e))
-
-  pub add_second : x.count ≡ 1 → record { count = 2; one = x.one; two = u } ≡ add_use x u
-  add_second e = sym (ap₂ choice (ne_eqb x.count 0 (λ z. omega arith)) (eq-eqb x.count 1 e))
-
-  pub add_later : (x.count ≡ 0 → ⊥) → (x.count ≡ 1 → ⊥) → record { count = 3; one = x.one; two = x.two } ≡ add_use x u
-  add_later e g = sym (ap₂ choice (ne_eqb x.count 0 e) (ne_eqb x.count 1 g))
-
 three_on : (u w : Use) (l : List Used) → foldl one_use (record { count = 3; one = u; two = w }) l ≡ record { count = 3; one = u; two = w }
 three_on u w [] = refl
 three_on u w (a ∷ l) = three_on u w l

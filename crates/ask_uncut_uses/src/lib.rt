@@ -99,13 +99,11 @@ fn path_uses(
     ensures { result ≡ foldl one_use x0 (step_uses e face cycle 0 (map halfedge_of (take m (drop from steps.now)))) }
 {
     let mut x = x0;
-    let mut i: usize = 0;
-    while i < m {
+    for i in 0..m {
         let s = steps[from + i];
         if e == s / 2 {
             x = step_use(x, e, s, face, cycle, i);
         }
-        i = i + 1;
     }
     x
 }
@@ -149,12 +147,10 @@ fn face_uses(
 {
     let mut x = x0;
     let mut from = p0;
-    let mut i: usize = 0;
-    while i < k {
+    for i in 0..k {
         let c = cycles[c0 + i];
         x = cycle_uses(steps, from, c, e, face, i, x);
         from = from + store::places(1, c);
-        i = i + 1;
     }
     Past {
         uses: x,
@@ -193,8 +189,7 @@ pub fn uses_of(
     let mut x = no_uses();
     let mut c0: usize = 0;
     let mut from: usize = 0;
-    let mut i: usize = 0;
-    while i < n {
+    for i in 0..n {
         let k = store::wide(counts[i]);
         if 0 < k {
             let p = face_uses(pool, c0, k, steps, from, e, ids[i], x);
@@ -202,7 +197,6 @@ pub fn uses_of(
             from = p.place;
             c0 = c0 + k;
         }
-        i = i + 1;
     }
     x
 }

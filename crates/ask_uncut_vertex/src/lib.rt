@@ -4,16 +4,17 @@ ghost use Rattle.std.specs.Prelude.{◌≡◌, cond, ◌≤◌};
 ghost use Rattle.answer.specs.Sizes.{sized, more_less, changed_by};
 ghost use Rattle.answer.specs.Late.{sizes_by, late_no, Small};
 ghost use Rattle.complex.specs.Sound.{ids_end};
+ghost use Rattle.answer.specs.Questions.{no_of};
 
-use answer::Totals;
+use answer::{Question, Totals};
 
-// Questions 7 and 8 where a vertex becomes a bend of a new edge and so many cells go: the number of the first no, or 0. Steps that
+// Questions 7 and 8 where a vertex becomes a bend of a new edge and so many cells go: the first no. Steps that
 // go need not be counted: no ceiling is passed by fewer.
-pub fn bend_no(next: u32, t: Totals, cells: usize) -> u32
+pub fn bend_asked(next: u32, t: Totals, cells: usize) -> Result<(), Question>
     requires next_le_ids_end { next ≤ ids_end }
     requires small { Small t }
     requires cells_bound { cells ≤ 4294967296 }
-    ensures { result ≡ late_no next 1 (changed_by (sizes_by t) (more_less (sized 0 0 0 1) (sized cells 0 0 0))) }
+    ensures { no_of result ≡ late_no next 1 (changed_by (sizes_by t) (more_less (sized 0 0 0 1) (sized cells 0 0 0))) }
 {
     let more = Totals {
         cells: 0,
@@ -27,7 +28,7 @@ pub fn bend_no(next: u32, t: Totals, cells: usize) -> u32
         steps: 0,
         bends: 0,
     };
-    answer::late_no(next, 1, t, more, less)
+    answer::late_asked(next, 1, t, more, less)
 }
 
 // An edge as it leaves a vertex: its row, the vertex where it leads, and where its bends stand.

@@ -1,4 +1,5 @@
 -- From question 1 to what the calls answer. Assumes nothing.
+use Rattle.std.specs.Prelude.{Option, Some, None}
 use Prim.Native.Nat.{ℕ}
 use mathlib.Core.Path.{◌≡◌, refl, sym, ap, ◌∙◌, subst}
 use mathlib.Core.Bool.{Bool, true, false, cond}
@@ -22,8 +23,6 @@ use Rattle.answer.specs.declared.Totals.{Totals}
 use Rattle.lent.specs.Arrays.{Arrays, held_by, sound_arrays, totals_of, Lengths}
 use Rattle.lent.specs.Replies.{Ready}
 use Rattle.lent.proofs.Replies.{drawing_of}
-use Rattle.lent_sound.specs.declared.Walked.{Walked}
-use Rattle.lent_sound.specs.declared.Walked.TheVariants.{Sound, Fault}
 use Rattle.lent_sound.specs.Walk.{walk_right, walk_says}
 use Rattle.lent_sound.proofs.Whole.{sound_walk}
 use Rattle.lent_row.proofs.Rows.{said_no, said_done}
@@ -62,20 +61,20 @@ begun a = numbers_empty a a.next a.count
 
 -- ---- question 1
 module _ (a : Arrays) where
-  sound_said : Lengths a → (r : Walked) → walk_says r ≡ cond (sound_arrays a) (done (totals_of a)) (no 1) → Asked a r
-  sound_said l (Sound t) e =
+  sound_said : Lengths a → (r : Option Totals) → walk_says r ≡ cond (sound_arrays a) (done (totals_of a)) (no 1) → Asked a r
+  sound_said l (Some t) e =
       let p = said_done (sound_arrays a) t (totals_of a) e in
       record { sound = truth p.0; long = l; sums = p.1 }
-  sound_said l Fault e = said_no (sound_arrays a) (totals_of a) e
+  sound_said l None e = said_no (sound_arrays a) (totals_of a) e
 
   -- by the walk
-  pub asked_said : Lengths a → (r : Walked) → walk_says r ≡ cond (walk_right true a) (done (totals_of a)) (no 1) → Asked a r
+  pub asked_said : Lengths a → (r : Option Totals) → walk_says r ≡ cond (walk_right true a) (done (totals_of a)) (no 1) → Asked a r
   asked_said l r e = sound_said l r (e ∙ sym (ap (λ (b : Bool). cond b (done (totals_of a)) (no 1)) (sound_walk a l)))
 
-  pub asked_sums : (r : Walked) (t : Totals) → Asked a r → r ≡ Sound t → Ready a t
+  pub asked_sums : (r : Option Totals) (t : Totals) → Asked a r → r ≡ Some t → Ready a t
   asked_sums r t w e = subst (Asked a) e w
 
-  pub asked_no : (r : Walked) → Asked a r → r ≡ Fault → sound_arrays a ≡ false
+  pub asked_no : (r : Option Totals) → Asked a r → r ≡ None → sound_arrays a ≡ false
   asked_no r w e = subst (Asked a) e w
 
   -- a call of sound arrays, and of arrays that are not sound
@@ -86,10 +85,10 @@ module _ (a : Arrays) where
   of_unsound {A} x y w = sym (ap (λ (b : Bool). cond b x y) w)
 
   -- what a call gives after question 1
-  pub after_yes : {A : Type 0} (x y : A) (r : Walked) (t : Totals) → Asked a r → r ≡ Sound t → x ≡ cond (sound_arrays a) x y
+  pub after_yes : {A : Type 0} (x y : A) (r : Option Totals) (t : Totals) → Asked a r → r ≡ Some t → x ≡ cond (sound_arrays a) x y
   after_yes x y r t w e = of_sound x y (asked_sums r t w e).sound
 
-  pub after_no : {A : Type 0} (x y : A) (r : Walked) → Asked a r → r ≡ Fault → y ≡ cond (sound_arrays a) x y
+  pub after_no : {A : Type 0} (x y : A) (r : Option Totals) → Asked a r → r ≡ None → y ≡ cond (sound_arrays a) x y
   after_no x y r w e = of_unsound x y (asked_no r w e)
 
   sheet_of_lem : T (sound_arrays a) → T (sound (sheet_of (held_by a)))

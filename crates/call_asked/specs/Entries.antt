@@ -1,4 +1,6 @@
 -- What the calls on lent arrays give for any contents. Definitions only.
+use Rattle.std.specs.Prelude.{Option, Some, None}
+use Rattle.answer.specs.declared.Totals.{Totals}
 use Rattle.std.specs.Prelude.{ℕ, ◌≡◌, false, cond, List, T, pos}
 use Rattle.complex.specs.Cells.{empty}
 use Rattle.complex.specs.Answer.{rest}
@@ -7,8 +9,6 @@ use Rattle.complex.specs.Pieces.{PiecesAnswer, pieces_call}
 use Rattle.store.specs.View.{sheet_of}
 use Rattle.lent.specs.Arrays.{Arrays, held_by, sound_arrays}
 use Rattle.lent.specs.Replies.{Ready}
-use Rattle.lent_sound.specs.declared.Walked.{Walked}
-use Rattle.lent_sound.specs.declared.Walked.TheVariants.{Sound, Fault}
 
 -- the empty drawing
 pub record EmptyIn (a : Arrays) : Type 0 where
@@ -20,9 +20,9 @@ abbrev pub Begun : ℕ → ℕ → Type 0
 Begun n k = (a : Arrays) → a.next ≡ n → a.count ≡ k → EmptyIn a
 
 -- question 1: sound arrays with their sums, or arrays that are not sound
-abbrev pub Asked : Arrays → Walked → Type 0
-Asked a (Sound t) = Ready a t
-Asked a Fault = sound_arrays a ≡ false
+abbrev pub Asked : Arrays → Option Totals → Type 0
+Asked a (Some t) = Ready a t
+Asked a None = sound_arrays a ≡ false
 
 -- the rest of the bytes; all of them where the arrays are not sound
 abbrev pub rest_on : Arrays → List ℕ → List ℕ

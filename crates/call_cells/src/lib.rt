@@ -10,34 +10,26 @@ ghost use Rattle.store.specs.View.{cycles_from, cells_of, sheet_of};
 ghost use Rattle.file_parts.specs.Parts.{BytesPut, positions_from};
 ghost use Rattle.file_write.specs.Places.{AllReady};
 ghost use Rattle.file_length.specs.Widths.{Heads, head_width};
-ghost use Rattle.lent.specs.Arrays.{held_by, of_lists};
+ghost use Rattle.lent.specs.Arrays.{held_by};
 ghost use Rattle.lent.specs.Replies.{Ready};
 ghost use Rattle.call_cells.specs.Rows.{cells_in, past_cell};
+ghost use Rattle.lent.specs.Sheets.{seen};
 
 use answer::Totals;
 use file_write::Place;
+use lent::SheetRef;
 use store::{Cell, Shape};
 
 // The cell in a row.
-pub fn cell_at(
-    ids: &[u32; 256],
-    kinds: &[u32; 256],
-    starts: &[u32; 256],
-    ends: &[u32; 256],
-    bends: &[u32; 256],
-    counts: &[u32; 256],
-    px: &[f64; 256],
-    py: &[f64; 256],
-    row: usize,
-) -> Cell
+pub fn cell_at(view: &SheetRef<'_>, row: usize) -> Cell
     requires row_lt_cells_most { row < cells_most }
-    requires ids_len { length ids.now ≡ cells_most }
-    ensures { result ≡ get_or (cells_in ids.now kinds.now starts.now ends.now bends.now counts.now px.now py.now) row past_cell }
+    requires ids_len { length view.now.ids.now ≡ cells_most }
+    ensures { result ≡ get_or (cells_in view.now.ids.now view.now.kinds.now view.now.starts.now view.now.ends.now view.now.bends.now view.now.counts.now view.now.px.now view.now.py.now) row past_cell }
 {
-    let id = ids[row];
-    let kind = kinds[row];
+    let id = view.ids[row];
+    let kind = view.kinds[row];
     if kind == 0 {
-        let p = lent::vertex_at(px, py, row);
+        let p = lent::vertex_at(view.px, view.py, row);
         return Cell {
             id,
             shape: Shape::Vertex(p),
@@ -47,101 +39,60 @@ pub fn cell_at(
         return Cell {
             id,
             shape: Shape::Open {
-                start: starts[row],
-                end: ends[row],
-                bends: bends[row],
+                start: view.starts[row],
+                end: view.ends[row],
+                bends: view.bends[row],
             },
         };
     }
     if kind == 2 {
+        let bends = view.bends[row];
         return Cell {
             id,
-            shape: Shape::Closed { bends: bends[row] },
+            shape: Shape::Closed { bends },
         };
     }
     Cell {
         id,
         shape: Shape::Face {
-            cycles: counts[row],
+            cycles: view.counts[row],
         },
     }
 }
 
 // The bytes that the first n cells take besides bends and cycles.
-fn heads(
-    ids: &[u32; 256],
-    kinds: &[u32; 256],
-    starts: &[u32; 256],
-    ends: &[u32; 256],
-    bends: &[u32; 256],
-    counts: &[u32; 256],
-    px: &[f64; 256],
-    py: &[f64; 256],
-    n: usize,
-) -> usize
-    requires { Heads (cells_in ids.now kinds.now starts.now ends.now bends.now counts.now px.now py.now) n }
-    ensures { result ≡ total head_width (take n (cells_in ids.now kinds.now starts.now ends.now bends.now counts.now px.now py.now)) }
+fn heads(view: &SheetRef<'_>, n: usize) -> usize
+    requires { Heads (cells_in view.now.ids.now view.now.kinds.now view.now.starts.now view.now.ends.now view.now.bends.now view.now.counts.now view.now.px.now view.now.py.now) n }
+    ensures { result ≡ total head_width (take n (cells_in view.now.ids.now view.now.kinds.now view.now.starts.now view.now.ends.now view.now.bends.now view.now.counts.now view.now.px.now view.now.py.now)) }
 {
     let mut sum: usize = 0;
-    let mut i: usize = 0;
-    while i < n {
-        let c = cell_at(ids, kinds, starts, ends, bends, counts, px, py, i);
+    for i in 0..n {
+        let c = cell_at(view, i);
         sum = sum + file_length::head_length(c);
-        i = i + 1;
     }
     sum
 }
 
 // The bytes of the file.
-pub fn file_length(
-    next: u32,
-    count: usize,
-    ids: &[u32; 256],
-    kinds: &[u32; 256],
-    starts: &[u32; 256],
-    ends: &[u32; 256],
-    bends: &[u32; 256],
-    counts: &[u32; 256],
-    px: &[f64; 256],
-    py: &[f64; 256],
-    cycles: &[u32; 512],
-    steps: &[u32; 2048],
-    bx: &[f64; 2048],
-    by: &[f64; 2048],
-    t: Totals,
-) -> usize
-    requires { Ready (of_lists next count ids.now kinds.now starts.now ends.now bends.now counts.now px.now py.now cycles.now steps.now bx.now by.now) t }
-    ensures { result ≡ length (file_of (sheet_of (held_by (of_lists next count ids.now kinds.now starts.now ends.now bends.now counts.now px.now py.now cycles.now steps.now bx.now by.now)))) }
+pub fn file_length(view: &SheetRef<'_>, t: Totals) -> usize
+    requires { Ready (seen view.now) t }
+    ensures { result ≡ length (file_of (sheet_of (held_by (seen view.now)))) }
 {
-    let h = heads(ids, kinds, starts, ends, bends, counts, px, py, count);
+    let cycles = view.cycles;
+    let steps = view.steps;
+    let h = heads(view, view.count);
     let c = file_length::widths(cycles, t.cycles);
     let s = file_length::widths(steps, t.steps);
-    let a = number::number_width(next);
-    let b = number::number_width(count as u32);
+    let a = number::number_width(view.next);
+    let b = number::number_width(view.count as u32);
     a + (b + (h + ((c + s) + 16 * t.bends)))
 }
 
 // The first n cells; each is lent what is left of the buffer.
-pub fn put_cells(
-    ids: &[u32; 256],
-    kinds: &[u32; 256],
-    starts: &[u32; 256],
-    ends: &[u32; 256],
-    bends: &[u32; 256],
-    counts: &[u32; 256],
-    px: &[f64; 256],
-    py: &[f64; 256],
-    cycles: &[u32; 512],
-    steps: &[u32; 2048],
-    bx: &[f64; 2048],
-    by: &[f64; 2048],
-    n: usize,
-    buffer: &mut [u8],
-    start: usize,
-) -> usize
-    requires all_ready { AllReady (cells_in ids.now kinds.now starts.now ends.now bends.now counts.now px.now py.now) n bx.now by.now cycles.now steps.now }
-    requires by_in_bounds { start + length (spread cell_bytes (cells_of (take n (cells_in ids.now kinds.now starts.now ends.now bends.now counts.now px.now py.now)) (cycles_from cycles.now steps.now) (positions_from bx.now by.now))) ≤ length buffer.old }
-    ensures { BytesPut buffer.old start (spread cell_bytes (cells_of (take n (cells_in ids.now kinds.now starts.now ends.now bends.now counts.now px.now py.now)) (cycles_from cycles.now steps.now) (positions_from bx.now by.now))) buffer.new result }
+pub fn put_cells(view: &SheetRef<'_>, n: usize, buffer: &mut [u8], start: usize) -> usize
+    requires all_ready { AllReady (cells_in view.now.ids.now view.now.kinds.now view.now.starts.now view.now.ends.now view.now.bends.now view.now.counts.now view.now.px.now view.now.py.now) n view.now.bx.now view.now.by.now view.now.cycles.now view.now.steps.now }
+    requires by_in_bounds { start + length (spread cell_bytes (cells_of (take n (cells_in view.now.ids.now view.now.kinds.now view.now.starts.now view.now.ends.now view.now.bends.now view.now.counts.now view.now.px.now view.now.py.now)) (cycles_from view.now.cycles.now view.now.steps.now) (positions_from view.now.bx.now view.now.by.now))) ≤ length buffer.old }
+    ensures { BytesPut buffer.old start (spread cell_bytes (cells_of (take n (cells_in view.now.ids.now view.now.kinds.now view.now.starts.now view.now.ends.now view.now.bends.now view.now.counts.now view.now.px.now view.now.py.now)) (cycles_from view.now.cycles.now view.now.steps.now) (positions_from view.now.bx.now view.now.by.now))) buffer.new result }
 {
     let mut at = start;
     let mut place = Place {
@@ -149,13 +100,19 @@ pub fn put_cells(
         cycles: 0,
         steps: 0,
     };
-    let mut i: usize = 0;
-    while i < n {
-        let c = cell_at(ids, kinds, starts, ends, bends, counts, px, py, i);
-        at += file_write::put_cell(c, place, bx, by, cycles, steps, &mut buffer[at..]);
+    for i in 0..n {
+        let c = cell_at(view, i);
+        at += file_write::put_cell(
+            c,
+            place,
+            view.bx,
+            view.by,
+            view.cycles,
+            view.steps,
+            &mut buffer[at..],
+        );
         let s = c.shape;
-        place = file_write::place_after(s, cycles, place);
-        i = i + 1;
+        place = file_write::place_after(s, view.cycles, place);
     }
     at
 }

@@ -1,11 +1,12 @@
 -- After some cells of a file the rows and the arrays hold what those cells put there. Assumes nothing.
+use Rattle.std.specs.Prelude.{Option, Some, None}
 use Prim.Native.Nat.{ℕ, ◌+◌, ◌*◌, ◌≤◌, ◌<◌}
 use native.Mathlib.Omega.{arith}
 use mathlib.Core.Path.{◌≡◌, refl, sym, ap, ◌∙◌, subst}
 use mathlib.Core.Bool.{true}
 use mathlib.Core.List.{List, ◌++◌, map}
 use lib.Ieee.{Float}
-use lib.ListN.{length, take, drop, set}
+use lib.ListN.{length, take, drop}
 use lib.Seq.{paste, take-paste, length-paste, take-length, take_all}
 use Rattle.number.specs.Readers.{got, times}
 use Rattle.number.specs.Numbers.{read_number}
@@ -19,13 +20,8 @@ use Rattle.store.specs.declared.Shape.{Shape}
 use Rattle.store.specs.declared.Cell.{Cell}
 use Rattle.store.specs.declared.Drawing.{Drawing}
 use Rattle.store.specs.View.{bend_count, cycle_count, bend_total}
-use Rattle.store.specs.Index.{kind_of, shape_start, shape_end}
 use Rattle.store.proofs.Lists.{map_append}
 use Rattle.file_read.specs.declared.Used.{Used}
-use Rattle.file_read.specs.declared.Loaded.{Loaded}
-use Rattle.file_read.specs.declared.Loaded.TheVariants.{Next, Refused}
-use Rattle.file_read.specs.declared.CellFound.{CellFound}
-use Rattle.file_read.specs.declared.CellFound.TheVariants.{Begun, NoCell}
 use Rattle.file_read.specs.Heads.{read_head, ReadAt, HeadRead}
 use Rattle.file_read.specs.Filling.{Added, spots_from, bends_more, CyclesLoaded}
 use Rattle.file_read.specs.Outcome.{CellsOver, NotHeld}
@@ -35,28 +31,26 @@ use Rattle.file_read.proofs.Filled.{Filled, filled_start, filled_room, filled_tu
 use Rattle.file_read.proofs.Verdict.{cells_read}
 use Rattle.kernel_add.specs.Comes.{BendsPut}
 use Rattle.sound.specs.Rows.{all_from}
-use Rattle.lent.specs.Arrays.{Arrays, of_lists, positions_in, held_by, normal_at, normal, Lengths}
-use Rattle.lent.specs.Growing.{across_with, up_with, RowPut}
+use Rattle.lent.specs.Arrays.{Arrays, positions_in, held_by, normal_at, normal, Lengths}
+use Rattle.lent.specs.Growing.{cell_put}
 use Rattle.lent.proofs.Held.{held_sizes, numbered, numbered_long, positions_length as places-length}
 use Rattle.lent.proofs.Grown.{shape_long, shape_held, shape_normal}
-use Rattle.call_load.specs.declared.Counts.{Counts}
-use Rattle.call_load.specs.declared.Counts.TheVariants.{From, Refused as Unread}
 use Rattle.call_load.specs.Loads.{PartsPut, PartsStored, LoadRoom}
 use Rattle.call_load.specs.Loads.{answer_of, CellsHeld, CountsIn, CountsRead, SheetIn}
 
 -- ---- the bends and the cycles of a shape
 module _ (s : List ℕ) (first : ℕ) (x : Shape) (counts steps : List ℕ) (used : Used) (counts' steps' : List ℕ) where
-  abbrev Stores : Loaded → ℕ → ℕ → Type 0
+  abbrev Stores : Option (ℕ × Used) → ℕ → ℕ → Type 0
   Stores r b k =
       first + 16 * b ≤ length s → used.bends + b ≤ 2048
       → CyclesLoaded (times read_cycle k (drop (first + 16 * b) s)) s counts steps (bends_more used b) counts' steps' r
       → PartsStored s first x counts steps used counts' steps' r
 
-  shape_stored : (r : Loaded) → Stores r (bend_count x) (cycle_count x)
-  shape_stored (Next next used') h f c = record { inside = h; room = f; filled = c }
-  shape_stored Refused h f c = (refl, cycles_over s first x used h c.1)
+  shape_stored : (r : Option (ℕ × Used)) → Stores r (bend_count x) (cycle_count x)
+  shape_stored (Some (next, used')) h f c = record { inside = h; room = f; filled = c }
+  shape_stored None h f c = (refl, cycles_over s first x used h c.1)
 
-  pub parts_stored : (r : Loaded) (b k : ℕ) → b ≡ bend_count x → k ≡ cycle_count x → Stores r b k
+  pub parts_stored : (r : Option (ℕ × Used)) (b k : ℕ) → b ≡ bend_count x → k ≡ cycle_count x → Stores r b k
   parts_stored r b k e f = subst (λ (z : ℕ). Stores r z k) (sym e) (subst (Stores r (bend_count x)) (sym f) (shape_stored r))
 
   -- as many bends as were counted stand in the bytes, and have room
@@ -86,22 +80,7 @@ pub record Rowed (s : List ℕ) (at n p : ℕ) (a : Arrays) (used : Used) : Type
 -- the rows of a with the cell c more, and other arrays
 abbrev pub with_head : Arrays → Cell → List ℕ → List ℕ → List Float → List Float → Arrays
 with_head a c counts' steps' xs' ys' =
-    record {
-      next = a.next;
-      count = a.count + 1;
-      ids = set a.ids a.count c.id;
-      kinds = set a.kinds a.count (kind_of c.shape);
-      starts = set a.starts a.count (shape_start c.shape);
-      ends = set a.ends a.count (shape_end c.shape);
-      bends = set a.bends a.count (bend_count c.shape);
-      counts = set a.counts a.count (cycle_count c.shape);
-      px = across_with a.px a.count c.shape;
-      py = up_with a.py a.count c.shape;
-      cycles = counts';
-      steps = steps';
-      bx = xs';
-      by = ys';
-    }
+    record (cell_put a a.count c.id c.shape) { count = a.count + 1; cycles = counts'; steps = steps'; bx = xs'; by = ys' }
 
 -- places of bytes put after those in use
 spots_added : (l : List ℕ) (u first b : ℕ) → u + b ≤ length l → Added l u (spots_from first b) (paste l u (spots_from first b) (length (spots_from first b)))
@@ -197,31 +176,22 @@ module _ (s : List ℕ) (at n p : ℕ) (a : Arrays) (used : Used) (R : Rowed s a
               };
         }
 
-    -- the row is written
-    pub rowed_next : (is ks ss es bs cs : List ℕ) (px py : List Float) → RowPut a.count c.id c.shape a.ids a.kinds a.starts a.ends
-        a.bends a.counts a.px a.py is ks ss es bs cs px py
-        → Rowed s at n next (of_lists a.next (a.count + 1) is ks ss es bs cs px py counts' steps' xs' ys') used'
-    rowed_next is ks ss es bs cs px py W =
-        subst (λ (b : Arrays). Rowed s at n next b used')
-        (sym (λ i. of_lists a.next (a.count + 1) (W.ids i) (W.kinds i) (W.starts i) (W.ends i) (W.bends i) (W.counts i) (W.px i) (W.py i) counts'
-        steps' xs' ys')) rowed_turn
-
   -- ---- a cell's head
-  pub head_some : (r : CellFound) → HeadRead s p r → (c : Cell) (first : ℕ) → r ≡ Begun c first → ReadAt (read_head (drop p s)) s c first
+  pub head_some : (r : Option (Cell × ℕ)) → HeadRead s p r → (c : Cell) (first : ℕ) → r ≡ Some (c, first) → ReadAt (read_head (drop p s)) s c first
   head_some r h c first e = subst (HeadRead s p) e h
 
-  pub head_none : (r : CellFound) → HeadRead s p r → r ≡ NoCell → a.count < n → CellsOver (times read_cell n (drop at s))
+  pub head_none : (r : Option (Cell × ℕ)) → HeadRead s p r → r ≡ None → a.count < n → CellsOver (times read_cell n (drop at s))
   head_none r h e l = head_bad s at n a.count p (held_by a).cells a.cycles a.steps R.spots used R.filled l (subst (HeadRead s p) e h).1
 
-  module _ (c : Cell) (first : ℕ) (H : ReadAt (read_head (drop p s)) s c first) (counts' steps' : List ℕ) (r : Loaded)
+  module _ (c : Cell) (first : ℕ) (H : ReadAt (read_head (drop p s)) s c first) (counts' steps' : List ℕ) (r : Option (ℕ × Used))
       (P : PartsStored s first c.shape a.cycles a.steps used counts' steps' r) where
-    abbrev Stored : Loaded → Type 0
+    abbrev Stored : Option (ℕ × Used) → Type 0
     Stored = PartsStored s first c.shape a.cycles a.steps used counts' steps'
 
-    pub parts_some : (next : ℕ) (used' : Used) → r ≡ Next next used' → PartsPut s first c.shape a.cycles a.steps used counts' steps' next used'
+    pub parts_some : (next : ℕ) (used' : Used) → r ≡ Some (next, used') → PartsPut s first c.shape a.cycles a.steps used counts' steps' next used'
     parts_some next used' e = subst Stored e P
 
-    pub parts_none : r ≡ Refused → a.count < n → CellsOver (times read_cell n (drop at s))
+    pub parts_none : r ≡ None → a.count < n → CellsOver (times read_cell n (drop at s))
     parts_none e l = parts_over s at n a.count p (held_by a).cells a.cycles a.steps R.spots used R.filled c first l H (subst Stored e P).1
 
   -- ---- all cells
@@ -245,11 +215,11 @@ module _ (s : List ℕ) (at n p : ℕ) (a : Arrays) (used : Used) (R : Rowed s a
       (held_sizes (numbered a j n) (numbered_long a j n R.long)) few refl refl refl refl R.bends
 
 -- ---- the file
-module _ (s : List ℕ) (r : Counts) (c : CountsRead s r) where
-  pub counts_some : (next n at : ℕ) → r ≡ From next n at → CountsIn s next n at
+module _ (s : List ℕ) (r : Option (ℕ × ℕ × ℕ)) (c : CountsRead s r) where
+  pub counts_some : (next n at : ℕ) → r ≡ Some (next, n, at) → CountsIn s next n at
   counts_some next n at e = subst (CountsRead s) e c
 
-  pub counts_none : r ≡ Unread → NotHeld s
+  pub counts_none : r ≡ None → NotHeld s
   counts_none e = subst (CountsRead s) e c
 
 module _ (s t : List ℕ) (next : ℕ) (e : read_number s ≡ got next t) (n : ℕ) (u : List ℕ) (f : read_number t ≡ got n u) where

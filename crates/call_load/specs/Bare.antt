@@ -1,4 +1,5 @@
 -- What loading a drawing's file, with its bends or without them, leaves in lent arrays. Definitions only.
+use Rattle.std.specs.Prelude.{Option, Some, None}
 use Rattle.std.specs.Prelude.{ℕ, ◌≡◌, Bool, true, false, ◌&&◌, List, Float, take}
 use Rattle.number.specs.Readers.{Read, all}
 use Rattle.coordinate.specs.declared.Position.{Position}
@@ -7,17 +8,12 @@ use Rattle.complex.specs.Cells.{LiveCell}
 use Rattle.store.specs.View.{bend_total}
 use Rattle.file_read.specs.Outcome.{CellsOver, NotHeld}
 use Rattle.kernel_add.specs.Comes.{BendsPut}
-use Rattle.lent.specs.Arrays.{Arrays, of_lists, held_by, Lengths}
-use Rattle.call_load.specs.declared.Looked.{Looked}
-use Rattle.call_load.specs.declared.Looked.TheVariants.{Bends, Refused as Unread}
-use Rattle.call_load.specs.declared.Outline.{Outline}
-use Rattle.call_load.specs.declared.Outline.TheVariants.{Cells, Refused}
+use Rattle.lent.specs.Arrays.{Arrays, held_by, Lengths}
 use Rattle.call_load.specs.Loads.{CellsHeld, SheetIn}
 
--- arrays of lists with the bends at xs and ys, which stand nowhere
-abbrev pub exit_with : ℕ → List ℕ → List ℕ → List ℕ → List ℕ → List ℕ → List ℕ → List Float → List Float → List ℕ → List ℕ
-    → List Float → List Float → ℕ → Arrays
-exit_with n is ks ss es bs cs px py cy st xs ys next = of_lists next n is ks ss es bs cs px py cy st xs ys
+-- the arrays a with n cells, the bends at xs and ys, which stand nowhere, and a next id
+abbrev pub exit_of : ℕ → Arrays → List Float → List Float → ℕ → Arrays
+exit_of n a xs ys next = record a { next = next; count = n; bx = xs; by = ys }
 
 -- ---- bends that are kept, or only looked at
 -- n bends bs of a cell are put from a place on, or g becomes r, which tells whether they lie in bounds too
@@ -42,9 +38,9 @@ pub record RowsHeld (keep : Bool) (q : Read (List LiveCell)) (b : List Float →
   pub held : CellsHeld q (b bx by)
   pub kept : (next : ℕ) → Kept keep (b bx by next) bx by xs ys (bend_total (held_by (b bx by next))) g
 
-abbrev pub RowsTold : Bool → Read (List LiveCell) → (List Float → List Float → ℕ → Arrays) → List Float → List Float → Looked → Type 0
-RowsTold keep q b xs ys (Bends g) = RowsHeld keep q b xs ys g
-RowsTold keep q b xs ys Unread = CellsOver q
+abbrev pub RowsTold : Bool → Read (List LiveCell) → (List Float → List Float → ℕ → Arrays) → List Float → List Float → Option Bool → Type 0
+RowsTold keep q b xs ys (Some g) = RowsHeld keep q b xs ys g
+RowsTold keep q b xs ys None = CellsOver q
 
 -- with some places of the bends the arrays hold the sheet that all bytes are read as
 pub record RowsIn (keep : Bool) (s : List ℕ) (b : List Float → List Float → Arrays) (xs ys : List Float) (g : Bool) : Type 0 where
@@ -54,6 +50,6 @@ pub record RowsIn (keep : Bool) (s : List ℕ) (b : List Float → List Float �
   pub sheet : SheetIn s (b bx by)
   pub kept : Kept keep (b bx by) bx by xs ys (bend_total (held_by (b bx by))) g
 
-abbrev pub RowsLoaded : Bool → List ℕ → (ℕ → ℕ → List Float → List Float → Arrays) → List Float → List Float → Outline → Type 0
-RowsLoaded keep s b xs ys (Cells next n g) = RowsIn keep s (b next n) xs ys g
-RowsLoaded keep s b xs ys Refused = NotHeld s
+abbrev pub RowsLoaded : Bool → List ℕ → (ℕ → ℕ → List Float → List Float → Arrays) → List Float → List Float → Option (ℕ × ℕ × Bool) → Type 0
+RowsLoaded keep s b xs ys (Some (next, n, g)) = RowsIn keep s (b next n) xs ys g
+RowsLoaded keep s b xs ys None = NotHeld s

@@ -1,4 +1,5 @@
 -- What loading a drawing's file leaves in lent arrays. Definitions only.
+use Rattle.std.specs.Prelude.{Option, Some, None}
 use Rattle.std.specs.Prelude.{ℕ, ◌+◌, ◌*◌, ◌≤◌, ◌≡◌, true, List, [], length, drop}
 use Rattle.number.specs.Readers.{Read, got, times}
 use Rattle.number.specs.Numbers.{read_number}
@@ -11,12 +12,9 @@ use Rattle.store.specs.declared.Shape.{Shape}
 use Rattle.store.specs.View.{sheet_of, Fits, bend_count, cycle_count}
 use Rattle.file_read.specs.declared.ReadAnswer.{ReadAnswer}
 use Rattle.file_read.specs.declared.Used.{Used}
-use Rattle.file_read.specs.declared.Loaded.{Loaded}
 use Rattle.file_read.specs.Filling.{CyclesIn, loaded_says, bends_more, PartsOver}
 use Rattle.file_read.specs.Outcome.{CellsIn, NotHeld}
 use Rattle.lent.specs.Arrays.{Arrays, held_by, normal}
-use Rattle.call_load.specs.declared.Counts.{Counts}
-use Rattle.call_load.specs.declared.Counts.TheVariants.{From, Refused as Unread}
 
 -- ---- what follows the counts of a shape: its bends, then its cycles, which are put into arrays
 pub record PartsPut (s : List ℕ) (first : ℕ) (x : Shape) (counts steps : List ℕ) (used : Used) (counts' steps' : List ℕ) (next : ℕ)
@@ -26,7 +24,7 @@ pub record PartsPut (s : List ℕ) (first : ℕ) (x : Shape) (counts steps : Lis
   pub filled : CyclesIn (times read_cycle (cycle_count x) (drop (first + 16 * bend_count x) s))
       s counts steps (bends_more used (bend_count x)) counts' steps' next used'
 
-abbrev pub PartsStored : List ℕ → ℕ → Shape → List ℕ → List ℕ → Used → List ℕ → List ℕ → Loaded → Type 0
+abbrev pub PartsStored : List ℕ → ℕ → Shape → List ℕ → List ℕ → Used → List ℕ → List ℕ → Option (ℕ × Used) → Type 0
 PartsStored s first x counts steps used counts' steps' r =
     Says 10 (λ v. PartsPut s first x counts steps used counts' steps' v.0 v.1) (PartsOver s first x used) (loaded_says r)
 
@@ -57,9 +55,9 @@ pub record CountsIn (s : List ℕ) (next n at : ℕ) : Type 0 where
   pub few : n ≤ cells_most
   pub inside : at ≤ length s
 
-abbrev pub CountsRead : List ℕ → Counts → Type 0
-CountsRead s (From next n at) = CountsIn s next n at
-CountsRead s Unread = NotHeld s
+abbrev pub CountsRead : List ℕ → Option (ℕ × ℕ × ℕ) → Type 0
+CountsRead s (Some (next, n, at)) = CountsIn s next n at
+CountsRead s None = NotHeld s
 
 -- all bytes are read as the sheet that the arrays hold
 pub record SheetIn (s : List ℕ) (b : Arrays) : Type 0 where

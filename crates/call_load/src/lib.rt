@@ -6,10 +6,11 @@ ghost use Rattle.bends.specs.Bends.{positions_at};
 ghost use Rattle.complex.specs.Sound.{cells_most, bends_most};
 ghost use Rattle.complex.specs.File.{read_cell};
 ghost use Rattle.call_load.specs.Loads.{LoadRoom, PartsStored, CountsRead};
-ghost use Rattle.call_load.specs.Bare.{BendsTaken, Stays, exit_with, RowsTold, RowsLoaded};
+ghost use Rattle.call_load.specs.Bare.{BendsTaken, Stays, exit_of, RowsTold, RowsLoaded};
+ghost use Rattle.lent.specs.Sheets.{arrays, Same};
 
-use file_read::{CellFound, Loaded, Used};
-use number::Number;
+use file_read::Used;
+use lent::SheetMut;
 use store::Shape;
 
 // The ceilings.
@@ -17,29 +18,8 @@ const CELLS_MOST: usize = 256;
 
 const BENDS_MOST: usize = 2048;
 
-// The next id, the number of cells and whether the bends that were looked at lie in bounds; or the bytes are not, all of them, a next id and
-// cells that keep the ceilings.
-#[derive(Clone, Copy)]
-pub enum Outline {
-    Cells(u32, usize, bool),
-    Refused,
-}
-
-// What a file begins with: the next id, the number of cells and the place after them; or it begins with no such numbers.
-#[derive(Clone, Copy)]
-enum Counts {
-    From(u32, usize, usize),
-    Refused,
-}
-
-// Whether the bends of some cells that were looked at lie in bounds, or the bytes are not, all of them, cells for which there is room.
-#[derive(Clone, Copy)]
-enum Looked {
-    Bends(bool),
-    Refused,
-}
-
-// The cycles of a shape, from a place on where its bends stand before them. There must be room and bytes for both.
+// The cycles of a shape, from a place on where its bends stand before them: the place after them and what is in use with them. There must be
+// room and bytes for both.
 fn load_parts(
     s: &[u8],
     first: usize,
@@ -47,7 +27,7 @@ fn load_parts(
     cycles: &mut [u32; 512],
     steps: &mut [u32; 2048],
     used: Used,
-) -> Loaded
+) -> Option<(usize, Used)>
     requires first_in_bounds { first ≤ length s.now }
     requires load_room { LoadRoom used cycles.old steps.old }
     ensures { PartsStored s.now first shape cycles.old steps.old used cycles.new steps.new result }
@@ -55,11 +35,11 @@ fn load_parts(
     let b = store::wide(store::bend_count(shape));
     let k = store::wide(store::cycle_count(shape));
     if BENDS_MOST - used.bends < b {
-        return Loaded::Refused;
+        return None;
     }
     let bytes = 16 * b;
     if s.len() - first < bytes {
-        return Loaded::Refused;
+        return None;
     }
     let more = Used {
         bends: used.bends + b,
@@ -97,34 +77,17 @@ fn bends_taken(
     false
 }
 
-// The n cells from a place on, with nothing after them; or the bytes are not, or there is no room. Bends that are not kept are looked at in
-// the bytes.
-fn load_cells(
-    s: &[u8],
-    at: usize,
-    n: usize,
-    ids: &mut [u32; 256],
-    kinds: &mut [u32; 256],
-    starts: &mut [u32; 256],
-    ends: &mut [u32; 256],
-    bends: &mut [u32; 256],
-    counts: &mut [u32; 256],
-    px: &mut [f64; 256],
-    py: &mut [f64; 256],
-    cycles: &mut [u32; 512],
-    steps: &mut [u32; 2048],
-    bx: &mut [f64; 2048],
-    by: &mut [f64; 2048],
-    keep: bool,
-) -> Looked
+// The n cells from a place on, with nothing after them, and whether the bends that were looked at lie in bounds; none where the bytes are not
+// such cells, or there is no room. Bends that are not kept are looked at in the bytes.
+fn load_cells(s: &[u8], at: usize, n: usize, sheet: &mut SheetMut<'_>, keep: bool) -> Option<bool>
     requires at_in_bounds { at ≤ length s.now }
     requires n_le_cells_most { n ≤ cells_most }
-    ensures rows_told { RowsTold keep (times read_cell n (drop at s.now)) (exit_with n ids.new kinds.new starts.new ends.new bends.new counts.new px.new py.new cycles.new steps.new) bx.new by.new result }
-    ensures stays { Stays keep bx.old by.old bx.new by.new }
+    ensures rows_told { RowsTold keep (times read_cell n (drop at s.now)) (exit_of n (arrays sheet.new)) sheet.new.bx.now sheet.new.by.now result }
+    ensures stays { Stays keep sheet.old.bx.now sheet.old.by.now sheet.new.bx.now sheet.new.by.now }
+    ensures same { Same sheet.old sheet.new }
+    ensures kept { arrays sheet.new ≡ record (arrays sheet.new) { next = sheet.old.next.now; count = sheet.old.count.now } }
 {
-    lent::known(
-        0, 0, ids, kinds, starts, ends, bends, counts, px, py, cycles, steps, bx, by,
-    );
+    sheet.known();
     let mut used = Used {
         bends: 0,
         cycles: 0,
@@ -132,81 +95,65 @@ fn load_cells(
     };
     let mut good = true;
     let mut place = at;
-    let mut i: usize = 0;
-    while i < n {
-        let CellFound::Begun(cell, first) = file_read::head_at(s, place) else {
-            return Looked::Refused;
+    for i in 0..n {
+        let Some((cell, first)) = file_read::head_at(s, place) else {
+            return None;
         };
         let shape = cell.shape;
-        let Loaded::Next(q, more) = load_parts(s, first, shape, cycles, steps, used) else {
-            return Looked::Refused;
+        let Some((q, more)) = load_parts(s, first, shape, sheet.cycles, sheet.steps, used) else {
+            return None;
         };
         good = bends_taken(
             s,
             first,
             store::bend_count(shape),
-            bx,
-            by,
+            sheet.bx,
+            sheet.by,
             used.bends,
             keep,
             good,
         );
-        lent::put_cell(ids, kinds, starts, ends, bends, counts, px, py, i, cell);
+        lent::put_cell(sheet, i, cell);
         used = more;
         place = q;
-        i = i + 1;
     }
     if place < s.len() {
-        return Looked::Refused;
+        return None;
     }
-    Looked::Bends(good)
+    Some(good)
 }
 
-// What a file begins with.
-fn counts_at(bytes: &[u8]) -> Counts
+// What a file begins with: the next id, the number of cells and the place after them, if it does.
+fn counts_at(bytes: &[u8]) -> Option<(u32, usize, usize)>
     ensures { CountsRead bytes.now result }
 {
-    let Number::Value(next, a) = number::read_number(bytes, 0) else {
-        return Counts::Refused;
+    let Some((next, a)) = number::read_number(bytes, 0) else {
+        return None;
     };
-    let Number::Value(count, b) = number::read_number(bytes, a) else {
-        return Counts::Refused;
+    let Some((count, b)) = number::read_number(bytes, a) else {
+        return None;
     };
     let n = store::wide(count);
     if CELLS_MOST < n {
-        return Counts::Refused;
+        return None;
     }
-    Counts::From(next, n, b)
+    Some((next, n, b))
 }
 
-// The drawing whose file the bytes are, sound or not, whatever the arrays held. Only its ceilings are asked. Where its bends are not kept, their
-// arrays stay.
-pub fn load(
-    bytes: &[u8],
-    ids: &mut [u32; 256],
-    kinds: &mut [u32; 256],
-    starts: &mut [u32; 256],
-    ends: &mut [u32; 256],
-    bends: &mut [u32; 256],
-    counts: &mut [u32; 256],
-    px: &mut [f64; 256],
-    py: &mut [f64; 256],
-    cycles: &mut [u32; 512],
-    steps: &mut [u32; 2048],
-    bx: &mut [f64; 2048],
-    by: &mut [f64; 2048],
-    keep: bool,
-) -> Outline
-    ensures rows_loaded { RowsLoaded keep bytes.now (λ next n xs ys. exit_with n ids.new kinds.new starts.new ends.new bends.new counts.new px.new py.new cycles.new steps.new xs ys next) bx.new by.new result }
-    ensures stays { Stays keep bx.old by.old bx.new by.new }
+// The drawing whose file the bytes are, sound or not, whatever the arrays held: its next id, its number of cells and whether the bends that were
+// looked at lie in bounds. None where the bytes are not, all of them, a next id and cells that keep the ceilings. Where the bends are not kept,
+// their arrays stay.
+pub fn load(bytes: &[u8], sheet: &mut SheetMut<'_>, keep: bool) -> Option<(u32, usize, bool)>
+    ensures rows_loaded { RowsLoaded keep bytes.now (λ next n xs ys. exit_of n (arrays sheet.new) xs ys next) sheet.new.bx.now sheet.new.by.now result }
+    ensures stays { Stays keep sheet.old.bx.now sheet.old.by.now sheet.new.bx.now sheet.new.by.now }
+    ensures same { Same sheet.old sheet.new }
+    ensures kept { arrays sheet.new ≡ record (arrays sheet.new) { next = sheet.old.next.now; count = sheet.old.count.now } }
 {
-    let Counts::From(next, n, b) = counts_at(bytes) else {
-        return Outline::Refused;
+    let Some((next, n, b)) = counts_at(bytes) else {
+        return None;
     };
-    let Looked::Bends(good) = load_cells(
-        bytes, b, n, ids, kinds, starts, ends, bends, counts, px, py, cycles, steps, bx, by, keep,
-    ) else {
-        return Outline::Refused;
+    let Some(good) = load_cells(bytes, b, n, sheet, keep) else {
+        return None;
     };
-    Outline::Cells(next, n, good)
+    Some((next, n, good))
 }

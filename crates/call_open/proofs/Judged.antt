@@ -1,4 +1,5 @@
 -- Question 10 of a file that was loaded is question 1 of the arrays. Assumes nothing.
+use Rattle.std.specs.Prelude.{Option, Some, None}
 use Prim.Native.Nat.{ℕ}
 use native.Mathlib.Omega.{arith}
 use mathlib.Core.Path.{◌≡◌, refl, sym, ap, ◌∙◌, subst}
@@ -23,35 +24,31 @@ use Rattle.file_read.proofs.Judging.{fitting_sound}
 use Rattle.answer.specs.declared.Totals.{Totals}
 use Rattle.lent.specs.Arrays.{Arrays, held_by, sound_arrays, Lengths}
 use Rattle.lent.proofs.Sums.{bends_held}
-use Rattle.lent_sound.specs.declared.Walked.{Walked}
-use Rattle.lent_sound.specs.declared.Walked.TheVariants.{Sound, Fault}
 use Rattle.lent_sound.specs.Walk.{walk_right}
 use Rattle.lent_sound.proofs.Whole.{sound_rows}
 use Rattle.call_asked.specs.Entries.{Asked}
-use Rattle.call_load.specs.declared.Outline.{Outline}
-use Rattle.call_load.specs.declared.Outline.TheVariants.{Cells, Refused}
 use Rattle.call_load.specs.Loads.{SheetIn}
 use Rattle.call_load.specs.Bare.{RowsIn, RowsLoaded}
 use Rattle.call_open.specs.Taken.{FileIn, OpenedIn, ReadIn}
 
 -- ---- what loading with the bends says
-module _ (s : List ℕ) (b : ℕ → ℕ → List Float → List Float → Arrays) (xs ys : List Float) (r : Outline) (l : RowsLoaded true s b xs ys r) where
-  loaded_in : (next n : ℕ) (g : Bool) → r ≡ Cells next n g → SheetIn s (b next n xs ys) × Lengths (b next n xs ys)
+module _ (s : List ℕ) (b : ℕ → ℕ → List Float → List Float → Arrays) (xs ys : List Float) (r : Option (ℕ × ℕ × Bool)) (l : RowsLoaded true s b xs ys r) where
+  loaded_in : (next n : ℕ) (g : Bool) → r ≡ Some (next, n, g) → SheetIn s (b next n xs ys) × Lengths (b next n xs ys)
   loaded_in next n g e =
       let R = subst (RowsLoaded true s b xs ys) e l in
       subst (λ (us : List Float). SheetIn s (b next n us ys) × Lengths (b next n us ys)) R.kept.0
       (subst (λ (vs : List Float). SheetIn s (b next n R.bx vs) × Lengths (b next n R.bx vs)) R.kept.1 (R.sheet, R.long))
 
-  pub loaded_some : (next n : ℕ) (g : Bool) → r ≡ Cells next n g → SheetIn s (b next n xs ys)
+  pub loaded_some : (next n : ℕ) (g : Bool) → r ≡ Some (next, n, g) → SheetIn s (b next n xs ys)
   loaded_some next n g e = (loaded_in next n g e).0
 
-  pub loaded_long : (next n : ℕ) (g : Bool) → r ≡ Cells next n g → Lengths (b next n xs ys)
+  pub loaded_long : (next n : ℕ) (g : Bool) → r ≡ Some (next, n, g) → Lengths (b next n xs ys)
   loaded_long next n g e = (loaded_in next n g e).1
 
-  pub loaded_not : r ≡ Refused → NotHeld s
+  pub loaded_not : r ≡ None → NotHeld s
   loaded_not e = subst (RowsLoaded true s b xs ys) e l
 
-  pub loaded_none : r ≡ Refused → read_file s ≡ refused
+  pub loaded_none : r ≡ None → read_file s ≡ refused
   loaded_none e = not_held_refused s (loaded_not e)
 
 -- ---- the file
@@ -62,11 +59,11 @@ no_number : (s : List ℕ) → read_file s ≡ refused → eqb (read_file s).num
 no_number s e = ne_eqb (read_file s).number 0 (λ z. let h = no_file s e in omega (arith, h, z))
 
 -- what question 10 said
-module _ (s : List ℕ) (b : Arrays) (r : Walked) (o : OpenedIn s b r) where
-  pub opened_file : (t : Totals) → r ≡ Sound t → FileIn s b t
+module _ (s : List ℕ) (b : Arrays) (r : Option Totals) (o : OpenedIn s b r) where
+  pub opened_file : (t : Totals) → r ≡ Some t → FileIn s b t
   opened_file t e = subst (OpenedIn s b) e o
 
-  pub opened_none : r ≡ Fault → (read_file s).number ≡ 10
+  pub opened_none : r ≡ None → (read_file s).number ≡ 10
   opened_none e = subst (OpenedIn s b) e o
 
 -- a file that is accepted is loaded
@@ -84,11 +81,11 @@ module _ (s : List ℕ) (b : Arrays) (S : SheetIn s b) where
   file_fault e = unsound_read s (sheet_of (held_by b)) S.read (sym arrays_sound ∙ e)
 
   -- question 1 of the arrays is question 10
-  pub opened_in : (r : Walked) → Asked b r → OpenedIn s b r
-  opened_in (Sound t) w =
+  pub opened_in : (r : Option Totals) → Asked b r → OpenedIn s b r
+  opened_in (Some t) w =
       let f = file_whole (true_of (sound_arrays b) w.sound) in
       record { number = ap (λ (j : Judgement). j.number) f; sheet = sym (ap (λ (j : Judgement). j.sheet) f); ready = w }
-  opened_in Fault w = ap (λ (j : Judgement). j.number) (file_fault w)
+  opened_in None w = ap (λ (j : Judgement). j.number) (file_fault w)
 
   -- the arrays are the answer
   pub read_in : (a : Arrays) → eqb (read_file s).number 0 ≡ true → ReadIn s a b 0
@@ -106,11 +103,11 @@ module _ (s : List ℕ) (b : Arrays) (S : SheetIn s b) where
       go false e = absurd (no_refusal s y (file_fault e))
 
 -- ---- a file whose bends were only looked at
-module _ (s : List ℕ) (b : ℕ → ℕ → List Float → List Float → Arrays) (xs ys : List Float) (r : Outline) (l : RowsLoaded false s b xs ys r) where
-  pub rows_some : (next n : ℕ) (g : Bool) → r ≡ Cells next n g → RowsIn false s (b next n) xs ys g
+module _ (s : List ℕ) (b : ℕ → ℕ → List Float → List Float → Arrays) (xs ys : List Float) (r : Option (ℕ × ℕ × Bool)) (l : RowsLoaded false s b xs ys r) where
+  pub rows_some : (next n : ℕ) (g : Bool) → r ≡ Some (next, n, g) → RowsIn false s (b next n) xs ys g
   rows_some next n g e = subst (RowsLoaded false s b xs ys) e l
 
-  pub rows_none : r ≡ Refused → false ≡ eqb (read_file s).number 0
+  pub rows_none : r ≡ None → false ≡ eqb (read_file s).number 0
   rows_none e = sym (no_number s (not_held_refused s (subst (RowsLoaded false s b xs ys) e l)))
 
 module _ (s : List ℕ) (b : List Float → List Float → Arrays) (xs ys : List Float) (g : Bool) (R : RowsIn false s b xs ys g) where

@@ -3,42 +3,25 @@
 // The drawing of a file's bytes in lent arrays, and whether bytes are a sound drawing's file.
 ghost use Rattle.std.specs.Prelude.{◌≡◌, eqb};
 ghost use Rattle.complex.specs.File.{read_file};
-ghost use Rattle.lent.specs.Arrays.{of_lists};
 ghost use Rattle.call_open.specs.Taken.{OpenedIn};
+ghost use Rattle.lent.specs.Sheets.{arrays, Same};
 
-use call_load::Outline;
-use lent_sound::Walked;
+use answer::Totals;
+use lent::SheetMut;
 
-// Question 10: the drawing whose file the bytes are goes into the lent arrays, and its sums are given. On a no the arrays may hold anything.
-pub fn open(
-    next: &mut u32,
-    count: &mut usize,
-    ids: &mut [u32; 256],
-    kinds: &mut [u32; 256],
-    starts: &mut [u32; 256],
-    ends: &mut [u32; 256],
-    bends: &mut [u32; 256],
-    counts: &mut [u32; 256],
-    px: &mut [f64; 256],
-    py: &mut [f64; 256],
-    cycles: &mut [u32; 512],
-    steps: &mut [u32; 2048],
-    bx: &mut [f64; 2048],
-    by: &mut [f64; 2048],
-    bytes: &[u8],
-) -> Walked
-    ensures { OpenedIn bytes.now (of_lists next.new count.new ids.new kinds.new starts.new ends.new bends.new counts.new px.new py.new cycles.new steps.new bx.new by.new) result }
+// Question 10: the drawing whose file the bytes are goes into the lent arrays, and its sums are given; none on a no, and the arrays may then
+// hold anything.
+pub fn open(sheet: &mut SheetMut<'_>, bytes: &[u8]) -> Option<Totals>
+    ensures opened_in { OpenedIn bytes.now (arrays sheet.new) result }
+    ensures same { Same sheet.old sheet.new }
 {
-    let Outline::Cells(id, n, _) = call_load::load(
-        bytes, ids, kinds, starts, ends, bends, counts, px, py, cycles, steps, bx, by, true,
-    ) else {
-        return Walked::Fault;
+    let Some((id, n, _)) = call_load::load(bytes, sheet, true) else {
+        return None;
     };
-    *next = id;
-    *count = n;
-    call_asked::asked(
-        id, n, ids, kinds, starts, ends, bends, counts, px, py, cycles, steps, bx, by,
-    )
+    *sheet.next = id;
+    *sheet.count = n;
+    let view = sheet.view();
+    call_asked::asked(&view)
 }
 
 // Question 10 alone, on arrays of its own but for those of the bends, which stay: bends are looked at in the bytes.
@@ -46,6 +29,8 @@ pub fn readable(bytes: &[u8], bx: &mut [f64; 2048], by: &mut [f64; 2048]) -> boo
     ensures value { result ≡ eqb (read_file bytes.now).number 0 }
     ensures bx_unchanged { (bx.new ≡ bx.old) × (by.new ≡ by.old) }
 {
+    let mut next: u32 = 1;
+    let mut count: usize = 0;
     let mut ids = [0u32; 256];
     let mut kinds = [0u32; 256];
     let mut starts = [0u32; 256];
@@ -56,30 +41,30 @@ pub fn readable(bytes: &[u8], bx: &mut [f64; 2048], by: &mut [f64; 2048]) -> boo
     let mut py = [0.0; 256];
     let mut cycles = [0u32; 512];
     let mut steps = [0u32; 2048];
-    let Outline::Cells(next, cells, good) = call_load::load(
-        bytes,
-        &mut ids,
-        &mut kinds,
-        &mut starts,
-        &mut ends,
-        &mut bends,
-        &mut counts,
-        &mut px,
-        &mut py,
-        &mut cycles,
-        &mut steps,
+    let mut sheet = SheetMut {
+        next: &mut next,
+        count: &mut count,
+        ids: &mut ids,
+        kinds: &mut kinds,
+        starts: &mut starts,
+        ends: &mut ends,
+        bends: &mut bends,
+        counts: &mut counts,
+        px: &mut px,
+        py: &mut py,
+        cycles: &mut cycles,
+        steps: &mut steps,
         bx,
         by,
-        false,
-    ) else {
+    };
+    let Some((id, cells, good)) = call_load::load(bytes, &mut sheet, false) else {
         return false;
     };
     if good {
+        *sheet.next = id;
+        *sheet.count = cells;
         let mut table = [0u8; 1024];
-        let Walked::Sound(_) = lent_sound::walk(
-            next, cells, &ids, &kinds, &starts, &ends, &bends, &counts, &px, &py, &cycles, &steps,
-            bx, by, &mut table, false,
-        ) else {
+        let Some(_) = lent_sound::walk(&sheet.view(), &mut table, false) else {
             return false;
         };
         return true;

@@ -8,8 +8,11 @@ ghost use Rattle.complex.specs.Pieces.{pieces};
 ghost use Rattle.complex.proofs.Every.{Every};
 ghost use Rattle.complex.proofs.Ties.{anchor as anchored};
 ghost use Rattle.store.specs.View.{sheet_of, width_sum, cycles_from};
-ghost use Rattle.lent.specs.Arrays.{held_by, sound_arrays, of_lists};
+ghost use Rattle.lent.specs.Arrays.{held_by, sound_arrays};
 ghost use Rattle.call_pieces.specs.Tying.{Finds, Some, Grown, anchor_in, anchors_in};
+ghost use Rattle.lent.specs.Sheets.{seen};
+
+use lent::SheetRef;
 
 const OPEN: u32 = 1;
 
@@ -75,13 +78,11 @@ fn tie_cycles(
 {
     let mut rest = left;
     let mut at = from;
-    let mut j: usize = 0;
-    while j < k {
+    for j in 0..k {
         let c = cycles[first + j];
         let a = anchor(c, steps[at]);
         rest = tie(up, table, ids, n, row, a, rest);
         at = at + store::places(1, c);
-        j = j + 1;
     }
     Tied {
         left: rest,
@@ -127,46 +128,39 @@ fn tie_row(
 }
 
 // How many pieces there are.
-pub fn pieces(
-    next: u32,
-    count: usize,
-    ids: &[u32; 256],
-    kinds: &[u32; 256],
-    starts: &[u32; 256],
-    ends: &[u32; 256],
-    bends: &[u32; 256],
-    counts: &[u32; 256],
-    px: &[f64; 256],
-    py: &[f64; 256],
-    cycles: &[u32; 512],
-    steps: &[u32; 2048],
-    bx: &[f64; 2048],
-    by: &[f64; 2048],
-) -> u32
-    requires { T (sound_arrays (of_lists next count ids.now kinds.now starts.now ends.now bends.now counts.now px.now py.now cycles.now steps.now bx.now by.now)) }
-    ensures { result ≡ pieces (sheet_of (held_by (of_lists next count ids.now kinds.now starts.now ends.now bends.now counts.now px.now py.now cycles.now steps.now bx.now by.now))).cells }
+pub fn pieces(view: &SheetRef<'_>) -> u32
+    requires { T (sound_arrays (seen view.now)) }
+    ensures { result ≡ pieces (sheet_of (held_by (seen view.now))).cells }
 {
-    lent::known(
-        next, count, ids, kinds, starts, ends, bends, counts, px, py, cycles, steps, bx, by,
-    );
+    view.known();
     let mut table = [0; 1024];
-    lent_table::fill(&mut table, ids, count);
+    lent_table::fill(&mut table, view.ids, view.count);
     let mut up = [0; 256];
-    rows_pieces::part(&mut up, count);
-    let mut left = count as u32;
+    rows_pieces::part(&mut up, view.count);
+    let mut left = view.count as u32;
     let mut first: usize = 0;
     let mut from: usize = 0;
-    let mut i: usize = 0;
-    while i < count {
-        let k = store::wide(counts[i]);
+    for i in 0..view.count {
+        let k = store::wide(view.counts[i]);
         let t = tie_row(
-            &mut up, &table, ids, count, i, kinds[i], starts[i], ends[i], cycles, first, k, steps,
-            from, left,
+            &mut up,
+            &table,
+            view.ids,
+            view.count,
+            i,
+            view.kinds[i],
+            view.starts[i],
+            view.ends[i],
+            view.cycles,
+            first,
+            k,
+            view.steps,
+            from,
+            left,
         );
         left = t.left;
         from = t.next;
         first = first + k;
-        i = i + 1;
     }
     left
 }

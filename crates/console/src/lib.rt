@@ -33,6 +33,7 @@ pub fn read_all(from: &mut impl Read, space: &mut [u8]) -> Input
     ensures { result.count ≤ length space.new }
 {
     let mut done: usize = 0;
+    // Not a range: how much comes is only known when it has come.
     while done < space.len() {
         let r = read_part(from, &mut space[done..]);
         if r.count == 0 {

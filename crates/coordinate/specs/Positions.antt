@@ -1,12 +1,11 @@
 -- A position as bytes: x then y, eight bytes each, low byte first. Definitions only.
+use Rattle.std.specs.Prelude.{Option, Some, None}
 use Rattle.std.specs.Prelude.{ℕ, zero, suc, ◌+◌, ◌-◌, ◌*◌, ◌/◌, ◌%◌, cond, List, [], ◌∷◌, ◌++◌, length, take, drop, T, leb, Float}
 use Rattle.std.specs.Float.{binary64}
 use Rattle.std.specs.Float.Ieee.{of_bits, to_bits, fits}
 use Rattle.number.specs.Readers.{Read, got, bad, and_then}
 use Rattle.number.specs.Said.{Said, done, no, placed_or}
 use Rattle.coordinate.specs.declared.Position.{Position}
-use Rattle.coordinate.specs.declared.Located.{Located}
-use Rattle.coordinate.specs.declared.Located.TheVariants.{At, Short}
 
 -- the number whose bytes these are
 abbrev pub value_of : List ℕ → ℕ
@@ -45,10 +44,10 @@ read_position s = and_then (read_coordinate s) λ x t. and_then (read_coordinate
 abbrev pub position_bytes : Position → List ℕ
 position_bytes p = coordinate_bytes p.x ++ coordinate_bytes p.y
 
--- the cases of `Located`: 0 with a position and the place after it, or 2
-abbrev pub located_says : Located → Said (Position × ℕ)
-located_says (At p next) = done (p, next)
-located_says Short = no 2
+-- 0 with a position and the place after it, or 2
+abbrev pub located_says : Option (Position × ℕ) → Said (Position × ℕ)
+located_says (Some (p, next)) = done (p, next)
+located_says None = no 2
 
 -- question 2 of the position at a place
 abbrev pub located_at : List ℕ → ℕ → Said (Position × ℕ)

@@ -12,22 +12,13 @@ pub struct Position {
     pub y: f64,
 }
 
-// What stands at a place: a position and the place after it, or too few bytes.
-#[derive(Clone, Copy)]
-pub enum Located {
-    At(Position, usize),
-    Short,
-}
-
 // The number in eight bytes, low byte first.
 fn word(s: &[u8], at: usize) -> u64
     requires { at + 8 ≤ length s.now }
     ensures { result ≡ value_of (take 8 (drop at s.now)) }
 {
     let mut n = 0u64;
-    let mut k = 8;
-    while 0 < k {
-        k -= 1;
+    for k in (0..8).rev() {
         n = s[at + k] as u64 + 256 * n;
     }
     n
@@ -38,11 +29,9 @@ fn put_word(n: u64, out: &mut [u8], at: usize)
     ensures { out.new ≡ sets out.old at (bytes_of 8 n) }
 {
     let mut rest = n;
-    let mut k = 0;
-    while k < 8 {
+    for k in 0..8 {
         out[at + k] = (rest % 256) as u8;
         rest /= 256;
-        k += 1;
     }
 }
 
@@ -77,16 +66,17 @@ pub fn position_at(s: &[u8], at: usize) -> Position
     Position { x, y }
 }
 
-pub fn read_position(s: &[u8], at: usize) -> Located
+// The position that stands at a place, and the place after it, if sixteen bytes are there.
+pub fn read_position(s: &[u8], at: usize) -> Option<(Position, usize)>
     ensures { located_says result ≡ located_at s.now at }
 {
     if s.len() <= at {
-        return Located::Short;
+        return None;
     }
     if s.len() - at < 16 {
-        return Located::Short;
+        return None;
     }
-    Located::At(position_at(s, at), at + 16)
+    Some((position_at(s, at), at + 16))
 }
 
 // The bytes of a position go to `at`; the place after them comes back.

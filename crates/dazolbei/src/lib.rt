@@ -15,7 +15,7 @@ ghost use Rattle.entry_files.specs.Calls.{filled_as, star_at, euler_as, euler_at
 ghost use Rattle.entry_file_run.specs.Runs.{run_as, run_at};
 ghost use Rattle.dazolbei.specs.Blocks.{line_as, RunIn};
 
-use lent_sound::Walked;
+use lent::{SheetMut, SheetRef};
 
 // ---- on a drawing's file
 
@@ -116,9 +116,23 @@ pub extern "C" fn dz_block_open(
 ) -> u32
     ensures { ReadIn file.now (of_lists next.old count.old ids.old kinds.old starts.old ends.old bends.old counts.old px.old py.old cycles.old steps.old bx.old by.old) (of_lists next.new count.new ids.new kinds.new starts.new ends.new bends.new counts.new px.new py.new cycles.new steps.new bx.new by.new) result }
 {
-    call_read::read(
-        next, count, ids, kinds, starts, ends, bends, counts, px, py, cycles, steps, bx, by, file,
-    )
+    let mut sheet = SheetMut {
+        next,
+        count,
+        ids,
+        kinds,
+        starts,
+        ends,
+        bends,
+        counts,
+        px,
+        py,
+        cycles,
+        steps,
+        bx,
+        by,
+    };
+    call_read::read(&mut sheet, file)
 }
 
 // The command at the front of the script: its number, first, new and removed. On a no the block stays.
@@ -145,9 +159,23 @@ pub extern "C" fn dz_block_command(
 ) -> u32
     ensures { CommandedIn (of_lists next.old count.old ids.old kinds.old starts.old ends.old bends.old counts.old px.old py.old cycles.old steps.old bx.old by.old) script.now (of_lists next.new count.new ids.new kinds.new starts.new ends.new bends.new counts.new px.new py.new cycles.new steps.new bx.new by.new) (line_as result first.new new.new removed.new) }
 {
-    let l = entry_command::command(
-        next, count, ids, kinds, starts, ends, bends, counts, px, py, cycles, steps, bx, by, script,
-    );
+    let mut sheet = SheetMut {
+        next,
+        count,
+        ids,
+        kinds,
+        starts,
+        ends,
+        bends,
+        counts,
+        px,
+        py,
+        cycles,
+        steps,
+        bx,
+        by,
+    };
+    let l = entry_command::command(&mut sheet, script);
     *first = l.first;
     *new = l.new;
     *removed = l.removed;
@@ -175,9 +203,23 @@ pub extern "C" fn dz_block_rest(
 ) -> usize
     ensures { result ≡ length (rest_on (of_lists next count ids.now kinds.now starts.now ends.now bends.now counts.now px.now py.now cycles.now steps.now bx.now by.now) script.now) }
 {
-    let r = entry_rest::rest(
-        next, count, ids, kinds, starts, ends, bends, counts, px, py, cycles, steps, bx, by, script,
-    );
+    let view = SheetRef {
+        next,
+        count,
+        ids,
+        kinds,
+        starts,
+        ends,
+        bends,
+        counts,
+        px,
+        py,
+        cycles,
+        steps,
+        bx,
+        by,
+    };
+    let r = entry_rest::rest(&view, script);
     r.len()
 }
 
@@ -205,19 +247,30 @@ pub extern "C" fn dz_block_run(
     ensures { RunIn (of_lists next.old count.old ids.old kinds.old starts.old ends.old bends.old counts.old px.old py.old cycles.old steps.old bx.old by.old) script.now lines.old (of_lists next.new count.new ids.new kinds.new starts.new ends.new bends.new counts.new px.new py.new cycles.new steps.new bx.new by.new) lines.new result commands.new }
 {
     *commands = 0;
-    let Walked::Sound(_) = call_asked::asked(
-        *next, *count, ids, kinds, starts, ends, bends, counts, px, py, cycles, steps, bx, by,
-    ) else {
+    let mut sheet = SheetMut {
+        next,
+        count,
+        ids,
+        kinds,
+        starts,
+        ends,
+        bends,
+        counts,
+        px,
+        py,
+        cycles,
+        steps,
+        bx,
+        by,
+    };
+    let Some(_) = call_asked::asked(&sheet.view()) else {
         return 1;
     };
     let no = entry_room::lines_no(script.len(), lines.len());
     if no != 0 {
         return no;
     }
-    let n = entry_run::run_lines(
-        next, count, ids, kinds, starts, ends, bends, counts, px, py, cycles, steps, bx, by,
-        script, lines,
-    );
+    let n = entry_run::run_lines(&mut sheet, script, lines);
     *commands = n as u32;
     0
 }
@@ -245,10 +298,23 @@ pub extern "C" fn dz_block_star(
 ) -> u32
     ensures { filled_as result found.new buffer.new ≡ star_on (of_lists next count ids.now kinds.now starts.now ends.now bends.now counts.now px.now py.now cycles.now steps.now bx.now by.now) id buffer.old }
 {
-    let s = entry_star::star(
-        next, count, ids, kinds, starts, ends, bends, counts, px, py, cycles, steps, bx, by, id,
-        buffer,
-    );
+    let view = SheetRef {
+        next,
+        count,
+        ids,
+        kinds,
+        starts,
+        ends,
+        bends,
+        counts,
+        px,
+        py,
+        cycles,
+        steps,
+        bx,
+        by,
+    };
+    let s = entry_star::star(&view, id, buffer);
     *found = s.count as u32;
     s.number
 }
@@ -274,9 +340,23 @@ pub extern "C" fn dz_block_euler(
 ) -> u32
     ensures { euler_as result value.new ≡ euler_on (of_lists next count ids.now kinds.now starts.now ends.now bends.now counts.now px.now py.now cycles.now steps.now bx.now by.now) }
 {
-    let e = entry_euler::euler(
-        next, count, ids, kinds, starts, ends, bends, counts, px, py, cycles, steps, bx, by,
-    );
+    let view = SheetRef {
+        next,
+        count,
+        ids,
+        kinds,
+        starts,
+        ends,
+        bends,
+        counts,
+        px,
+        py,
+        cycles,
+        steps,
+        bx,
+        by,
+    };
+    let e = entry_euler::euler(&view);
     let v = e.value;
     *value = v;
     e.number
@@ -303,9 +383,23 @@ pub extern "C" fn dz_block_pieces(
 ) -> u32
     ensures { pieces_as result pieces.new ≡ pieces_on (of_lists next count ids.now kinds.now starts.now ends.now bends.now counts.now px.now py.now cycles.now steps.now bx.now by.now) }
 {
-    let p = entry_pieces::pieces(
-        next, count, ids, kinds, starts, ends, bends, counts, px, py, cycles, steps, bx, by,
-    );
+    let view = SheetRef {
+        next,
+        count,
+        ids,
+        kinds,
+        starts,
+        ends,
+        bends,
+        counts,
+        px,
+        py,
+        cycles,
+        steps,
+        bx,
+        by,
+    };
+    let p = entry_pieces::pieces(&view);
     *pieces = p.count;
     p.number
 }
@@ -333,9 +427,23 @@ pub extern "C" fn dz_block_check(
     ensures visited_after { verdict_as sound.new visited.new ≡ check_on (of_lists next count ids.now kinds.now starts.now ends.now bends.now counts.now px.now py.now cycles.now steps.now bx.now by.now) }
     ensures sound_bound { sound.new ≤ 1 }
 {
-    let v = entry_check::check(
-        next, count, ids, kinds, starts, ends, bends, counts, px, py, cycles, steps, bx, by,
-    );
+    let view = SheetRef {
+        next,
+        count,
+        ids,
+        kinds,
+        starts,
+        ends,
+        bends,
+        counts,
+        px,
+        py,
+        cycles,
+        steps,
+        bx,
+        by,
+    };
+    let v = entry_check::check(&view);
     entry_check::tell(v, sound, visited);
 }
 
@@ -361,12 +469,24 @@ pub extern "C" fn dz_block_write(
 ) -> u32
     ensures { filled_as result bytes.new buffer.new ≡ write_on (of_lists next count ids.now kinds.now starts.now ends.now bends.now counts.now px.now py.now cycles.now steps.now bx.now by.now) buffer.old }
 {
-    lent::known(
-        next, count, ids, kinds, starts, ends, bends, counts, px, py, cycles, steps, bx, by,
-    );
-    let w = entry_write::write(
-        next, count, ids, kinds, starts, ends, bends, counts, px, py, cycles, steps, bx, by, buffer,
-    );
+    let view = SheetRef {
+        next,
+        count,
+        ids,
+        kinds,
+        starts,
+        ends,
+        bends,
+        counts,
+        px,
+        py,
+        cycles,
+        steps,
+        bx,
+        by,
+    };
+    view.known();
+    let w = entry_write::write(&view, buffer);
     *bytes = w.count as u32;
     w.number
 }

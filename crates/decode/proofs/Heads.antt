@@ -1,4 +1,5 @@
 -- The kinds with lists, as readers of one field after another. Assumes nothing.
+use Rattle.std.specs.Prelude.{Option, Some, None}
 use mathlib.Core.Path.{◌≡◌, ap, ◌∙◌, subst}
 use mathlib.Core.List.{List}
 use Prim.Native.Nat.{ℕ}
@@ -12,11 +13,9 @@ use Rattle.complex.specs.Decode.{read_open_edge, read_create, read_cut_face_open
 use Rattle.complex.specs.Decode as bytes
 use Rattle.decode_parts.specs.Lists.{Found, numbers_read}
 use Rattle.decode_fields.specs.Fields.{read_pair, read_two_numbers, read_three_numbers, read_cut_lists, cut_says, CutLie}
-use Rattle.decode_fields.specs.declared.CutLists.{CutLists}
-use Rattle.decode_fields.specs.declared.CutLists.TheVariants.{Listed, Malformed}
 use Rattle.decode_parts.proofs.Fields.{heard}
 use Rattle.decode_fields.proofs.Pairs.{pair_half, pair_both, pair_then}
-use Rattle.decode_command.specs.declared.Decoded.{Decoded}
+use Rattle.decode_command.specs.declared.Command.{Command}
 use Rattle.decode_command.specs.View.{Decodes}
 use Rattle.decode_command.proofs.Decides.{edited, read_as_lem, of_create}
 
@@ -25,17 +24,17 @@ abbrev cut_at : ℕ → ℕ → ℕ → ℕ → ℕ → List ℕ → Read bytes.
 cut_at f c1 s1 c2 s2 t = and_then (read_cut_lists t) λ l u. got (bytes.cut_face_open f c1 s1 c2 s2 l.0 l.1) u
 
 -- the lists of a cut come last
-module _ {A : Type 0} {r : List ℕ → Read A} {s : List ℕ} {at mid : ℕ} {x : A} (h : Found r s at (done (x, mid))) {v : CutLists}
+module _ {A : Type 0} {r : List ℕ → Read A} {s : List ℕ} {at mid : ℕ} {x : A} (h : Found r s at (done (x, mid))) {v : Option (ℕ × ℕ × ℕ × ℕ × ℕ)}
     (l : Found read_cut_lists s mid (cut_says s v) × CutLie s v) where
-  pub lists_none : v ≡ Malformed → Found (read_pair r read_cut_lists) s at (no 2)
+  pub lists_none : v ≡ None → Found (read_pair r read_cut_lists) s at (no 2)
   lists_none e = pair_half h (heard (cut_says s) l.0 e)
 
-  pub lists_both : {n first m place next : ℕ} → v ≡ Listed n first m place next
-      → Found (read_pair r read_cut_lists) s at (done ((x, (positions_at s first n, numbers_read s place m)), next)) × CutLie s (Listed n first m place next)
+  pub lists_both : {n first m place next : ℕ} → v ≡ Some (n, first, m, place, next)
+      → Found (read_pair r read_cut_lists) s at (done ((x, (positions_at s first n, numbers_read s place m)), next)) × CutLie s (Some (n, first, m, place, next))
   lists_both e = (pair_both h (heard (cut_says s) l.0 e), subst (CutLie s) e l.1)
 
 -- ---- the definition of each kind
-module _ {s : List ℕ} {at : ℕ} {d : Decoded} where
+module _ {s : List ℕ} {at : ℕ} {d : Option (Command × ℕ)} where
   pub of_open : Decodes s at (edited (and_then (read_pair read_two_numbers read_bends (drop at s)) λ p u.
       got (bytes.create (open_edge p.0.0 p.0.1 p.1)) u)) d
       → Decodes s at (edited (read_create read_open_edge (drop at s))) d

@@ -1,5 +1,6 @@
 -- What a decoded command says, read with the script that its lists stay in. Definitions only.
-use Rattle.std.specs.Prelude.{ℕ, ◌+◌, ◌*◌, ◌≤◌, ◌≡◌, Bool, true, false, List, length, drop}
+use Rattle.std.specs.Prelude.{Option, Some, None}
+use Rattle.std.specs.Prelude.{ℕ, ◌+◌, ◌*◌, ◌≤◌, ◌≡◌, List, Float, length, drop}
 use Rattle.number.specs.Readers.{Read}
 use Rattle.number.specs.Said.{Said, done, no, found_or}
 use Rattle.number.specs.Numbers.{read_number}
@@ -11,8 +12,6 @@ use Rattle.decode_parts.specs.Lists.{Stand, numbers_read, cycles_read}
 use Rattle.decode_command.specs.declared.Command.{Command}
 use Rattle.decode_command.specs.declared.Command.TheVariants.{Vertex, Open, Closed, Face, Move, Delete, GlueVertices, GlueEdges, Unglue}
 use Rattle.decode_command.specs.declared.Command.TheVariants.{CutEdge, CutFaceVertex, CutFaceOpen, CutFaceClosed, Uncut, Renumber}
-use Rattle.decode_command.specs.declared.Decoded.{Decoded}
-use Rattle.decode_command.specs.declared.Decoded.TheVariants.{Whole, Malformed}
 
 abbrev pub order_of : List ℕ → Command → bytes.Order
 order_of s (Vertex x y) = bytes.edit (bytes.create (vertex (record { x = x; y = y })))
@@ -31,10 +30,10 @@ order_of s (CutFaceClosed f n first m place) = bytes.edit (bytes.cut_face_closed
 order_of s (Uncut i) = bytes.edit (bytes.uncut i)
 order_of s Renumber = bytes.renumber
 
--- the cases of `Decoded`: 0 with a command and the bytes after it, or 2
-abbrev pub decoded_says : List ℕ → Decoded → Said (bytes.Order × List ℕ)
-decoded_says s (Whole c next) = done (order_of s c, drop next s)
-decoded_says s Malformed = no 2
+-- 0 with a command and the bytes after it, or 2
+abbrev pub decoded_says : List ℕ → Option (Command × ℕ) → Said (bytes.Order × List ℕ)
+decoded_says s (Some (c, next)) = done (order_of s c, drop next s)
+decoded_says s None = no 2
 
 -- the lists of a command lie in the script
 abbrev pub ListsLie : List ℕ → Command → Type 0
@@ -60,16 +59,27 @@ pub record Ended (s : List ℕ) (at : ℕ) (c : Command) (next : ℕ) : Type 0 w
   pub fits : next ≤ length s
   pub lists : ListsLie s c
 
-abbrev pub DecodedEnd : List ℕ → ℕ → Decoded → Type 0
-DecodedEnd s at (Whole c next) = Ended s at c next
-DecodedEnd s at Malformed = Unit {0}
+abbrev pub DecodedEnd : List ℕ → ℕ → Option (Command × ℕ) → Type 0
+DecodedEnd s at (Some (c, next)) = Ended s at c next
+DecodedEnd s at None = Unit {0}
 
 -- r says what is read from `at` on, or 2
-pub record Decodes (s : List ℕ) (at : ℕ) (read : Read bytes.Order) (r : Decoded) : Type 0 where
+pub record Decodes (s : List ℕ) (at : ℕ) (read : Read bytes.Order) (r : Option (Command × ℕ)) : Type 0 where
   pub answer : decoded_says s r ≡ found_or 2 read
   pub ends : DecodedEnd s at r
 
--- the two kinds that are a cell and a position: 0B, a face; or 05
-abbrev pub place_kind : Bool → ℕ → Position → bytes.Command
-place_kind true = bytes.cut_face_vertex
-place_kind false = bytes.move
+-- ---- what makes a command of the fields that are read
+-- c is the command k, in any script
+pub record Is (c : Command) (k : bytes.Command) : Type 0 where
+  pub order : (s : List ℕ) → order_of s c ≡ bytes.edit k
+  pub lists : (s : List ℕ) → ListsLie s c
+
+-- what is made of a cell, of two numbers, or of a cell and a position, is a command of the kind
+abbrev pub MakesOfCell : (ℕ → bytes.Command) → (ℕ → Command → Type 0) → Type 0
+MakesOfCell kind made = (n : ℕ) (c : Command) → made n c → Is c (kind n)
+
+abbrev pub MakesOfTwo : (ℕ → ℕ → bytes.Command) → (ℕ → ℕ → Command → Type 0) → Type 0
+MakesOfTwo kind made = (a b : ℕ) (c : Command) → made a b c → Is c (kind a b)
+
+abbrev pub MakesOfPlace : (ℕ → Position → bytes.Command) → (ℕ → Float → Float → Command → Type 0) → Type 0
+MakesOfPlace kind made = (n : ℕ) (p : Position) (c : Command) → made n p.x p.y c → Is c (kind n p)

@@ -5,69 +5,47 @@ ghost use Rattle.std.specs.Prelude.{◌≤◌, length};
 ghost use Rattle.decode_parts.specs.Lists.{Found};
 ghost use Rattle.decode_fields.specs.Fields.{read_two_numbers, read_three_numbers, read_cut_lists, two_says, three_says, cut_says, CutLie};
 
-use bends::BendList;
-use decode_parts::Skip;
-use number::Number;
-
-// Two numbers and the place after them, or no such numbers.
-#[derive(Clone, Copy)]
-pub enum Two {
-    Numbers(u32, u32, usize),
-    Malformed,
+// Two numbers and the place after them, if they stand there.
+pub fn two_numbers(script: &[u8], at: usize) -> Option<(u32, u32, usize)>
+    ensures { Found read_two_numbers script.now at (two_says result) }
+{
+    let Some((a, second)) = number::read_number(script, at) else {
+        return None;
+    };
+    let Some((b, next)) = number::read_number(script, second) else {
+        return None;
+    };
+    Some((a, b, next))
 }
 
-// Three numbers and the place after them, or no such numbers.
-#[derive(Clone, Copy)]
-pub enum Three {
-    Numbers(u32, u32, u32, usize),
-    Malformed,
+// Three numbers and the place after them, if they stand there.
+pub fn three_numbers(script: &[u8], at: usize) -> Option<(u32, u32, u32, usize)>
+    ensures { Found read_three_numbers script.now at (three_says result) }
+{
+    let Some((a, b, third)) = two_numbers(script, at) else {
+        return None;
+    };
+    let Some((c, next)) = number::read_number(script, third) else {
+        return None;
+    };
+    Some((a, b, c, next))
 }
 
 // A bend list and a list of moved cycles, each by its count and the place of its first element, and
-// the place after them; or no such lists.
-#[derive(Clone, Copy)]
-pub enum CutLists {
-    Listed(u32, usize, u32, usize, usize),
-    Malformed,
-}
-
-pub fn two_numbers(script: &[u8], at: usize) -> Two
-    ensures { Found read_two_numbers script.now at (two_says result) }
-{
-    let Number::Value(a, second) = number::read_number(script, at) else {
-        return Two::Malformed;
-    };
-    let Number::Value(b, next) = number::read_number(script, second) else {
-        return Two::Malformed;
-    };
-    Two::Numbers(a, b, next)
-}
-
-pub fn three_numbers(script: &[u8], at: usize) -> Three
-    ensures { Found read_three_numbers script.now at (three_says result) }
-{
-    let Two::Numbers(a, b, third) = two_numbers(script, at) else {
-        return Three::Malformed;
-    };
-    let Number::Value(c, next) = number::read_number(script, third) else {
-        return Three::Malformed;
-    };
-    Three::Numbers(a, b, c, next)
-}
-
-pub fn cut_lists(script: &[u8], at: usize) -> CutLists
+// the place after them, if they stand there.
+pub fn cut_lists(script: &[u8], at: usize) -> Option<(u32, usize, u32, usize, usize)>
     requires { at ≤ length script.now }
     ensures found { Found read_cut_lists script.now at (cut_says script.now result) }
     ensures cut_lie { CutLie script.now result }
 {
-    let BendList::Listed(bends, first, list) = decode_parts::bends_at(script, at) else {
-        return CutLists::Malformed;
+    let Some((bends, first, list)) = decode_parts::bends_at(script, at) else {
+        return None;
     };
-    let Number::Value(moved, place) = number::read_number(script, list) else {
-        return CutLists::Malformed;
+    let Some((moved, place)) = number::read_number(script, list) else {
+        return None;
     };
-    let Skip::To(next) = decode_parts::skip_numbers(script, place, moved) else {
-        return CutLists::Malformed;
+    let Some(next) = decode_parts::skip_numbers(script, place, moved) else {
+        return None;
     };
-    CutLists::Listed(bends, first, moved, place, next)
+    Some((bends, first, moved, place, next))
 }

@@ -1,7 +1,7 @@
 -- Walking a list in a script: what the place after it says of the bytes. Assumes nothing.
 use mathlib.Core.Path.{◌≡◌, refl, sym, ap, ◌∙◌}
 use mathlib.Core.List.{List, [], ◌∷◌, map}
-use Prim.Native.Nat.{ℕ, suc, ◌-◌, ◌≤◌, ◌<◌}
+use Prim.Native.Nat.{ℕ, suc, ◌+◌, ◌-◌, ◌≤◌, ◌<◌}
 use native.Mathlib.Omega.{arith}
 use lib.ListN.{length, drop, length-drop}
 use Rattle.number.specs.Readers.{Read, got, bad, and_then, times}
@@ -49,21 +49,32 @@ module _ {A : Type 0} where
         ap done e ∙ ap (λ (k : ℕ). skipped (length s) (times r k (drop at s))) n
 
   -- ---- a walk that answers the place after the list
-  -- of n things from `at` on, those that are left from `place` on end where all of them end
-  module _ (r : List ℕ → Read A) where
-    pub record Skipping (s : List ℕ) (at n place left : ℕ) : Type 0 where
+  -- of n things from `at` on, those after the first i, from `place` on, end where all of them end
+  module _ (r : List ℕ → Read A) (s : List ℕ) (at n : ℕ) where
+    pub record Skipping (place i : ℕ) : Type 0 where
       pub fits : place ≤ length s
-      pub ends : skipped (length s) (times r left (drop place s)) ≡ skipped (length s) (times r n (drop at s))
+      pub ends : skipped (length s) (times r (n - i) (drop place s)) ≡ skipped (length s) (times r n (drop at s))
 
-  module _ {r : List ℕ → Read A} {s : List ℕ} {at n place left : ℕ} (k : Skipping r s at n place left) where
-    pub skipping_stop : 0 < left → Found r s place (no 2) → no 2 ≡ skipped (length s) (times r n (drop at s))
-    skipping_stop some h = skip_stop r s place left some h.is.1 ∙ k.ends
+    pub skipping_start : at ≤ length s → Skipping at 0
+    skipping_start h =
+        let e : n - 0 ≡ n = omega arith in
+        record { fits = h; ends = ap (λ (k : ℕ). skipped (length s) (times r k (drop at s))) e }
 
-    pub skipping_turn : 0 < left → {x : A} {next : ℕ} → Found r s place (done (x, next)) → Skipping r s at n next (left - 1)
-    skipping_turn some {x} {next} h = record { fits = h.is.fits; ends = skip_turn r s place left some x next h.is.read ∙ k.ends }
+  module _ {r : List ℕ → Read A} {s : List ℕ} {at n place i : ℕ} (k : Skipping r s at n place i) where
+    pub skipping_stop : i < n → Found r s place (no 2) → no 2 ≡ skipped (length s) (times r n (drop at s))
+    skipping_stop some h = skip_stop r s place (n - i) (omega arith) h.is.1 ∙ k.ends
 
-    pub skipping_end : left ≤ 0 → done place ≡ skipped (length s) (times r n (drop at s))
-    skipping_end none = skip_end r s place left k.fits none ∙ k.ends
+    pub skipping_turn : i < n → {x : A} {next : ℕ} → Found r s place (done (x, next)) → Skipping r s at n next (i + 1)
+    skipping_turn some {x} {next} h =
+        let e : n - (i + 1) ≡ n - i - 1 = omega arith in
+        record {
+          fits = h.is.fits;
+          ends = ap (λ (m : ℕ). skipped (length s) (times r m (drop next s))) e
+              ∙ skip_turn r s place (n - i) (omega arith) x next h.is.read ∙ k.ends;
+        }
+
+    pub skipping_end : n ≤ i → done place ≡ skipped (length s) (times r n (drop at s))
+    skipping_end none = skip_end r s place (n - i) k.fits (omega arith) ∙ k.ends
 
   -- ---- the place after what was read
   module _ (r : List ℕ → Read A) (L : Leaves r) (s : List ℕ) where

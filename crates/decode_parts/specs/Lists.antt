@@ -1,16 +1,13 @@
 -- What stands at a place of a script; lists that stay there, held as a place and a count. Definitions only.
+use Rattle.std.specs.Prelude.{Option, Some, None}
 use Rattle.std.specs.Prelude.{ℕ, ◌+◌, ◌-◌, ◌*◌, ◌≤◌, ◌≡◌, List, [], length, drop}
 use Rattle.number.specs.Readers.{Read, got, bad, times}
 use Rattle.number.specs.Said.{Said, done, no, found_or, Says}
 use Rattle.number.specs.Numbers.{read_number}
 use Rattle.coordinate.specs.declared.Position.{Position}
-use Rattle.bends.specs.declared.BendList.{BendList}
-use Rattle.bends.specs.declared.BendList.TheVariants.{Listed, Malformed}
 use Rattle.bends.specs.Bends.{read_bends, positions_at}
 use Rattle.complex.specs.Cells.{Cycle}
 use Rattle.complex.specs.Decode.{read_cycle}
-use Rattle.decode_parts.specs.declared.Skip.{Skip}
-use Rattle.decode_parts.specs.declared.Skip.TheVariants as skip
 
 -- ---- what stands at a place of a script
 module _ {A : Type 0} (r : List ℕ → Read A) (s : List ℕ) (at : ℕ) where
@@ -25,10 +22,10 @@ module _ {A : Type 0} (r : List ℕ → Read A) (s : List ℕ) (at : ℕ) where
     pub is : Says 2 (λ f. FieldAt f.0 f.1) (r (drop at s) ≡ bad) v
 
 -- ---- lists
--- the cases of `Skip`: 0 with the place after a list, or 2
-abbrev pub skip_says : Skip → Said ℕ
-skip_says (skip.To next) = done next
-skip_says skip.Malformed = no 2
+-- 0 with the place after a list, or 2
+abbrev pub skip_says : Option ℕ → Said ℕ
+skip_says (Some next) = done next
+skip_says None = no 2
 
 module _ {A : Type 0} where
   -- the list that was read; nothing where there is none
@@ -63,16 +60,16 @@ abbrev pub cycles_read : List ℕ → ℕ → ℕ → List Cycle
 cycles_read s at n = things_read read_cycle s at n
 
 -- ---- a bend list, by its places in the whole script
--- the cases of `BendList` with those places: 0 with the bends and the bytes after them, or 2
-abbrev pub bends_say : List ℕ → BendList → Said (List Position × List ℕ)
-bends_say s (Listed n first end) = done (positions_at s first n, drop end s)
-bends_say s Malformed = no 2
+-- with those places, 0 with the bends and the bytes after them, or 2
+abbrev pub bends_say : List ℕ → Option (ℕ × ℕ × ℕ) → Said (List Position × List ℕ)
+bends_say s (Some (n, first, end)) = done (positions_at s first n, drop end s)
+bends_say s None = no 2
 
-abbrev pub BendsEnd : List ℕ → ℕ → BendList → Type 0
-BendsEnd s at (Listed n first end) = (at ≤ first) × (end ≡ first + 16 * n) × (end ≤ length s)
-BendsEnd s at Malformed = Unit {0}
+abbrev pub BendsEnd : List ℕ → ℕ → Option (ℕ × ℕ × ℕ) → Type 0
+BendsEnd s at (Some (n, first, end)) = (at ≤ first) × (end ≡ first + 16 * n) × (end ≤ length s)
+BendsEnd s at None = Unit {0}
 
 -- b is the bend list at a place
-pub record BendsAt (s : List ℕ) (at : ℕ) (b : BendList) : Type 0 where
+pub record BendsAt (s : List ℕ) (at : ℕ) (b : Option (ℕ × ℕ × ℕ)) : Type 0 where
   pub answer : bends_say s b ≡ found_or 2 (read_bends (drop at s))
   pub ends : BendsEnd s at b

@@ -7,11 +7,12 @@ use native.Mathlib.Omega.{arith}
 use native.Mathlib.Decide.{dec_lt}
 use lib.Ieee.{Float}
 use lib.ListN.{length, get_or, take}
+use Rattle.store.specs.declared.Shape.{Shape}
 use Rattle.store.specs.declared.Cell.{Cell}
 use Rattle.store.specs.declared.Drawing.{Drawing}
 use Rattle.store.proofs.Rows.{get_d_past}
 use Rattle.lent.specs.Arrays.{Arrays, of_lists, shape_at, positions_in, held_by, row_normal, normal_at, normal, Lengths}
-use Rattle.lent.specs.Growing.{with_shape}
+use Rattle.lent.specs.Growing.{cell_put, with_shape}
 use Rattle.lent.proofs.Held.{cells_length, all_at, all_intro, numbered, numbered_long}
 use Rattle.lent.proofs.Grown.{shape_long, shape_held, shape_normal}
 use Rattle.door.specs.Parts.{AllRows}
@@ -23,12 +24,19 @@ pub record Put (l : List Cell) (a : Arrays) : Type 0 where
   pub front : take a.count (held_by a).cells ≡ take a.count l
   pub rows : normal a ≡ true
 
-module _ (l : List Cell) (h : length l ≡ 256) (a : Arrays) (p : Put l a) where
-  -- the arrays after the cell c is written
-  abbrev pub after : Cell → Arrays
-  after c = with_shape (numbered a c.id a.count) c.shape
+-- the rows of b, and of a the rest
+abbrev pub rest_from : Arrays → Arrays → Arrays
+rest_from a b = record b { next = a.next; count = a.count; cycles = a.cycles; steps = a.steps; bx = a.bx; by = a.by }
 
-  pub put_turn : (c z : Cell) → a.count < 256 → c ≡ get_or l a.count z → (b : Arrays) → b ≡ numbered (after c) a.next (a.count + 1) → Put l b
+-- a row that is written leaves the rest
+pub rest_kept : (a b d : Arrays) (row i : ℕ) (x : Shape) → b ≡ rest_from a b → d ≡ cell_put b row i x → d ≡ rest_from a d
+rest_kept a b d row i x e q =
+    subst (λ (z : Arrays). z ≡ rest_from a z) (sym q) (ap (λ (z : Arrays). cell_put z row i x) e)
+
+module _ (l : List Cell) (h : length l ≡ 256) (a : Arrays) (p : Put l a) where
+  -- the cell c is written into the row after them
+  pub put_turn : (c z : Cell) → a.count < 256 → c ≡ get_or l a.count z → (b : Arrays) → b ≡ record (cell_put a a.count c.id c.shape) { count = a.count + 1 }
+      → Put l b
   put_turn c z k e b q =
       let s = c.shape in
       let i = a.count in
@@ -36,7 +44,7 @@ module _ (l : List Cell) (h : length l ≡ 256) (a : Arrays) (p : Put l a) where
       let lg = numbered_long a c.id i p.long in
       subst (Put l) (sym q)
       (record {
-        long = numbered_long (after c) a.next (i + 1) (shape_long g lg s);
+        long = numbered_long (with_shape g s) a.next (i + 1) (shape_long g lg s);
         front =
             ap (λ (d : Drawing). take (i + 1) d.cells) (shape_held g lg k s)
             ∙ front_turn l (held_by a).cells i c z (omega (arith, h, k)) (omega (arith, cells_length (shape_at a) a.ids, p.long.ids, k)) e p.front;

@@ -3,39 +3,20 @@
 // The Euler number of lent arrays of any contents.
 ghost use Rattle.std.specs.Prelude.{◌≡◌};
 ghost use Rattle.rows_euler.specs.Calls.{euler_answered};
-ghost use Rattle.lent.specs.Arrays.{of_lists};
 ghost use Rattle.call_asked.specs.Entries.{euler_on};
+ghost use Rattle.lent.specs.Sheets.{seen};
 
-use lent_sound::Walked;
+use lent::SheetRef;
 use rows_euler::EulerNumber;
 
 // The Euler number.
-pub fn euler(
-    next: u32,
-    count: usize,
-    ids: &[u32; 256],
-    kinds: &[u32; 256],
-    starts: &[u32; 256],
-    ends: &[u32; 256],
-    bends: &[u32; 256],
-    counts: &[u32; 256],
-    px: &[f64; 256],
-    py: &[f64; 256],
-    cycles: &[u32; 512],
-    steps: &[u32; 2048],
-    bx: &[f64; 2048],
-    by: &[f64; 2048],
-) -> EulerNumber
-    ensures { euler_answered result ≡ euler_on (of_lists next count ids.now kinds.now starts.now ends.now bends.now counts.now px.now py.now cycles.now steps.now bx.now by.now) }
+pub fn euler(view: &SheetRef<'_>) -> EulerNumber
+    ensures { euler_answered result ≡ euler_on (seen view.now) }
 {
-    let Walked::Sound(_) = call_asked::asked(
-        next, count, ids, kinds, starts, ends, bends, counts, px, py, cycles, steps, bx, by,
-    ) else {
+    let Some(_) = call_asked::asked(view) else {
         let value: i32 = 0;
         return EulerNumber { number: 1, value };
     };
-    let value = call_euler::euler(
-        next, count, ids, kinds, starts, ends, bends, counts, px, py, cycles, steps, bx, by,
-    );
+    let value = call_euler::euler(view);
     EulerNumber { number: 0, value }
 }

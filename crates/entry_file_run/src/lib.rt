@@ -5,7 +5,7 @@
 ghost use Rattle.std.specs.Prelude.{◌≡◌};
 ghost use Rattle.entry_file_run.specs.Runs.{run_as, run_at};
 
-use lent_sound::Walked;
+use lent::{SheetBuf, lend};
 
 // Runs a script on the drawing of a file. Of each command five numbers go to the lines: number, first, new, removed and
 // the length of the rest; the file of the drawing at the end goes to the first places of out.
@@ -21,65 +21,17 @@ pub fn run(
 {
     *commands = 0;
     *bytes = 0;
-    let mut next: u32 = 1;
-    let mut n: usize = 0;
-    let mut ids = [0u32; 256];
-    let mut kinds = [0u32; 256];
-    let mut starts = [0u32; 256];
-    let mut ends = [0u32; 256];
-    let mut bends = [0u32; 256];
-    let mut counts = [0u32; 256];
-    let mut px = [0.0; 256];
-    let mut py = [0.0; 256];
-    let mut cycles = [0u32; 512];
-    let mut steps = [0u32; 2048];
-    let mut bx = [0.0; 2048];
-    let mut by = [0.0; 2048];
-    let Walked::Sound(_) = call_open::open(
-        &mut next,
-        &mut n,
-        &mut ids,
-        &mut kinds,
-        &mut starts,
-        &mut ends,
-        &mut bends,
-        &mut counts,
-        &mut px,
-        &mut py,
-        &mut cycles,
-        &mut steps,
-        &mut bx,
-        &mut by,
-        file,
-    ) else {
+    let mut own = SheetBuf::empty();
+    let mut sheet = lend!(own);
+    let Some(_) = call_open::open(&mut sheet, file) else {
         return 10;
     };
     let no = entry_room::room_no(script.len(), lines.len(), out.len());
     if no != 0 {
         return no;
     }
-    let done = entry_run::run_lines(
-        &mut next,
-        &mut n,
-        &mut ids,
-        &mut kinds,
-        &mut starts,
-        &mut ends,
-        &mut bends,
-        &mut counts,
-        &mut px,
-        &mut py,
-        &mut cycles,
-        &mut steps,
-        &mut bx,
-        &mut by,
-        script,
-        lines,
-    );
-    let w = call_save::write_sound(
-        next, n, &ids, &kinds, &starts, &ends, &bends, &counts, &px, &py, &cycles, &steps, &bx,
-        &by, out,
-    );
+    let done = entry_run::run_lines(&mut sheet, script, lines);
+    let w = call_save::write_sound(&sheet.view(), out);
     *commands = done as u32;
     *bytes = w.count as u32;
     0

@@ -1,4 +1,5 @@
 -- The calls on the drawing of a file. Assumes nothing.
+use Rattle.std.specs.Prelude.{Option, Some}
 use Prim.Native.Nat.{ℕ, suc}
 use native.Mathlib.Omega.{arith}
 use borrow.Author.Tests.{eq-eqb, ne_eqb}
@@ -24,7 +25,8 @@ use Rattle.answer.specs.declared.Totals.{Totals}
 use Rattle.lent.specs.Arrays.{Arrays, held_by}
 use Rattle.lent.proofs.Sums.{ready_drawing}
 use Rattle.call_cells.proofs.Files.{call_is}
-use Rattle.call_open.specs.Taken.{FileIn}
+use Rattle.call_open.specs.Taken.{FileIn, OpenedIn}
+use Rattle.call_open.proofs.Judged.{opened_file}
 use Rattle.entry_files.specs.Calls.{is_file, drawn, star_at, euler_as, euler_at, pieces_as, pieces_at, again}
 
 -- ---- bytes that are no file
@@ -45,6 +47,10 @@ module _ (s : List ℕ) (h : (read_file s).number ≡ 10) where
   again_refused l = sym (ap (λ (b : Bool). cond b (filled s l) (unfilled 10 l)) no_file)
 
 -- ---- the drawing that was read
+-- in the arrays b, which are those of a file that was opened
+pub opened_seen : (s : List ℕ) {b a : Arrays} (r : Option Totals) (t : Totals) → b ≡ a → OpenedIn s a r → r ≡ Some t → FileIn s b t
+opened_seen s r t e o q = subst (λ (x : Arrays). FileIn s x t) (sym e) (opened_file s _ r o t q)
+
 bytes_are : (s : List ℕ) → Bytes s → T (are_bytes s)
 bytes_are [] b = tt
 bytes_are (x ∷ s) b = pair (ltb x 256) (are_bytes s) (lt→ltb x 256 (b 0)) (bytes_are s (λ k. b (suc k)))

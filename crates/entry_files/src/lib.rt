@@ -7,44 +7,15 @@ ghost use Rattle.complex.specs.File.{read_file};
 ghost use Rattle.complex.specs.Visits.{check_file};
 ghost use Rattle.entry_files.specs.Calls.{filled_as, star_at, euler_as, euler_at, pieces_as, pieces_at, again, checked_as};
 
-use call_load::Outline;
-use lent_sound::Walked;
+use lent::{SheetBuf, lend};
 
 // Question 10: are the bytes, all of them, a sound drawing's file?
 pub fn open_number(file: &[u8]) -> u32
     ensures { result ≡ (read_file file.now).number }
 {
-    let mut next: u32 = 1;
-    let mut n: usize = 0;
-    let mut ids = [0u32; 256];
-    let mut kinds = [0u32; 256];
-    let mut starts = [0u32; 256];
-    let mut ends = [0u32; 256];
-    let mut bends = [0u32; 256];
-    let mut counts = [0u32; 256];
-    let mut px = [0.0; 256];
-    let mut py = [0.0; 256];
-    let mut cycles = [0u32; 512];
-    let mut steps = [0u32; 2048];
-    let mut bx = [0.0; 2048];
-    let mut by = [0.0; 2048];
-    let Walked::Sound(_) = call_open::open(
-        &mut next,
-        &mut n,
-        &mut ids,
-        &mut kinds,
-        &mut starts,
-        &mut ends,
-        &mut bends,
-        &mut counts,
-        &mut px,
-        &mut py,
-        &mut cycles,
-        &mut steps,
-        &mut bx,
-        &mut by,
-        file,
-    ) else {
+    let mut own = SheetBuf::empty();
+    let mut sheet = lend!(own);
+    let Some(_) = call_open::open(&mut sheet, file) else {
         return 10;
     };
     0
@@ -54,44 +25,13 @@ pub fn open_number(file: &[u8]) -> u32
 pub fn star(file: &[u8], id: u32, buffer: &mut [u32], count: &mut u32) -> u32
     ensures { filled_as result count.new buffer.new ≡ star_at file.now id buffer.old }
 {
-    let mut next: u32 = 1;
-    let mut n: usize = 0;
-    let mut ids = [0u32; 256];
-    let mut kinds = [0u32; 256];
-    let mut starts = [0u32; 256];
-    let mut ends = [0u32; 256];
-    let mut bends = [0u32; 256];
-    let mut counts = [0u32; 256];
-    let mut px = [0.0; 256];
-    let mut py = [0.0; 256];
-    let mut cycles = [0u32; 512];
-    let mut steps = [0u32; 2048];
-    let mut bx = [0.0; 2048];
-    let mut by = [0.0; 2048];
-    let Walked::Sound(t) = call_open::open(
-        &mut next,
-        &mut n,
-        &mut ids,
-        &mut kinds,
-        &mut starts,
-        &mut ends,
-        &mut bends,
-        &mut counts,
-        &mut px,
-        &mut py,
-        &mut cycles,
-        &mut steps,
-        &mut bx,
-        &mut by,
-        file,
-    ) else {
+    let mut own = SheetBuf::empty();
+    let mut sheet = lend!(own);
+    let Some(t) = call_open::open(&mut sheet, file) else {
         *count = 0;
         return 10;
     };
-    let s = call_star::star(
-        next, n, &ids, &kinds, &starts, &ends, &bends, &counts, &px, &py, &cycles, &steps, &bx,
-        &by, t, id, buffer,
-    );
+    let s = call_star::star(&sheet.view(), t, id, buffer);
     *count = s.count as u32;
     s.number
 }
@@ -100,43 +40,13 @@ pub fn star(file: &[u8], id: u32, buffer: &mut [u32], count: &mut u32) -> u32
 pub fn euler(file: &[u8], value: &mut i32) -> u32
     ensures { euler_as result value.new ≡ euler_at file.now }
 {
-    let mut next: u32 = 1;
-    let mut n: usize = 0;
-    let mut ids = [0u32; 256];
-    let mut kinds = [0u32; 256];
-    let mut starts = [0u32; 256];
-    let mut ends = [0u32; 256];
-    let mut bends = [0u32; 256];
-    let mut counts = [0u32; 256];
-    let mut px = [0.0; 256];
-    let mut py = [0.0; 256];
-    let mut cycles = [0u32; 512];
-    let mut steps = [0u32; 2048];
-    let mut bx = [0.0; 2048];
-    let mut by = [0.0; 2048];
-    let Walked::Sound(_) = call_open::open(
-        &mut next,
-        &mut n,
-        &mut ids,
-        &mut kinds,
-        &mut starts,
-        &mut ends,
-        &mut bends,
-        &mut counts,
-        &mut px,
-        &mut py,
-        &mut cycles,
-        &mut steps,
-        &mut bx,
-        &mut by,
-        file,
-    ) else {
+    let mut own = SheetBuf::empty();
+    let mut sheet = lend!(own);
+    let Some(_) = call_open::open(&mut sheet, file) else {
         *value = 0;
         return 10;
     };
-    let v = call_euler::euler(
-        next, n, &ids, &kinds, &starts, &ends, &bends, &counts, &px, &py, &cycles, &steps, &bx, &by,
-    );
+    let v = call_euler::euler(&sheet.view());
     *value = v;
     0
 }
@@ -145,43 +55,13 @@ pub fn euler(file: &[u8], value: &mut i32) -> u32
 pub fn pieces(file: &[u8], pieces: &mut u32) -> u32
     ensures { pieces_as result pieces.new ≡ pieces_at file.now }
 {
-    let mut next: u32 = 1;
-    let mut n: usize = 0;
-    let mut ids = [0u32; 256];
-    let mut kinds = [0u32; 256];
-    let mut starts = [0u32; 256];
-    let mut ends = [0u32; 256];
-    let mut bends = [0u32; 256];
-    let mut counts = [0u32; 256];
-    let mut px = [0.0; 256];
-    let mut py = [0.0; 256];
-    let mut cycles = [0u32; 512];
-    let mut steps = [0u32; 2048];
-    let mut bx = [0.0; 2048];
-    let mut by = [0.0; 2048];
-    let Walked::Sound(_) = call_open::open(
-        &mut next,
-        &mut n,
-        &mut ids,
-        &mut kinds,
-        &mut starts,
-        &mut ends,
-        &mut bends,
-        &mut counts,
-        &mut px,
-        &mut py,
-        &mut cycles,
-        &mut steps,
-        &mut bx,
-        &mut by,
-        file,
-    ) else {
+    let mut own = SheetBuf::empty();
+    let mut sheet = lend!(own);
+    let Some(_) = call_open::open(&mut sheet, file) else {
         *pieces = 0;
         return 10;
     };
-    let left = call_pieces::pieces(
-        next, n, &ids, &kinds, &starts, &ends, &bends, &counts, &px, &py, &cycles, &steps, &bx, &by,
-    );
+    let left = call_pieces::pieces(&sheet.view());
     *pieces = left;
     0
 }
@@ -190,44 +70,13 @@ pub fn pieces(file: &[u8], pieces: &mut u32) -> u32
 pub fn write_again(file: &[u8], buffer: &mut [u8], count: &mut u32) -> u32
     ensures { filled_as result count.new buffer.new ≡ again file.now buffer.old }
 {
-    let mut next: u32 = 1;
-    let mut n: usize = 0;
-    let mut ids = [0u32; 256];
-    let mut kinds = [0u32; 256];
-    let mut starts = [0u32; 256];
-    let mut ends = [0u32; 256];
-    let mut bends = [0u32; 256];
-    let mut counts = [0u32; 256];
-    let mut px = [0.0; 256];
-    let mut py = [0.0; 256];
-    let mut cycles = [0u32; 512];
-    let mut steps = [0u32; 2048];
-    let mut bx = [0.0; 2048];
-    let mut by = [0.0; 2048];
-    let Walked::Sound(t) = call_open::open(
-        &mut next,
-        &mut n,
-        &mut ids,
-        &mut kinds,
-        &mut starts,
-        &mut ends,
-        &mut bends,
-        &mut counts,
-        &mut px,
-        &mut py,
-        &mut cycles,
-        &mut steps,
-        &mut bx,
-        &mut by,
-        file,
-    ) else {
+    let mut own = SheetBuf::empty();
+    let mut sheet = lend!(own);
+    let Some(t) = call_open::open(&mut sheet, file) else {
         *count = 0;
         return 10;
     };
-    let w = call_write::write(
-        next, n, &ids, &kinds, &starts, &ends, &bends, &counts, &px, &py, &cycles, &steps, &bx,
-        &by, t, buffer,
-    );
+    let w = call_write::write(&sheet.view(), t, buffer);
     *count = w.count as u32;
     w.number
 }
@@ -238,41 +87,16 @@ pub fn check(file: &[u8], sound: &mut u32, visited: &mut u32) -> u32
     ensures visited_after { checked_as result sound.new visited.new ≡ check_file file.now }
     ensures sound_bound { sound.new ≤ 1 }
 {
-    let mut ids = [0u32; 256];
-    let mut kinds = [0u32; 256];
-    let mut starts = [0u32; 256];
-    let mut ends = [0u32; 256];
-    let mut bends = [0u32; 256];
-    let mut counts = [0u32; 256];
-    let mut px = [0.0; 256];
-    let mut py = [0.0; 256];
-    let mut cycles = [0u32; 512];
-    let mut steps = [0u32; 2048];
-    let mut bx = [0.0; 2048];
-    let mut by = [0.0; 2048];
-    let Outline::Cells(next, n, _) = call_load::load(
-        file,
-        &mut ids,
-        &mut kinds,
-        &mut starts,
-        &mut ends,
-        &mut bends,
-        &mut counts,
-        &mut px,
-        &mut py,
-        &mut cycles,
-        &mut steps,
-        &mut bx,
-        &mut by,
-        true,
-    ) else {
+    let mut own = SheetBuf::empty();
+    let mut sheet = lend!(own);
+    let Some((next, n, _)) = call_load::load(file, &mut sheet, true) else {
         *sound = 0;
         *visited = 0;
         return 10;
     };
-    let v = entry_check::check(
-        next, n, &ids, &kinds, &starts, &ends, &bends, &counts, &px, &py, &cycles, &steps, &bx, &by,
-    );
+    *sheet.next = next;
+    *sheet.count = n;
+    let v = entry_check::check(&sheet.view());
     entry_check::tell(v, sound, visited);
     0
 }

@@ -4,7 +4,6 @@ use native.Mathlib.Omega.{arith}
 use mathlib.Core.Path.{◌≡◌}
 use mathlib.Core.List.{List}
 use lib.Dec.{T}
-use lib.Ieee.{Float}
 use lib.ListN.{length, drop}
 use Rattle.number.specs.Readers.{bad}
 use Rattle.complex.specs.Sound.{sound}
@@ -22,27 +21,6 @@ use Rattle.lent.specs.Replies.{answer_by, line_of, Carried}
 use Rattle.lent.proofs.Replies.{drawing_of, carried_says, replied_carried}
 use Rattle.entry_told.proofs.Going.{turned_read, turned_unread, left_fits}
 use Rattle.entry_run.specs.Turns.{SteppedIn}
-
--- the arrays that these lists are
-abbrev pub arrays_of : ℕ → ℕ → List ℕ → List ℕ → List ℕ → List ℕ → List ℕ → List ℕ → List Float → List Float → List ℕ → List ℕ → List Float → List Float
-    → Arrays
-arrays_of n c is ks ss es bs cs px py cy st bx by =
-    record {
-      next = n;
-      count = c;
-      ids = is;
-      kinds = ks;
-      starts = ss;
-      ends = es;
-      bends = bs;
-      counts = cs;
-      px = px;
-      py = py;
-      cycles = cy;
-      steps = st;
-      bx = bx;
-      by = by;
-    }
 
 pub sheet_sound : (a : Arrays) → T (sound_arrays a) → T (sound (sheet_of (held_by a)))
 sheet_sound a w = sound_sheet_lem (held_by a) (drawing_of a w)

@@ -43,11 +43,9 @@ pub fn widths(src: &[u32], n: usize) -> usize
     ensures { result ≡ total spell_width (take n src.now) }
 {
     let mut sum: usize = 0;
-    let mut i: usize = 0;
-    while i < n {
+    for i in 0..n {
         let v = src[i];
         sum = sum + number::number_width(v);
-        i = i + 1;
     }
     sum
 }

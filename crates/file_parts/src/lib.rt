@@ -31,11 +31,9 @@ fn put_numbers(src: &[u32], from: usize, n: usize, out: &mut [u8], at: usize) ->
     ensures { BytesPut out.old at (spread spell (run_of from n src.now)) out.new result }
 {
     let mut place = at;
-    let mut i: usize = 0;
-    while i < n {
+    for i in 0..n {
         let v = src[from + i];
         place = number::put_number(v, out, place);
-        i = i + 1;
     }
     place
 }
@@ -43,6 +41,7 @@ fn put_numbers(src: &[u32], from: usize, n: usize, out: &mut [u8], at: usize) ->
 // ---- bends
 
 // n positions from a place on.
+// Not one function with put_numbers: a contract for any call that writes would be longer than the loop.
 fn put_positions(
     xs: &[f64; 2048],
     ys: &[f64; 2048],
@@ -56,12 +55,10 @@ fn put_positions(
     ensures { BytesPut out.old at (spread position_bytes (run_of from n (positions_from xs.now ys.now))) out.new result }
 {
     let mut place = at;
-    let mut i: usize = 0;
-    while i < n {
+    for i in 0..n {
         let k = from + i;
         let p = Position { x: xs[k], y: ys[k] };
         place = coordinate::put_position(p, out, place);
-        i = i + 1;
     }
     place
 }
@@ -113,12 +110,10 @@ pub fn put_rings(
 {
     let mut place = at;
     let mut step = first;
-    let mut i: usize = 0;
-    while i < n {
+    for i in 0..n {
         let c = cycles[from + i];
         place = put_cycle(c, steps, step, out, place);
         step = step + store::places(1, c);
-        i = i + 1;
     }
     place
 }

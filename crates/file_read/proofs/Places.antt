@@ -1,4 +1,5 @@
 -- A cell's head read field by field, each at the place after the one before. Assumes nothing.
+use Rattle.std.specs.Prelude.{Option, Some, None}
 use Prim.Native.Nat.{ℕ}
 use mathlib.Core.Path.{◌≡◌, refl, ap, sym, subst, ◌∙◌}
 use mathlib.Core.Bool.{Bool, true, false}
@@ -6,15 +7,14 @@ use mathlib.Core.List.{List}
 use lib.ListN.{drop}
 use Rattle.number.specs.Said.{done, no}
 use Rattle.number.specs.Readers.{Read, got, bad, and_then}
-use Rattle.number.specs.declared.Number.{Number}
-use Rattle.number.specs.declared.Number.TheVariants.{Value, Malformed}
-use Rattle.number.specs.Numbers.{read_number, number_says, number_at}
+use Rattle.number.specs.Numbers.{read_number, number_at}
 use Rattle.number.proofs.Laws.{value_at_lem, malformed_at}
+use Rattle.decode_parts.specs.Lists.{FieldAt, Found}
+use Rattle.decode_fields.specs.Fields.{read_two_numbers, read_three_numbers}
+use Rattle.decode_fields.proofs.Pairs.{pair_then}
 use Rattle.store.specs.declared.Shape.{Shape}
 use Rattle.store.specs.declared.Shape.TheVariants.{Open, Closed, Face}
 use Rattle.store.specs.declared.Cell.{Cell}
-use Rattle.file_read.specs.declared.ShapeFound.{ShapeFound}
-use Rattle.file_read.specs.declared.ShapeFound.TheVariants.{Shaped, NoShape}
 use Rattle.file_read.specs.Heads.{open_shape, counted_shape, read_shape, read_head, ReadAt, ShapeRead}
 
 module _ {A B : Type 0} {q : Read A} (k : A → List ℕ → Read B) where
@@ -48,54 +48,47 @@ module _ (s : List ℕ) (at n next : ℕ) (e : number_at s at ≡ done (n, next)
   pub closed_found : (b : Bool) → b ≡ false → ReadAt (counted_shape b (drop at s)) s (Closed n) next
   closed_found b t = rw t (number_found Closed s at n next e)
 
--- ---- two numbers, and what k reads after them
-abbrev second : {A : Type 0} → (ℕ → ℕ → List ℕ → Read A) → ℕ → List ℕ → Read A
-second k a t = and_then (read_number t) (k a)
+-- ---- fields that are read at once
+field_at : {A : Type 0} {r : List ℕ → Read A} {s : List ℕ} {at : ℕ} {x : A} {next : ℕ} → FieldAt r s at x next → ReadAt (r (drop at s)) s x next
+field_at f = record { read = f.read; inside = f.fits }
 
-module _ {A : Type 0} (k : ℕ → ℕ → List ℕ → Read A) (s : List ℕ) (at : ℕ) (r : Number) (e : number_says r ≡ number_at s at) where
-  pub first_none : r ≡ Malformed → and_then (read_number (drop at s)) (second k) ≡ bad
-  first_none f = first_bad (second k) (malformed_at s at (sym e ∙ ap number_says f))
+as_read : {A : Type 0} {q p : Read A} {s : List ℕ} {x : A} {next : ℕ} → q ≡ p → ReadAt q s x next → ReadAt p s x next
+as_read e h = record { read = sym e ∙ h.read; inside = h.inside }
 
-  module _ (a p : ℕ) (v : r ≡ Value a p) (r2 : Number) (e2 : number_says r2 ≡ number_at s p) where
-    one_found : ReadAt (read_number (drop at s)) s a p
-    one_found = value_found s at a p (sym e ∙ ap number_says v)
+-- an open edge of its ends and the count of its bends
+abbrev open_of : (ℕ × ℕ) × ℕ → List ℕ → Read Shape
+open_of p u = got (Open p.0.0 p.0.1 p.1) u
 
-    pub second_none : r2 ≡ Malformed → and_then (read_number (drop at s)) (second k) ≡ bad
-    second_none f = then_bad (second k) one_found (first_bad (k a) (malformed_at s p (sym e2 ∙ ap number_says f)))
+-- a cell of its id and its kind, which its shape follows
+abbrev shape_after : ℕ × ℕ → List ℕ → Read Cell
+shape_after p u = and_then (read_shape p.1 u) λ x v. got (record { id = p.0; shape = x }) v
 
-    module _ (b q : ℕ) (v2 : r2 ≡ Value b q) where
-      two_found : ReadAt (read_number (drop p s)) s b q
-      two_found = value_found s p b q (sym e2 ∙ ap number_says v2)
+open_then : (t : List ℕ) → and_then (read_three_numbers t) open_of ≡ open_shape t
+open_then t =
+    pair_then read_two_numbers read_number (λ p n u. got (Open p.0 p.1 n) u) t
+    ∙ pair_then read_number read_number (λ a b u. and_then (read_number u) λ n v. got (Open a b n) v) t
 
-      rest_bad : k a b (drop q s) ≡ bad → and_then (read_number (drop at s)) (second k) ≡ bad
-      rest_bad f = then_bad (second k) one_found (then_bad (k a) two_found f)
+head_then : (t : List ℕ) → and_then (read_two_numbers t) shape_after ≡ read_head t
+head_then t = pair_then read_number read_number (λ i k u. shape_after (i, k) u) t
 
-      rest_found : {y : A} {next : ℕ} → ReadAt (k a b (drop q s)) s y next → ReadAt (and_then (read_number (drop at s)) (second k)) s y next
-      rest_found f = then_found (second k) one_found (then_found (k a) two_found f)
+module _ {s : List ℕ} {at : ℕ} where
+  pub open_bad : Found read_three_numbers s at (no 2) → open_shape (drop at s) ≡ bad
+  open_bad h = sym (open_then (drop at s)) ∙ first_bad open_of h.is.1
 
--- an open edge: the count of its bends after its ends; a cell: its shape after its id and its kind
-abbrev pub bends_after : ℕ → ℕ → List ℕ → Read Shape
-bends_after a b u = and_then (read_number u) λ n v. got (Open a b n) v
+  pub open_found : {a b n next : ℕ} → Found read_three_numbers s at (done (((a, b), n), next)) → ReadAt (open_shape (drop at s)) s (Open a b n) next
+  open_found h = as_read (open_then (drop at s)) (last_found open_of (field_at h.is) refl)
 
-abbrev pub shape_after : ℕ → ℕ → List ℕ → Read Cell
-shape_after i k u = and_then (read_shape k u) λ x v. got (record { id = i; shape = x }) v
+  pub head_bad : Found read_two_numbers s at (no 2) → read_head (drop at s) ≡ bad
+  head_bad h = sym (head_then (drop at s)) ∙ first_bad shape_after h.is.1
 
-module _ (s : List ℕ) (at : ℕ) (r : Number) (e : number_says r ≡ number_at s at) (a p : ℕ) (v : r ≡ Value a p)
-    (r2 : Number) (e2 : number_says r2 ≡ number_at s p) (b q : ℕ) (v2 : r2 ≡ Value b q) where
-  module _ (r3 : Number) (e3 : number_says r3 ≡ number_at s q) where
-    pub bends_bad : r3 ≡ Malformed → open_shape (drop at s) ≡ bad
-    bends_bad f = rest_bad bends_after s at r e a p v r2 e2 b q v2 (number_bad (Open a b) s q (sym e3 ∙ ap number_says f))
+  module _ {i k mid : ℕ} (h : Found read_two_numbers s at (done ((i, k), mid))) {x : Option (Shape × ℕ)} (g : ShapeRead (read_shape k) s mid x) where
+    pub shape_bad : x ≡ None → read_head (drop at s) ≡ bad
+    shape_bad e =
+        sym (head_then (drop at s))
+        ∙ then_bad shape_after (field_at h.is) (first_bad (λ y v. got (record { id = i; shape = y }) v) (subst (ShapeRead (read_shape k) s mid) e g).1)
 
-    pub open_found : (n next : ℕ) → r3 ≡ Value n next → ReadAt (open_shape (drop at s)) s (Open a b n) next
-    open_found n next f = rest_found bends_after s at r e a p v r2 e2 b q v2 (number_found (Open a b) s q n next (sym e3 ∙ ap number_says f))
-
-  module _ (x : ShapeFound) (g : ShapeRead (read_shape b) s q x) where
-    pub shape_bad : x ≡ NoShape → read_head (drop at s) ≡ bad
-    shape_bad f =
-        rest_bad shape_after s at r e a p v r2 e2 b q v2
-        (first_bad (λ y w. got (record { id = a; shape = y }) w) (subst (ShapeRead (read_shape b) s q) f g).1)
-
-    pub head_found : (y : Shape) (next : ℕ) → x ≡ Shaped y next → ReadAt (read_head (drop at s)) s (record { id = a; shape = y }) next
-    head_found y next f =
-        rest_found shape_after s at r e a p v r2 e2 b q v2
-        (last_found (λ z w. got (record { id = a; shape = z }) w) (subst (ShapeRead (read_shape b) s q) f g) refl)
+    pub head_found : {y : Shape} {next : ℕ} → x ≡ Some (y, next) → ReadAt (read_head (drop at s)) s (record { id = i; shape = y }) next
+    head_found e =
+        as_read (head_then (drop at s))
+        (then_found shape_after (field_at h.is)
+        (last_found (λ y v. got (record { id = i; shape = y }) v) (subst (ShapeRead (read_shape k) s mid) e g) refl))

@@ -1,4 +1,5 @@
 -- What the cells of a file put into number arrays. Definitions only.
+use Rattle.std.specs.Prelude.{Option, Some, None}
 use Rattle.std.specs.Prelude.{ℕ, zero, suc, ◌+◌, ◌*◌, ◌≤◌, ◌≡◌, true, List, [], ◌∷◌, ◌++◌, map, length, take, drop}
 use Rattle.number.specs.Readers.{Read, got, bad, times, spread}
 use Rattle.number.specs.Said.{Said, done, no, Says}
@@ -12,11 +13,7 @@ use Rattle.store.specs.declared.Shape.{Shape}
 use Rattle.store.specs.Sheet.{all_real}
 use Rattle.store.specs.View.{bend_count, cycle_count}
 use Rattle.store.specs.Places.{num_of, cycle_words}
-use Rattle.file_read.specs.declared.Put.{Put}
-use Rattle.file_read.specs.declared.Put.TheVariants.{Upto, Malformed}
 use Rattle.file_read.specs.declared.Used.{Used}
-use Rattle.file_read.specs.declared.Loaded.{Loaded}
-use Rattle.file_read.specs.declared.Loaded.TheVariants.{Next, Refused}
 
 -- l' has x at place n, and before it what l has
 pub record Added {A : Type 0} (l : List A) (n : ℕ) (x l' : List A) : Type 0 where
@@ -31,12 +28,12 @@ pub record NumbersIn (s : List ℕ) (at m : ℕ) (out : List ℕ) (used : ℕ) (
   pub inside : next ≤ length s
   pub added : Added out used numbers out'
 
--- the cases of `Put`: 0 with the place after the numbers, or 10
-abbrev pub put_says : Put → Said ℕ
-put_says (Upto next) = done next
-put_says Malformed = no 10
+-- 0 with the place after the numbers, or 10
+abbrev pub put_says : Option ℕ → Said ℕ
+put_says (Some next) = done next
+put_says None = no 10
 
-abbrev pub NumbersPut : List ℕ → ℕ → ℕ → List ℕ → ℕ → List ℕ → Put → Type 0
+abbrev pub NumbersPut : List ℕ → ℕ → ℕ → List ℕ → ℕ → List ℕ → Option ℕ → Type 0
 NumbersPut s at m out used out' r = Says 10 (NumbersIn s at m out used out') (times read_number m (drop at s) ≡ bad) (put_says r)
 
 -- ---- cycles: how many steps each has, and the steps
@@ -58,12 +55,12 @@ CyclesOver q used =
     (ks : List Cycle) (t : List ℕ) → q ≡ got ks t
     → used.cycles + length ks ≤ cycles_most → used.steps + length (spread cycle_words ks) ≤ steps_most → ⊥
 
--- the cases of `Loaded`: 0 with the place after what was read and what is then in use, or 10
-abbrev pub loaded_says : Loaded → Said (ℕ × Used)
-loaded_says (Next next used') = done (next, used')
-loaded_says Refused = no 10
+-- 0 with the place after what was read and what is then in use, or 10
+abbrev pub loaded_says : Option (ℕ × Used) → Said (ℕ × Used)
+loaded_says (Some (next, used')) = done (next, used')
+loaded_says None = no 10
 
-abbrev pub CyclesLoaded : Read (List Cycle) → List ℕ → List ℕ → List ℕ → Used → List ℕ → List ℕ → Loaded → Type 0
+abbrev pub CyclesLoaded : Read (List Cycle) → List ℕ → List ℕ → List ℕ → Used → List ℕ → List ℕ → Option (ℕ × Used) → Type 0
 CyclesLoaded q s counts steps used counts' steps' r =
     Says 10 (λ v. CyclesIn q s counts steps used counts' steps' v.0 v.1) (CyclesOver q used) (loaded_says r)
 

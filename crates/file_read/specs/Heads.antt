@@ -1,4 +1,5 @@
 -- The fields of a cell in a file up to its bends and cycles, of which a shape has the counts. Definitions only.
+use Rattle.std.specs.Prelude.{Option, Some, None}
 use Rattle.std.specs.Prelude.{ℕ, ◌≤◌, ◌≡◌, Bool, true, false, cond, List, [], ◌∷◌, length, get_or, drop}
 use Rattle.number.specs.Readers.{Read, got, bad, and_then}
 use Rattle.number.specs.Said.{Said, done, no, Says}
@@ -7,10 +8,6 @@ use Rattle.coordinate.specs.Positions.{read_position}
 use Rattle.store.specs.declared.Shape.{Shape}
 use Rattle.store.specs.declared.Shape.TheVariants.{Vertex, Open, Closed, Face}
 use Rattle.store.specs.declared.Cell.{Cell}
-use Rattle.file_read.specs.declared.ShapeFound.{ShapeFound}
-use Rattle.file_read.specs.declared.ShapeFound.TheVariants.{Shaped, NoShape}
-use Rattle.file_read.specs.declared.CellFound.{CellFound}
-use Rattle.file_read.specs.declared.CellFound.TheVariants.{Begun, NoCell}
 
 abbrev pub vertex_shape : List ℕ → Read Shape
 vertex_shape s = and_then (read_position s) λ p t. got (Vertex p) t
@@ -40,18 +37,18 @@ pub record ReadAt {A : Type 0} (q : Read A) (s : List ℕ) (x : A) (next : ℕ) 
   pub read : q ≡ got x (drop next s)
   pub inside : next ≤ length s
 
--- the cases of `ShapeFound`: 0 with a shape and the place after it, or 10
-abbrev pub shape_says : ShapeFound → Said (Shape × ℕ)
-shape_says (Shaped x next) = done (x, next)
-shape_says NoShape = no 10
+-- 0 with a shape and the place after it, or 10
+abbrev pub shape_says : Option (Shape × ℕ) → Said (Shape × ℕ)
+shape_says (Some (x, next)) = done (x, next)
+shape_says None = no 10
 
-abbrev pub ShapeRead : (List ℕ → Read Shape) → List ℕ → ℕ → ShapeFound → Type 0
+abbrev pub ShapeRead : (List ℕ → Read Shape) → List ℕ → ℕ → Option (Shape × ℕ) → Type 0
 ShapeRead r s at f = Says 10 (λ v. ReadAt (r (drop at s)) s v.0 v.1) (r (drop at s) ≡ bad) (shape_says f)
 
--- the cases of `CellFound`: 0 with a cell and the place after its counts, or 10
-abbrev pub cell_says : CellFound → Said (Cell × ℕ)
-cell_says (Begun c next) = done (c, next)
-cell_says NoCell = no 10
+-- 0 with a cell and the place after its counts, or 10
+abbrev pub cell_says : Option (Cell × ℕ) → Said (Cell × ℕ)
+cell_says (Some (c, next)) = done (c, next)
+cell_says None = no 10
 
-abbrev pub HeadRead : List ℕ → ℕ → CellFound → Type 0
+abbrev pub HeadRead : List ℕ → ℕ → Option (Cell × ℕ) → Type 0
 HeadRead s at f = Says 10 (λ v. ReadAt (read_head (drop at s)) s v.0 v.1) (read_head (drop at s) ≡ bad) (cell_says f)

@@ -7,8 +7,6 @@ ghost use Rattle.complex.specs.Sound.{cycles_most, steps_most};
 ghost use Rattle.file_read.specs.Heads.{vertex_shape, open_shape, counted_shape, read_shape, ShapeRead, HeadRead};
 ghost use Rattle.file_read.specs.Filling.{NumbersPut, CyclesLoaded};
 
-use coordinate::Located;
-use number::Number;
 use store::{Cell, Drawing, Shape};
 
 // The ceilings.
@@ -23,27 +21,6 @@ pub struct ReadAnswer {
     pub drawing: Drawing,
 }
 
-// A shape and the place after its counts, or no shape.
-#[derive(Clone, Copy)]
-enum ShapeFound {
-    Shaped(Shape, usize),
-    NoShape,
-}
-
-// A cell and the place after its counts, or no cell.
-#[derive(Clone, Copy)]
-pub enum CellFound {
-    Begun(Cell, usize),
-    NoCell,
-}
-
-// The place after numbers that were read, or one of them is no number.
-#[derive(Clone, Copy)]
-enum Put {
-    Upto(usize),
-    Malformed,
-}
-
 // How many places of each array are in use.
 #[derive(Clone, Copy)]
 pub struct Used {
@@ -52,52 +29,40 @@ pub struct Used {
     pub steps: usize,
 }
 
-// The place after what was read and what is in use with it, or it is nothing that a sound drawing's
-// file has there.
-#[derive(Clone, Copy)]
-pub enum Loaded {
-    Next(usize, Used),
-    Refused,
-}
+// ---- a shape, or a cell, up to its bends or cycles, and the place after that, if one stands there
 
-fn vertex_at(s: &[u8], at: usize) -> ShapeFound
+fn vertex_at(s: &[u8], at: usize) -> Option<(Shape, usize)>
     ensures { ShapeRead vertex_shape s.now at result }
 {
-    let Located::At(p, next) = coordinate::read_position(s, at) else {
-        return ShapeFound::NoShape;
+    let Some((p, next)) = coordinate::read_position(s, at) else {
+        return None;
     };
-    ShapeFound::Shaped(Shape::Vertex(p), next)
+    Some((Shape::Vertex(p), next))
 }
 
-fn open_at(s: &[u8], at: usize) -> ShapeFound
+fn open_at(s: &[u8], at: usize) -> Option<(Shape, usize)>
     ensures { ShapeRead open_shape s.now at result }
 {
-    let Number::Value(start, a) = number::read_number(s, at) else {
-        return ShapeFound::NoShape;
+    let Some((start, end, bends, next)) = decode_fields::three_numbers(s, at) else {
+        return None;
     };
-    let Number::Value(end, b) = number::read_number(s, a) else {
-        return ShapeFound::NoShape;
-    };
-    let Number::Value(bends, next) = number::read_number(s, b) else {
-        return ShapeFound::NoShape;
-    };
-    ShapeFound::Shaped(Shape::Open { start, end, bends }, next)
+    Some((Shape::Open { start, end, bends }, next))
 }
 
 // A face up to its cycles, or a closed edge up to its bends.
-fn counted_at(s: &[u8], at: usize, face: bool) -> ShapeFound
+fn counted_at(s: &[u8], at: usize, face: bool) -> Option<(Shape, usize)>
     ensures { ShapeRead (counted_shape face) s.now at result }
 {
-    let Number::Value(n, next) = number::read_number(s, at) else {
-        return ShapeFound::NoShape;
+    let Some((n, next)) = number::read_number(s, at) else {
+        return None;
     };
     if face {
-        return ShapeFound::Shaped(Shape::Face { cycles: n }, next);
+        return Some((Shape::Face { cycles: n }, next));
     }
-    ShapeFound::Shaped(Shape::Closed { bends: n }, next)
+    Some((Shape::Closed { bends: n }, next))
 }
 
-fn shape_at(s: &[u8], at: usize, kind: u32) -> ShapeFound
+fn shape_at(s: &[u8], at: usize, kind: u32) -> Option<(Shape, usize)>
     ensures { ShapeRead (read_shape kind) s.now at result }
 {
     match kind {
@@ -105,78 +70,79 @@ fn shape_at(s: &[u8], at: usize, kind: u32) -> ShapeFound
         1 => open_at(s, at),
         2 => counted_at(s, at, false),
         3 => counted_at(s, at, true),
-        _ => ShapeFound::NoShape,
+        _ => None,
     }
 }
 
 // A cell up to its bends or cycles.
-pub fn head_at(s: &[u8], at: usize) -> CellFound
+pub fn head_at(s: &[u8], at: usize) -> Option<(Cell, usize)>
     ensures { HeadRead s.now at result }
 {
-    let Number::Value(id, a) = number::read_number(s, at) else {
-        return CellFound::NoCell;
+    let Some((id, kind, rest)) = decode_fields::two_numbers(s, at) else {
+        return None;
     };
-    let Number::Value(kind, b) = number::read_number(s, a) else {
-        return CellFound::NoCell;
+    let Some((shape, next)) = shape_at(s, rest, kind) else {
+        return None;
     };
-    let ShapeFound::Shaped(shape, next) = shape_at(s, b, kind) else {
-        return CellFound::NoCell;
-    };
-    CellFound::Begun(Cell { id, shape }, next)
+    Some((Cell { id, shape }, next))
 }
 
-// The m numbers from a place on, put into out.
-fn put_numbers(s: &[u8], at: usize, m: usize, out: &mut [u32], used: usize) -> Put
+// The m numbers from a place on, put into out, and the place after them, if they stand there.
+fn put_numbers(s: &[u8], at: usize, m: usize, out: &mut [u32], used: usize) -> Option<usize>
     requires at_in_bounds { at ≤ length s.now }
     requires m_in_bounds { used + m ≤ length out.old }
     ensures { NumbersPut s.now at m out.old used out.new result }
 {
     let mut p = at;
-    let mut i: usize = 0;
-    while i < m {
-        let Number::Value(v, next) = number::read_number(s, p) else {
-            return Put::Malformed;
+    for i in 0..m {
+        let Some((v, next)) = number::read_number(s, p) else {
+            return None;
         };
         out[used + i] = v;
         p = next;
-        i = i + 1;
     }
-    Put::Upto(p)
+    Some(p)
 }
 
 // The cycle at a place: its number of steps put into cycles, and its steps, or its lone vertex,
-// into steps.
-fn load_cycle(s: &[u8], at: usize, cycles: &mut [u32], steps: &mut [u32], used: Used) -> Loaded
+// into steps. The place after it and what is in use with it, if a sound drawing's file can have it there.
+fn load_cycle(
+    s: &[u8],
+    at: usize,
+    cycles: &mut [u32],
+    steps: &mut [u32],
+    used: Used,
+) -> Option<(usize, Used)>
     requires cycles_len { length cycles.old ≡ cycles_most }
     requires steps_len { length steps.old ≡ steps_most }
     requires cycles_lt_cycles_most { used.cycles < cycles_most }
     requires steps_le_steps_most { used.steps ≤ steps_most }
     ensures { CyclesLoaded (times read_cycle 1 (drop at s.now)) s.now cycles.old steps.old used cycles.new steps.new result }
 {
-    let Number::Value(m, first) = number::read_number(s, at) else {
-        return Loaded::Refused;
+    let Some((m, first)) = number::read_number(s, at) else {
+        return None;
     };
     let w = store::places(1, m);
     let t = used.steps;
     if STEPS_MOST - t < w {
-        return Loaded::Refused;
+        return None;
     }
     let k = used.cycles;
     cycles[k] = m;
-    let Put::Upto(next) = put_numbers(s, first, w, steps, t) else {
-        return Loaded::Refused;
+    let Some(next) = put_numbers(s, first, w, steps, t) else {
+        return None;
     };
-    Loaded::Next(
+    Some((
         next,
         Used {
             bends: used.bends,
             cycles: k + 1,
             steps: t + w,
         },
-    )
+    ))
 }
 
-// The n cycles from a place on.
+// The n cycles from a place on, in the same way.
 pub fn load_cycles(
     s: &[u8],
     at: usize,
@@ -184,7 +150,7 @@ pub fn load_cycles(
     cycles: &mut [u32],
     steps: &mut [u32],
     used: Used,
-) -> Loaded
+) -> Option<(usize, Used)>
     requires at_in_bounds { at ≤ length s.now }
     requires cycles_len { length cycles.old ≡ cycles_most }
     requires steps_len { length steps.old ≡ steps_most }
@@ -193,18 +159,16 @@ pub fn load_cycles(
     ensures { CyclesLoaded (times read_cycle n (drop at s.now)) s.now cycles.old steps.old used cycles.new steps.new result }
 {
     if CYCLES_MOST - used.cycles < n {
-        return Loaded::Refused;
+        return None;
     }
     let mut p = at;
     let mut u = used;
-    let mut i: usize = 0;
-    while i < n {
-        let Loaded::Next(next, more) = load_cycle(s, p, cycles, steps, u) else {
-            return Loaded::Refused;
+    for i in 0..n {
+        let Some((next, more)) = load_cycle(s, p, cycles, steps, u) else {
+            return None;
         };
         p = next;
         u = more;
-        i = i + 1;
     }
-    Loaded::Next(p, u)
+    Some((p, u))
 }

@@ -5,7 +5,7 @@ ghost use Rattle.number.specs.Numbers.{numbers_end};
 ghost use Rattle.coordinate.specs.Bounds.{within};
 ghost use Rattle.complex.specs.Cells.{vertex, open_edge, closed_edge, face};
 ghost use Rattle.complex.specs.File.{cell_bytes};
-ghost use Rattle.store.specs.View.{cycles_from, width_sum};
+ghost use Rattle.store.specs.View.{cycles_from};
 ghost use Rattle.file_parts.specs.Parts.{BytesPut, positions_from, run_of, Bends, Rings};
 ghost use Rattle.file_write.specs.Places.{PlaceFits, cell_in, place_after, CellReady};
 
@@ -123,23 +123,6 @@ pub fn put_cell(
 
 // ---- the places of the cells, one after another
 
-// The places of steps that n cycles from a place on take.
-fn step_run(cycles: &[u32; 512], from: usize, n: usize) -> usize
-    requires cycles_len { length cycles.now ≡ 512 }
-    requires n_bound { from + n ≤ 512 }
-    requires cycles_bound { width_sum (run_of from n cycles.now) ≤ 2048 }
-    ensures { result ≡ width_sum (run_of from n cycles.now) }
-{
-    let mut sum: usize = 0;
-    let mut i: usize = 0;
-    while i < n {
-        let c = cycles[from + i];
-        sum = sum + store::places(1, c);
-        i = i + 1;
-    }
-    sum
-}
-
 pub fn place_after(s: Shape, cycles: &[u32; 512], at: Place) -> Place
     requires { PlaceFits s cycles.now at }
     ensures { result ≡ place_after s cycles.now at }
@@ -147,7 +130,7 @@ pub fn place_after(s: Shape, cycles: &[u32; 512], at: Place) -> Place
     let k = store::wide(store::cycle_count(s));
     let b = store::wide(store::bend_count(s));
     let ring = at.cycles;
-    let w = step_run(cycles, ring, k);
+    let w = rows_spans::place_sum(1, cycles, ring, k);
     Place {
         bends: at.bends + b,
         cycles: ring + k,

@@ -71,7 +71,7 @@ one_outcome next n out e f =
     let h : n + (out.next - next) - out.count ≡ 0 = omega (arith, e, f) in
     λ i. record { number = 0; first = cond (eqb (sym g i) 0) 0 next; new = sym g i; removed = sym h i; drawing = out }
 
--- n is what `cell_no` answers for the figure x
+-- n is what `cell_asked` answers for the figure x
 module _ (a : Arrays) (t : Totals) (r : Ready a t) (x : Figure) (p : Passed (sheet_of (held_by a)) (create x)) (n : ℕ)
     (en : n ≡ late_no a.next 1 (changed_by (sizes_by t) (more_less (sized 1 (cycles_in x) (steps_in x) (bends_in x)) nothing))) where
   pub obeyed_full : (n ≡ 0 → ⊥) → (k : Line) → k ≡ line_of n → Obeyed a (create x) a k

@@ -4,47 +4,33 @@
 ghost use Rattle.std.specs.Prelude.{◌≡◌, ◌+◌, ◌*◌, ◌<◌, ◌≤◌, length, set};
 ghost use Rattle.bends.specs.Bends.{positions_at};
 ghost use Rattle.complex.specs.Sound.{cells_most, bends_most, ids_end};
-ghost use Rattle.kernel_add.specs.Comes.{one_new, BendsPut};
+ghost use Rattle.lent.specs.Growing.{with_row};
+ghost use Rattle.kernel_add.specs.Comes.{issued, BendsPut};
+ghost use Rattle.lent.specs.Sheets.{arrays, Same};
 
-use lent::Line;
+use lent::{Change, SheetMut};
 
-// A row after the last, with the next id, for a new cell; and the line that says so.
+// A row after the last, with the next id, for a new cell; and what that does to ids.
 pub fn add_row(
-    next: &mut u32,
-    count: &mut usize,
-    ids: &mut [u32; 256],
-    kinds: &mut [u32; 256],
-    starts: &mut [u32; 256],
-    ends: &mut [u32; 256],
-    bends: &mut [u32; 256],
-    counts: &mut [u32; 256],
+    sheet: &mut SheetMut<'_>,
     kind: u32,
     start: u32,
     end: u32,
     bend: u32,
     cycle: u32,
-) -> Line
-    requires count_lt_cells_most { count.old < cells_most }
-    requires next_lt_ids_end { next.old < ids_end }
-    ensures value { result ≡ one_new next.old }
-    ensures next_after { next.new ≡ next.old + 1 }
-    ensures count_after { count.new ≡ count.old + 1 }
-    ensures ids_after { ids.new ≡ set ids.old count.old next.old }
-    ensures kinds_after { kinds.new ≡ set kinds.old count.old kind }
-    ensures starts_after { starts.new ≡ set starts.old count.old start }
-    ensures ends_after { ends.new ≡ set ends.old count.old end }
-    ensures bends_after { bends.new ≡ set bends.old count.old bend }
-    ensures counts_after { counts.new ≡ set counts.old count.old cycle }
+) -> Change
+    requires count_lt_cells_most { sheet.old.count.now < cells_most }
+    requires next_lt_ids_end { sheet.old.next.now < ids_end }
+    ensures value { result ≡ issued sheet.old.next.now }
+    ensures added { arrays sheet.new ≡ with_row (arrays sheet.old) kind start end bend cycle sheet.old.px.now sheet.old.py.now }
+    ensures same { Same sheet.old sheet.new }
 {
-    let row = *count;
-    let id = *next;
-    lent::put_row(
-        ids, kinds, starts, ends, bends, counts, row, id, kind, start, end, bend, cycle,
-    );
-    *count = row + 1;
-    *next = id + 1;
-    Line {
-        number: 0,
+    let row = *sheet.count;
+    let id = *sheet.next;
+    lent::put_row(sheet, row, id, kind, start, end, bend, cycle);
+    *sheet.count = row + 1;
+    *sheet.next = id + 1;
+    Change {
         first: id,
         new: 1,
         removed: 0,
@@ -67,10 +53,8 @@ pub fn put_bends(
     ensures { BendsPut bx.old by.old at (positions_at script.now first k) k bx.new by.new }
 {
     let n = store::wide(k);
-    let mut i: usize = 0;
-    while i < n {
+    for i in 0..n {
         let p = coordinate::position_at(script, first + 16 * i);
         lent::put_bend(bx, by, at + i, p);
-        i = i + 1;
     }
 }

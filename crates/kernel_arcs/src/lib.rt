@@ -41,7 +41,7 @@ fn behind(
     ensures { Built (built numbers.old u places.old ++ behind flags.now t.cycles.count c (cycles_at cycles.now steps.now t)) numbers.new result places.new }
 {
     let next = c as usize + 1;
-    let end = rows_corners::after(p.at, p.m as usize);
+    let end = p.at + store::places(1, p.m);
     kernel_lists::copy_cycles(
         cycles,
         t.cycles.first + next,
@@ -102,7 +102,7 @@ pub fn near_side(
 {
     let m = p.m as usize;
     let s = s1 as usize;
-    let len = rows_split::between(m, s, s2 as usize);
+    let len = rows_corners::between(m, s, s2 as usize);
     let none = Used {
         cycles: 0,
         steps: 0,
@@ -146,7 +146,7 @@ pub fn far_side(
 {
     let m = p.m as usize;
     let s = s2 as usize;
-    let len = rows_split::between(m, s1 as usize, s);
+    let len = rows_corners::between(m, s1 as usize, s);
     let none = Used {
         cycles: 0,
         steps: 0,

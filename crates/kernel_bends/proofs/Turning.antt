@@ -1,18 +1,17 @@
--- A part of a list turned round from both ends, and a rotation as three of these. Assumes nothing.
-use Prim.Native.Nat.{ℕ, zero, suc, ◌+◌, ◌-◌, ◌≤◌, ◌<◌}
-use mathlib.Core.Path.{◌≡◌, refl, ap, ap₂, sym, subst, ◌∙◌}
+-- A part of a list turned round, and a rotation as three of these. Assumes nothing.
+use Prim.Native.Nat.{ℕ, zero, suc, ◌+◌, ◌-◌, ◌≤◌}
+use mathlib.Core.Path.{◌≡◌, refl, ap, ap₂, sym, ◌∙◌}
 use mathlib.Core.List.{List, [], ◌∷◌, ◌++◌, append_assoc, reverse, reverse-cons, reverse-append, reverse-reverse}
 use native.Mathlib.Omega.{arith}
+use borrow.Rule.Slice.PartMut.{put_mid}
 use native.Mathlib.Numerals.{add-one}
 use native.Mathlib.Nat.{le_of_suc-le-suc, not-suc-le-zero}
-use lib.ListN.{length, take, drop, set, get_or, length-append, length-set, length-drop, take-append-drop}
-use lib.Seq.{slice, slice_empty, length-slice, length-take-le, take_at, drop_at, get_or_at, set_at, append_snoc, take-append-add, drop-append-add, drop-drop}
+use lib.ListN.{length, take, drop, length-append, take-append-drop}
+use lib.Seq.{slice, slice_empty, length-slice, length-take-le, take_at, drop_at, drop-drop}
+use Rattle.std.proofs.lemmas.List.{drop-take}
 use Rattle.kernel_bends.specs.Turned.{turned, rotated}
 
 module _ {A : Type 0} where
-  abbrev pub swapped : ℕ → ℕ → A → List A → List A
-  swapped p q z xs = set (set xs p (get_or xs q z)) q (get_or xs p z)
-
   -- a list as its three parts
   pub split : (a : List A) (f t : ℕ) → f ≤ t → a ≡ take f a ++ (slice f t a ++ drop t a)
   split a zero t h = sym (take-append-drop t a)
@@ -20,86 +19,12 @@ module _ {A : Type 0} where
   split [] (suc f) (suc t) h = refl
   split (x ∷ a) (suc f) (suc t) h = ap (λ (l : List A). x ∷ l) (split a f t (le_of_suc-le-suc h))
 
-  snoc_of : (x : A) (t : List A) → (m : List A) × (y : A) × (x ∷ t ≡ m ++ (y ∷ []))
-  snoc_of x [] = ([], x, refl)
-  snoc_of x (c ∷ t) = (x ∷ (snoc_of c t).0, (snoc_of c t).1, ap (λ (l : List A). x ∷ l) (snoc_of c t).2)
-
-  two : (l : List A) → 1 < length l → (x : A) × (m : List A) × (y : A) × (l ≡ x ∷ (m ++ (y ∷ [])))
-  two [] h = absurd (omega arith)
-  two (x ∷ []) h = absurd (omega arith)
-  two (x ∷ c ∷ t) h = (x, (snoc_of c t).0, (snoc_of c t).1, ap (λ (l : List A). x ∷ l) (snoc_of c t).2)
-
-  short : (l : List A) → length l ≤ 1 → reverse l ≡ l
-  short [] h = refl
-  short (x ∷ []) h = refl
-  short (x ∷ c ∷ t) h = absurd (omega arith)
-
-  ends : (x : A) (m : List A) (y : A) → reverse (x ∷ (m ++ (y ∷ []))) ≡ y ∷ (reverse m ++ (x ∷ []))
-  ends x m y = reverse-cons x (m ++ (y ∷ [])) ∙ ap (λ (l : List A). l ++ (x ∷ [])) (reverse-append m (y ∷ []))
-
-  -- xs is goal but for a middle of d from index i that is still to be turned
-  pub record Mid (xs goal : List A) (i d : ℕ) : Type 0 where
-    pub e : List A
-    pub mid : List A
-    pub z : List A
-    pub now : xs ≡ e ++ (mid ++ z)
-    pub then : goal ≡ e ++ (reverse mid ++ z)
-    pub at : length e ≡ i
-    pub len : length mid ≡ d
-
-  pub mid_start : (a : List A) (f t : ℕ) → f ≤ t → t ≤ length a → Mid a (turned f t a) f (t - f)
-  mid_start a f t h k =
-      record {
-        e = take f a;
-        mid = slice f t a;
-        z = drop t a;
-        now = split a f t h;
-        then = refl;
-        at = length-take-le f a (omega
-            arith);
-        len = length-slice f t a k;
-      }
-
-  pub mid_done : (xs goal : List A) (i d : ℕ) → Mid xs goal i d → d ≤ 1 → xs ≡ goal
-  mid_done xs goal i d m h =
-      let l = m.len in
-      m.now ∙ ap (λ (q : List A). m.e ++ (q ++ m.z)) (sym (short m.mid (omega arith))) ∙ sym m.then
-
-  swap_mid : (e m z : List A) (x y d : A) (p q : ℕ) → length e ≡ p → length e + suc (length m) ≡ q
-      → swapped p q d (e ++ (x ∷ (m ++ (y ∷ z)))) ≡ e ++ (y ∷ (m ++ (x ∷ z)))
-  swap_mid e m z x y d p q hp hq =
-      let l : length (e ++ (x ∷ m)) ≡ q = length-append e (x ∷ m) ∙ hq in
-      let k : length (e ++ (y ∷ m)) ≡ q = length-append e (y ∷ m) ∙ hq in
-      let w = append_assoc e (x ∷ m) (y ∷ z) in
-      let gp : get_or (e ++ (x ∷ (m ++ (y ∷ z)))) p d ≡ x = get_or_at e x (m ++ (y ∷ z)) d p hp in
-      let gq : get_or (e ++ (x ∷ (m ++ (y ∷ z)))) q d ≡ y = ap (λ (r : List A). get_or r q d) (sym w) ∙ get_or_at (e ++ (x ∷ m)) y z d q l in
-      ap₂ (λ (u v : A). set (set (e ++ (x ∷ (m ++ (y ∷ z)))) p u) q v) gq gp
-      ∙ ap (λ (r : List A). set r q x) (set_at e x (m ++ (y ∷ z)) y p hp ∙ sym (append_assoc e (y ∷ m) (y ∷ z)))
-      ∙ set_at (e ++ (y ∷ m)) y z x q k ∙ append_assoc e (y ∷ m) (x ∷ z)
-
-  pub mid_step : (xs goal : List A) (i j d : ℕ) (c : A) → Mid xs goal i d → 1 < d → j ≡ i + d → Mid (swapped i (j - 1) c xs) goal (i + 1) (d - 2)
-  mid_step xs goal i j d c m h q =
-      let len = m.len in
-      let at = m.at in
-      let tw = two m.mid (omega arith) in
-      let x : A = tw.0 in
-      let r : List A = tw.1 in
-      let y : A = tw.2 in
-      let lr : length m.mid ≡ suc (length r + 1) = ap length tw.3 ∙ ap suc (length-append r (y ∷ [])) in
-      let xs-is : xs ≡ m.e ++ (x ∷ (r ++ (y ∷ m.z))) =
-      m.now ∙ ap (λ (l : List A). m.e ++ (l ++ m.z)) tw.3 ∙ ap (λ (l : List A). m.e ++ (x ∷ l)) (append_assoc r (y ∷ []) m.z) in
-      record {
-        e = m.e ++ (y ∷ []);
-        mid = r;
-        z = x ∷ m.z;
-        now = ap (swapped i (j - 1) c) xs-is ∙ swap_mid m.e r m.z x y c i (j - 1) at (omega arith) ∙ sym (append_snoc m.e y (r ++ (x ∷ m.z)));
-        then =
-            m.then ∙ ap (λ (l : List A). m.e ++ (l ++ m.z)) (ap reverse tw.3 ∙ ends x r y)
-            ∙ ap (λ (l : List A). m.e ++ (y ∷ l)) (append_assoc (reverse r) (x ∷ []) m.z)
-            ∙ sym (append_snoc m.e y (reverse r ++ (x ∷ m.z)));
-        at = length-append m.e (y ∷ []) ∙ ap (λ (n : ℕ). n + 1) at;
-        len = omega arith;
-      }
+  -- a part that is turned by itself is turned in the whole
+  pub turned_part : (f t : ℕ) (l part : List A) → f ≤ t → part ≡ reverse (take (t - f) (drop f l)) → put_mid f (t - f) l part ≡ turned f t l
+  turned_part f t l part h e =
+      let k : f + (t - f) ≡ t = omega arith in
+      let s : take (t - f) (drop f l) ≡ slice f t l = sym (drop-take f (t - f) l) ∙ ap (λ (n : ℕ). drop f (take n l)) k in
+      ap₂ (λ (u v : List A). take f l ++ (u ++ v)) (e ∙ ap reverse s) (drop-drop (t - f) f l ∙ ap (λ (n : ℕ). drop n l) k)
 
   -- ---- a list by its parts
   pub turned_is : (a b c : List A) (f t : ℕ) → length a ≡ f → length a + length b ≡ t → turned f t (a ++ (b ++ c)) ≡ a ++ (reverse b ++ c)

@@ -10,18 +10,7 @@ pub fn reverse(l: &mut [f64], from: usize, to: usize)
     requires to_in_bounds { to ≤ length l.old }
     ensures { l.new ≡ turned from to l.old }
 {
-    let mut i = from;
-    let mut j = to;
-    let mut d = to - from;
-    while 1 < d {
-        j = j - 1;
-        let x = l[i];
-        let y = l[j];
-        l[i] = y;
-        l[j] = x;
-        i = i + 1;
-        d = d - 2;
-    }
+    l[from..to].reverse();
 }
 
 // The numbers of from .. mid go after those of mid .. to.

@@ -9,9 +9,11 @@ ghost use Rattle.store.specs.View.{sheet_of, Fits, cycle_total, bend_total};
 ghost use Rattle.rows_new.specs.Runs.{run_at};
 ghost use Rattle.rows_new.specs.Copies.{repeated};
 ghost use Rattle.rows_new.specs.Requirements.{CopiesRoom};
-ghost use Rattle.lent.specs.Arrays.{held_by, positions_in, normal, Lengths, of_lists};
+ghost use Rattle.lent.specs.Arrays.{held_by, positions_in, normal, Lengths};
 ghost use Rattle.kernel_copies.specs.Copies.{RowsPut, CopiesCome, UsesCopied};
+ghost use Rattle.lent.specs.Sheets.{arrays, Same};
 
+use lent::SheetMut;
 use rows_uses::Use;
 
 // The place after i of k places in a round.
@@ -42,127 +44,68 @@ fn put_bends(
 {
     let t = n * k;
     let mut i: usize = 0;
-    let mut j: usize = 0;
-    while j < t {
+    for j in 0..t {
         let p = lent::bend_at(bx, by, first + i);
         lent::put_bend(bx, by, base + j, p);
         i = around(i, k);
-        j = j + 1;
     }
 }
 
-// n rows like one of those in use, after the last, with the ids from `next` on.
-fn put_rows(
-    next: u32,
-    count: usize,
-    ids: &mut [u32; 256],
-    kinds: &mut [u32; 256],
-    starts: &mut [u32; 256],
-    ends: &mut [u32; 256],
-    bends: &mut [u32; 256],
-    counts: &mut [u32; 256],
-    px: &mut [f64; 256],
-    py: &mut [f64; 256],
-    row: usize,
-    n: usize,
-)
-    requires row_lt_count { row < count }
-    requires n_bound { count + n ≤ cells_most }
-    requires n_bound_2 { next + n ≤ ids_end }
-    ensures { RowsPut next count row n ids.old kinds.old starts.old ends.old bends.old counts.old px.old py.old ids.new kinds.new starts.new ends.new bends.new counts.new px.new py.new }
+// n rows like one of those in use, after the last, with the ids from the next one on.
+fn put_rows(sheet: &mut SheetMut<'_>, row: usize, n: usize)
+    requires row_lt_count { row < sheet.old.count.now }
+    requires n_bound { sheet.old.count.now + n ≤ cells_most }
+    requires n_bound_2 { sheet.old.next.now + n ≤ ids_end }
+    ensures rows_put { RowsPut sheet.old.next.now sheet.old.count.now row n sheet.old.ids.now sheet.old.kinds.now sheet.old.starts.now sheet.old.ends.now sheet.old.bends.now sheet.old.counts.now sheet.old.px.now sheet.old.py.now sheet.new.ids.now sheet.new.kinds.now sheet.new.starts.now sheet.new.ends.now sheet.new.bends.now sheet.new.counts.now sheet.new.px.now sheet.new.py.now }
+    ensures same { Same sheet.old sheet.new }
+    ensures kept { arrays sheet.new ≡ record (arrays sheet.new) { next = sheet.old.next.now; count = sheet.old.count.now; cycles = sheet.old.cycles.now; steps = sheet.old.steps.now; bx = sheet.old.bx.now; by = sheet.old.by.now } }
 {
-    let kind = kinds[row];
-    let start = starts[row];
-    let end = ends[row];
-    let bend = bends[row];
-    let cycle = counts[row];
-    let p = lent::vertex_at(px, py, row);
-    let mut id = next;
-    let mut i: usize = 0;
-    while i < n {
-        lent::put_row(
-            ids,
-            kinds,
-            starts,
-            ends,
-            bends,
-            counts,
-            count + i,
-            id,
-            kind,
-            start,
-            end,
-            bend,
-            cycle,
-        );
-        lent::put_position(px, py, count + i, p);
+    let kind = sheet.kinds[row];
+    let start = sheet.starts[row];
+    let end = sheet.ends[row];
+    let bend = sheet.bends[row];
+    let cycle = sheet.counts[row];
+    let p = lent::vertex_at(sheet.px, sheet.py, row);
+    let count = *sheet.count;
+    let mut id = *sheet.next;
+    for i in 0..n {
+        lent::put_row(sheet, count + i, id, kind, start, end, bend, cycle);
+        lent::put_position(sheet.px, sheet.py, count + i, p);
         id = id + 1;
-        i = i + 1;
     }
 }
 
 // n copies of the vertex or edge in a row, their bends after the `base` bends in use.
-pub fn put_copies(
-    next: u32,
-    count: usize,
-    ids: &mut [u32; 256],
-    kinds: &mut [u32; 256],
-    starts: &mut [u32; 256],
-    ends: &mut [u32; 256],
-    bends: &mut [u32; 256],
-    counts: &mut [u32; 256],
-    px: &mut [f64; 256],
-    py: &mut [f64; 256],
-    cycles: &[u32; 512],
-    steps: &[u32; 2048],
-    bx: &mut [f64; 2048],
-    by: &mut [f64; 2048],
-    base: usize,
-    row: usize,
-    n: usize,
-)
-    requires copies_room { CopiesRoom (held_by (of_lists next count ids.old kinds.old starts.old ends.old bends.old counts.old px.old py.old cycles.now steps.now bx.old by.old)) row n }
-    requires lengths { Lengths (of_lists next count ids.old kinds.old starts.old ends.old bends.old counts.old px.old py.old cycles.now steps.now bx.old by.old) }
-    requires by_value { normal (of_lists next count ids.old kinds.old starts.old ends.old bends.old counts.old px.old py.old cycles.now steps.now bx.old by.old) ≡ true }
-    requires base_value { base ≡ bend_total (held_by (of_lists next count ids.old kinds.old starts.old ends.old bends.old counts.old px.old py.old cycles.now steps.now bx.old by.old)) }
-    ensures { CopiesCome (of_lists next count ids.old kinds.old starts.old ends.old bends.old counts.old px.old py.old cycles.now steps.now bx.old by.old) row n (of_lists (next + n) (count + n) ids.new kinds.new starts.new ends.new bends.new counts.new px.new py.new cycles.now steps.now bx.new by.new) }
+pub fn put_copies(sheet: &mut SheetMut<'_>, base: usize, row: usize, n: usize)
+    requires copies_room { CopiesRoom (held_by (arrays sheet.old)) row n }
+    requires lengths { Lengths (arrays sheet.old) }
+    requires by_value { normal (arrays sheet.old) ≡ true }
+    requires base_value { base ≡ bend_total (held_by (arrays sheet.old)) }
+    ensures copies_come { CopiesCome (arrays sheet.old) row n (arrays sheet.new) }
+    ensures same { Same sheet.old sheet.new }
+    ensures kept { arrays sheet.new ≡ record (arrays sheet.new) { next = sheet.old.next.now + n; count = sheet.old.count.now + n; cycles = sheet.old.cycles.now; steps = sheet.old.steps.now } }
 {
-    let k = store::wide(bends[row]);
-    let first = rows_spans::bend_start(bends, row);
-    put_bends(bx, by, base, first, k, n);
-    put_rows(
-        next, count, ids, kinds, starts, ends, bends, counts, px, py, row, n,
-    );
+    let k = store::wide(sheet.bends[row]);
+    let first = rows_spans::bend_start(sheet.bends, row);
+    put_bends(sheet.bx, sheet.by, base, first, k, n);
+    put_rows(sheet, row, n);
+    *sheet.next += n as u32;
+    *sheet.count += n;
 }
 
-// Every use of i in the m cycles but the first, counted from k0, gets a copy of its own: the ids from `next` on.
-pub fn copy_uses(
-    u: Use,
-    next: u32,
-    count: usize,
-    ids: &[u32; 256],
-    kinds: &[u32; 256],
-    starts: &[u32; 256],
-    ends: &[u32; 256],
-    bends: &[u32; 256],
-    counts: &[u32; 256],
-    px: &[f64; 256],
-    py: &[f64; 256],
-    cycles: &[u32; 512],
-    steps: &mut [u32; 2048],
-    bx: &[f64; 2048],
-    by: &[f64; 2048],
-    m: usize,
-    i: u32,
-    k0: usize,
-)
-    requires fits { Fits (held_by (of_lists next count ids.now kinds.now starts.now ends.now bends.now counts.now px.now py.now cycles.now steps.old bx.now by.now)) }
-    requires lengths { Lengths (of_lists next count ids.now kinds.now starts.now ends.now bends.now counts.now px.now py.now cycles.now steps.old bx.now by.now) }
-    requires t { T (rising 0 (ids_of (sheet_of (held_by (of_lists next count ids.now kinds.now starts.now ends.now bends.now counts.now px.now py.now cycles.now steps.old bx.now by.now))).cells) (sheet_of (held_by (of_lists next count ids.now kinds.now starts.now ends.now bends.now counts.now px.now py.now cycles.now steps.old bx.now by.now))).next) }
-    requires m_value { m ≡ cycle_total (held_by (of_lists next count ids.now kinds.now starts.now ends.now bends.now counts.now px.now py.now cycles.now steps.old bx.now by.now)) }
-    requires next_le_ids_end { next ≤ ids_end }
+// Every use of i in the m cycles but the first, counted from k0, gets a copy of its own: the ids from the next one on.
+pub fn copy_uses(u: Use, sheet: &mut SheetMut<'_>, m: usize, i: u32, k0: usize)
+    requires fits { Fits (held_by (arrays sheet.old)) }
+    requires lengths { Lengths (arrays sheet.old) }
+    requires t { T (rising 0 (ids_of (sheet_of (held_by (arrays sheet.old))).cells) (sheet_of (held_by (arrays sheet.old))).next) }
+    requires m_value { m ≡ cycle_total (held_by (arrays sheet.old)) }
+    requires next_le_ids_end { sheet.old.next.now ≤ ids_end }
     requires k0_bound { k0 ≤ 4096 }
-    ensures { UsesCopied u i k0 (of_lists next count ids.now kinds.now starts.now ends.now bends.now counts.now px.now py.now cycles.now steps.old bx.now by.now) (of_lists next count ids.now kinds.now starts.now ends.now bends.now counts.now px.now py.now cycles.now steps.new bx.now by.now) }
+    ensures uses_copied { UsesCopied u i k0 (arrays sheet.old) (arrays sheet.new) }
+    ensures same { Same sheet.old sheet.new }
+    ensures kept { arrays sheet.new ≡ record (arrays sheet.old) { steps = sheet.new.steps.now } }
 {
-    rows_copied::copy_cycles(u, cycles, m, steps, i, next, k0);
+    let next = *sheet.next;
+    let steps = &mut *sheet.steps;
+    rows_copied::copy_cycles(u, sheet.cycles, m, steps, i, next, k0);
 }

@@ -6,10 +6,11 @@ ghost use Rattle.complex.specs.Sound.{cycles_most, steps_most};
 ghost use Rattle.store.specs.View.{cycles_from};
 ghost use Rattle.store.specs.Edits.{places_of};
 ghost use Rattle.rows_spans.specs.Runs.{span_of, spans_of, Spliced};
-ghost use Rattle.lent.specs.Arrays.{of_lists};
 ghost use Rattle.kernel_cycles.specs.Replacing.{Moved, RowCounted, and_one, ReplacesIn, ReplacedIn};
+ghost use Rattle.lent.specs.Sheets.{arrays, Same};
 
 use answer::Totals;
+use lent::SheetMut;
 use rows_spans::{Span, Spans};
 
 // The places that some counts stand for, if the n counts in use stand for so many in all.
@@ -48,9 +49,7 @@ fn shift_back(l: &mut [u32], from: usize, n: usize, to: usize)
     requires n_in_bounds { to + n ≤ length l.old }
     ensures { Moved l.old from n to l.new }
 {
-    let mut i = n;
-    while 0 < i {
-        i = i - 1;
+    for i in (0..n).rev() {
         l[to + i] = l[from + i];
     }
 }
@@ -61,10 +60,8 @@ fn shift_forth(l: &mut [u32], from: usize, n: usize, to: usize)
     requires n_in_bounds { from + n ≤ length l.old }
     ensures { Moved l.old from n to l.new }
 {
-    let mut i: usize = 0;
-    while i < n {
+    for i in 0..n {
         l[to + i] = l[from + i];
-        i = i + 1;
     }
 }
 
@@ -97,20 +94,7 @@ pub fn splice(l: &mut [u32], s: Span, new: &[u32], n: usize)
 
 // The face in a row, whose cycles and steps stand at s, gets the n cycles, of m steps, that two other arrays hold.
 pub fn replace_cycles(
-    next: u32,
-    count: usize,
-    ids: &[u32; 256],
-    kinds: &[u32; 256],
-    starts: &[u32; 256],
-    ends: &[u32; 256],
-    bends: &[u32; 256],
-    counts: &mut [u32; 256],
-    px: &[f64; 256],
-    py: &[f64; 256],
-    cycles: &mut [u32; 512],
-    steps: &mut [u32; 2048],
-    bx: &[f64; 2048],
-    by: &[f64; 2048],
+    sheet: &mut SheetMut<'_>,
     row: usize,
     s: Spans,
     numbers: &[u32],
@@ -118,12 +102,14 @@ pub fn replace_cycles(
     places: &[u32],
     m: usize,
 )
-    requires { ReplacesIn (of_lists next count ids.now kinds.now starts.now ends.now bends.now counts.old px.now py.now cycles.old steps.old bx.now by.now) row s numbers.now n places.now m }
-    ensures { ReplacedIn (of_lists next count ids.now kinds.now starts.now ends.now bends.now counts.old px.now py.now cycles.old steps.old bx.now by.now) row s n m (cycles_from (take n numbers.now) places.now) (of_lists next count ids.now kinds.now starts.now ends.now bends.now counts.new px.now py.now cycles.new steps.new bx.now by.now) }
+    requires { ReplacesIn (arrays sheet.old) row s numbers.now n places.now m }
+    ensures replaced_in { ReplacedIn (arrays sheet.old) row s n m (cycles_from (take n numbers.now) places.now) (arrays sheet.new) }
+    ensures same { Same sheet.old sheet.new }
+    ensures kept { arrays sheet.new ≡ record (arrays sheet.old) { counts = sheet.new.counts.now; cycles = sheet.new.cycles.now; steps = sheet.new.steps.now } }
 {
-    splice(cycles, s.cycles, numbers, n);
-    splice(steps, s.steps, places, m);
-    counts[row] = n as u32;
+    splice(sheet.cycles, s.cycles, numbers, n);
+    splice(sheet.steps, s.steps, places, m);
+    sheet.counts[row] = n as u32;
 }
 
 // The number x after the run s; what follows the run goes one place further.
@@ -138,32 +124,15 @@ fn add_number(l: &mut [u32], s: Span, x: u32)
 
 // The face in a row, whose cycles and steps stand at s, gets a cycle of one place more: the vertex h alone if m is 0,
 // the halfedge h if it is 1.
-pub fn add_cycle(
-    next: u32,
-    count: usize,
-    ids: &[u32; 256],
-    kinds: &[u32; 256],
-    starts: &[u32; 256],
-    ends: &[u32; 256],
-    bends: &[u32; 256],
-    counts: &mut [u32; 256],
-    px: &[f64; 256],
-    py: &[f64; 256],
-    cycles: &mut [u32; 512],
-    steps: &mut [u32; 2048],
-    bx: &[f64; 2048],
-    by: &[f64; 2048],
-    row: usize,
-    s: Spans,
-    m: u32,
-    h: u32,
-)
-    requires { ReplacesIn (of_lists next count ids.now kinds.now starts.now ends.now bends.now counts.old px.now py.now cycles.old steps.old bx.now by.now) row s (and_one cycles_most cycles.old s.cycles m) (s.cycles.count + 1) (and_one steps_most steps.old s.steps h) (s.steps.count + 1) }
-    ensures { ReplacedIn (of_lists next count ids.now kinds.now starts.now ends.now bends.now counts.old px.now py.now cycles.old steps.old bx.now by.now) row s (s.cycles.count + 1) (s.steps.count + 1) (cycles_from (take (s.cycles.count + 1) (and_one cycles_most cycles.old s.cycles m)) (and_one steps_most steps.old s.steps h)) (of_lists next count ids.now kinds.now starts.now ends.now bends.now counts.new px.now py.now cycles.new steps.new bx.now by.now) }
+pub fn add_cycle(sheet: &mut SheetMut<'_>, row: usize, s: Spans, m: u32, h: u32)
+    requires { ReplacesIn (arrays sheet.old) row s (and_one cycles_most sheet.old.cycles.now s.cycles m) (s.cycles.count + 1) (and_one steps_most sheet.old.steps.now s.steps h) (s.steps.count + 1) }
+    ensures replaced_in { ReplacedIn (arrays sheet.old) row s (s.cycles.count + 1) (s.steps.count + 1) (cycles_from (take (s.cycles.count + 1) (and_one cycles_most sheet.old.cycles.now s.cycles m)) (and_one steps_most sheet.old.steps.now s.steps h)) (arrays sheet.new) }
+    ensures same { Same sheet.old sheet.new }
+    ensures kept { arrays sheet.new ≡ record (arrays sheet.old) { counts = sheet.new.counts.now; cycles = sheet.new.cycles.now; steps = sheet.new.steps.now } }
 {
     let c = s.cycles;
     let p = s.steps;
-    add_number(cycles, c, m);
-    add_number(steps, p, h);
-    counts[row] = (c.count + 1) as u32;
+    add_number(sheet.cycles, c, m);
+    add_number(sheet.steps, p, h);
+    sheet.counts[row] = (c.count + 1) as u32;
 }

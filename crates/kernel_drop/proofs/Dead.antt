@@ -1,11 +1,11 @@
 -- One row goes: what stays of rows and of their places. Assumes nothing.
 use Prim.Native.Nat.{ℕ, zero, suc, ◌+◌, ◌-◌, ◌<◌, ◌≤◌}
 use native.Mathlib.Omega.{arith}
-use mathlib.Core.Path.{◌≡◌, refl, sym, ap, ap₂, ◌∙◌, subst}
-use mathlib.Core.Bool.{Bool, true, false, cond}
+use mathlib.Core.Path.{◌≡◌, refl, sym, ap, ◌∙◌, subst}
+use mathlib.Core.Bool.{Bool, true, false}
 use mathlib.Core.List.{List, [], ◌∷◌, ◌++◌, append_assoc}
-use lib.ListN.{length, get_or, set, take, drop, replicate, length-append, length-take, length-drop, length-replicate}
-use lib.Seq.{take-nil, drop-nil, take-add, drop-drop, take-take, length-take-le, take_at, drop_at, take-append-le, take-set-lt, slice, length-slice}
+use lib.ListN.{length, get_or, set, take, drop, replicate}
+use lib.Seq.{take-nil, take-add, drop-drop, length-take-le, take-set-lt}
 use Rattle.complex.specs.Lists.{total}
 use Rattle.store.specs.Edits.{kept, places_of, spread_flags, Compacted, PlacesKept, CyclesKept}
 use Rattle.rows_slide.proofs.Sliding.{kept_living}

@@ -1,15 +1,15 @@
 -- An edge's row goes, and its bends to the end. Assumes nothing.
-use Prim.Native.Nat.{ℕ, zero, suc, ◌+◌, ◌-◌, ◌<◌, ◌≤◌}
+use Prim.Native.Nat.{ℕ, suc, ◌+◌, ◌-◌, ◌<◌, ◌≤◌}
 use native.Mathlib.Omega.{arith}
 use mathlib.Core.Path.{◌≡◌, refl, sym, ap, ap₂, ◌∙◌, subst}
 use mathlib.Core.Bool.{Bool, true, false}
-use mathlib.Core.List.{List, [], ◌∷◌, ◌++◌}
+use mathlib.Core.List.{List, ◌∷◌, ◌++◌}
 use lib.Ieee.{Float}
 use lib.ListN.{length, get_or, set, take, drop, replicate, length-set, length-replicate}
 use lib.Seq.{get_or-take, take-take, length-take-le}
 use Rattle.coordinate.specs.declared.Position.{Position}
 use Rattle.complex.specs.Lists.{total}
-use Rattle.store.specs.View.{sheet_of, Fits}
+use Rattle.store.specs.View.{Fits}
 use Rattle.store.specs.Edits.{kept, places_of, PlacesKept, CyclesKept}
 use Rattle.store.proofs.Lists.{sum_append}
 use Rattle.rows_new.specs.Runs.{run_at}
@@ -21,7 +21,6 @@ use Rattle.kernel_bends.specs.Turned.{rotated, moved_last}
 use Rattle.kernel_bends.proofs.Turning.{rotated_none}
 use Rattle.kernel_bends.proofs.Last.{joined_last}
 use Rattle.kernel_bends.proofs.Positions.{positions_rotated}
-use Rattle.rows_slide.specs.Slid.{BendsKept}
 use Rattle.kernel_keep.specs.Keeps.{RowsKept, Keeps}
 use Rattle.kernel_drop.specs.Gone.{EdgeRow, RowGone, BareRow, PairGone}
 use Rattle.kernel_keep.proofs.Rows.{keeps, count_by}

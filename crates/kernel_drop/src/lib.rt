@@ -3,140 +3,90 @@
 ghost use Rattle.std.specs.Prelude.{◌≡◌, true, false, cond, ◌-◌, ◌<◌, ◌≤◌, ltb, get_or, set, replicate};
 ghost use Rattle.complex.specs.Sound.{bends_most};
 ghost use Rattle.store.specs.View.{Fits};
-ghost use Rattle.lent.specs.Arrays.{held_by, normal, Lengths, of_lists};
+ghost use Rattle.lent.specs.Arrays.{held_by, normal, Lengths};
 ghost use Rattle.kernel_keep.specs.Keeps.{Keeps};
 ghost use Rattle.kernel_drop.specs.Gone.{EdgeRow, RowGone, BareRow, PairGone};
 ghost use Rattle.kernel_drop.specs.Three.{ThreeRows, ThreeGone};
+ghost use Rattle.lent.specs.Sheets.{arrays, Same};
 
 use coordinate::Position;
+use lent::SheetMut;
 
-// The row of an edge goes, and its m bends from base on go to the end of the t in use, those from i up to j last; how many rows
-// there are then.
+// The row of an edge goes, and its m bends from base on go to the end of the t in use, those from i up to j last.
 pub fn drop_row(
-    next: u32,
-    count: usize,
-    ids: &mut [u32; 256],
-    kinds: &mut [u32; 256],
-    starts: &mut [u32; 256],
-    ends: &mut [u32; 256],
-    bends: &mut [u32; 256],
-    counts: &mut [u32; 256],
-    px: &mut [f64; 256],
-    py: &mut [f64; 256],
-    cycles: &[u32; 512],
-    steps: &[u32; 2048],
-    bx: &mut [f64; 2048],
-    by: &mut [f64; 2048],
+    sheet: &mut SheetMut<'_>,
     row: usize,
     base: usize,
     m: usize,
     t: usize,
     i: usize,
     j: usize,
-) -> usize
-    requires fits { Fits (held_by (of_lists next count ids.old kinds.old starts.old ends.old bends.old counts.old px.old py.old cycles.now steps.now bx.old by.old)) }
-    requires lengths { Lengths (of_lists next count ids.old kinds.old starts.old ends.old bends.old counts.old px.old py.old cycles.now steps.now bx.old by.old) }
-    requires by_value { normal (of_lists next count ids.old kinds.old starts.old ends.old bends.old counts.old px.old py.old cycles.now steps.now bx.old by.old) ≡ true }
-    requires edge_row { EdgeRow (of_lists next count ids.old kinds.old starts.old ends.old bends.old counts.old px.old py.old cycles.now steps.now bx.old by.old) row base m t }
+)
+    requires fits { Fits (held_by (arrays sheet.old)) }
+    requires lengths { Lengths (arrays sheet.old) }
+    requires by_value { normal (arrays sheet.old) ≡ true }
+    requires edge_row { EdgeRow (arrays sheet.old) row base m t }
     requires i_le_j { i ≤ j }
     requires j_le_m { j ≤ m }
-    ensures { RowGone (of_lists next count ids.old kinds.old starts.old ends.old bends.old counts.old px.old py.old cycles.now steps.now bx.old by.old) row base m t i j (of_lists next result ids.new kinds.new starts.new ends.new bends.new counts.new px.new py.new cycles.now steps.now bx.new by.new) }
+    ensures row_gone { RowGone (arrays sheet.old) row base m t i j (arrays sheet.new) }
+    ensures same { Same sheet.old sheet.new }
+    ensures kept { arrays sheet.new ≡ record (arrays sheet.new) { next = sheet.old.next.now; cycles = sheet.old.cycles.now; steps = sheet.old.steps.now } }
 {
     let u = t - m;
-    kernel_bends::rotate(bx, base, base + m, t);
-    kernel_bends::rotate(by, base, base + m, t);
-    kernel_bends::rotate(bx, u + i, u + j, t);
-    kernel_bends::rotate(by, u + i, u + j, t);
+    kernel_bends::rotate(sheet.bx, base, base + m, t);
+    kernel_bends::rotate(sheet.by, base, base + m, t);
+    kernel_bends::rotate(sheet.bx, u + i, u + j, t);
+    kernel_bends::rotate(sheet.by, u + i, u + j, t);
     let dead = rows_gone::dead_row(row);
-    let k = kernel_keep::pack_rows(
-        count, ids, kinds, starts, ends, bends, counts, px, py, &dead,
-    );
-    lent::known(
-        next, k, ids, kinds, starts, ends, bends, counts, px, py, cycles, steps, bx, by,
-    );
-    k
+    kernel_keep::pack_rows(sheet, &dead);
+    sheet.known();
 }
 
-// The row of a cell that has neither bends nor cycles goes; how many rows there are then.
-pub fn drop_bare(
-    next: u32,
-    count: usize,
-    ids: &mut [u32; 256],
-    kinds: &mut [u32; 256],
-    starts: &mut [u32; 256],
-    ends: &mut [u32; 256],
-    bends: &mut [u32; 256],
-    counts: &mut [u32; 256],
-    px: &mut [f64; 256],
-    py: &mut [f64; 256],
-    cycles: &[u32; 512],
-    steps: &[u32; 2048],
-    bx: &[f64; 2048],
-    by: &[f64; 2048],
-    row: usize,
-) -> usize
-    requires fits { Fits (held_by (of_lists next count ids.old kinds.old starts.old ends.old bends.old counts.old px.old py.old cycles.now steps.now bx.now by.now)) }
-    requires lengths { Lengths (of_lists next count ids.old kinds.old starts.old ends.old bends.old counts.old px.old py.old cycles.now steps.now bx.now by.now) }
-    requires by_value { normal (of_lists next count ids.old kinds.old starts.old ends.old bends.old counts.old px.old py.old cycles.now steps.now bx.now by.now) ≡ true }
-    requires row_lt_count { row < count }
-    requires row_value { get_or bends.old row 0 ≡ 0 }
-    requires row_value_2 { get_or counts.old row 0 ≡ 0 }
-    ensures keeps { Keeps (set (replicate 256 false) row true) (of_lists next count ids.old kinds.old starts.old ends.old bends.old counts.old px.old py.old cycles.now steps.now bx.now by.now) (of_lists next result ids.new kinds.new starts.new ends.new bends.new counts.new px.new py.new cycles.now steps.now bx.now by.now) }
-    ensures lengths_2 { Lengths (of_lists next result ids.new kinds.new starts.new ends.new bends.new counts.new px.new py.new cycles.now steps.now bx.now by.now) }
+// The row of a cell that has neither bends nor cycles goes.
+pub fn drop_bare(sheet: &mut SheetMut<'_>, row: usize)
+    requires fits { Fits (held_by (arrays sheet.old)) }
+    requires lengths { Lengths (arrays sheet.old) }
+    requires by_value { normal (arrays sheet.old) ≡ true }
+    requires row_lt_count { row < sheet.old.count.now }
+    requires row_value { get_or sheet.old.bends.now row 0 ≡ 0 }
+    requires row_value_2 { get_or sheet.old.counts.now row 0 ≡ 0 }
+    ensures keeps { Keeps (set (replicate 256 false) row true) (arrays sheet.old) (arrays sheet.new) }
+    ensures lengths_2 { Lengths (arrays sheet.new) }
+    ensures same { Same sheet.old sheet.new }
+    ensures kept { arrays sheet.new ≡ record (arrays sheet.new) { next = sheet.old.next.now; cycles = sheet.old.cycles.now; steps = sheet.old.steps.now; bx = sheet.old.bx.now; by = sheet.old.by.now } }
 {
     let dead = rows_gone::dead_row(row);
-    let k = kernel_keep::pack_rows(
-        count, ids, kinds, starts, ends, bends, counts, px, py, &dead,
-    );
-    lent::known(
-        next, k, ids, kinds, starts, ends, bends, counts, px, py, cycles, steps, bx, by,
-    );
-    k
+    kernel_keep::pack_rows(sheet, &dead);
+    sheet.known();
 }
 
 // The rows of a cell that has neither bends nor cycles and of an edge go; after the bends of the others, of t in all, come p and
-// the m bends of the edge from base on. How many rows there are then.
+// the m bends of the edge from base on.
 pub fn drop_pair(
-    next: u32,
-    count: usize,
-    ids: &mut [u32; 256],
-    kinds: &mut [u32; 256],
-    starts: &mut [u32; 256],
-    ends: &mut [u32; 256],
-    bends: &mut [u32; 256],
-    counts: &mut [u32; 256],
-    px: &mut [f64; 256],
-    py: &mut [f64; 256],
-    cycles: &[u32; 512],
-    steps: &[u32; 2048],
-    bx: &mut [f64; 2048],
-    by: &mut [f64; 2048],
+    sheet: &mut SheetMut<'_>,
     bare: usize,
     row: usize,
     base: usize,
     m: usize,
     t: usize,
     p: Position,
-) -> usize
-    requires fits { Fits (held_by (of_lists next count ids.old kinds.old starts.old ends.old bends.old counts.old px.old py.old cycles.now steps.now bx.old by.old)) }
-    requires lengths { Lengths (of_lists next count ids.old kinds.old starts.old ends.old bends.old counts.old px.old py.old cycles.now steps.now bx.old by.old) }
-    requires by_value { normal (of_lists next count ids.old kinds.old starts.old ends.old bends.old counts.old px.old py.old cycles.now steps.now bx.old by.old) ≡ true }
-    requires bare_row { BareRow (of_lists next count ids.old kinds.old starts.old ends.old bends.old counts.old px.old py.old cycles.now steps.now bx.old by.old) bare }
-    requires edge_row { EdgeRow (of_lists next count ids.old kinds.old starts.old ends.old bends.old counts.old px.old py.old cycles.now steps.now bx.old by.old) row base m t }
+)
+    requires fits { Fits (held_by (arrays sheet.old)) }
+    requires lengths { Lengths (arrays sheet.old) }
+    requires by_value { normal (arrays sheet.old) ≡ true }
+    requires bare_row { BareRow (arrays sheet.old) bare }
+    requires edge_row { EdgeRow (arrays sheet.old) row base m t }
     requires t_lt_bends_most { t < bends_most }
-    ensures { PairGone (of_lists next count ids.old kinds.old starts.old ends.old bends.old counts.old px.old py.old cycles.now steps.now bx.old by.old) bare row base m t p (of_lists next result ids.new kinds.new starts.new ends.new bends.new counts.new px.new py.new cycles.now steps.now bx.new by.new) }
+    ensures pair_gone { PairGone (arrays sheet.old) bare row base m t p (arrays sheet.new) }
+    ensures same { Same sheet.old sheet.new }
+    ensures kept { arrays sheet.new ≡ record (arrays sheet.new) { next = sheet.old.next.now; cycles = sheet.old.cycles.now; steps = sheet.old.steps.now } }
 {
-    lent::put_bend(bx, by, t, p);
-    kernel_bends::rotate(bx, base, base + m, t + 1);
-    kernel_bends::rotate(by, base, base + m, t + 1);
+    lent::put_bend(sheet.bx, sheet.by, t, p);
+    kernel_bends::rotate(sheet.bx, base, base + m, t + 1);
+    kernel_bends::rotate(sheet.by, base, base + m, t + 1);
     let dead = rows_gone::dead_rows(bare, row);
-    let k = kernel_keep::pack_rows(
-        count, ids, kinds, starts, ends, bends, counts, px, py, &dead,
-    );
-    lent::known(
-        next, k, ids, kinds, starts, ends, bends, counts, px, py, cycles, steps, bx, by,
-    );
-    k
+    kernel_keep::pack_rows(sheet, &dead);
+    sheet.known();
 }
 
 // The flags of three dead rows.
@@ -165,22 +115,9 @@ fn fallen(other: usize, row: usize, base: usize, m: usize) -> usize
 }
 
 // The rows of two edges and a bare one go, and the edges' bends go to the end of the t in use, those of the first and then those
-// of the second; how many rows there are then.
+// of the second.
 pub fn drop_three(
-    next: u32,
-    count: usize,
-    ids: &mut [u32; 256],
-    kinds: &mut [u32; 256],
-    starts: &mut [u32; 256],
-    ends: &mut [u32; 256],
-    bends: &mut [u32; 256],
-    counts: &mut [u32; 256],
-    px: &mut [f64; 256],
-    py: &mut [f64; 256],
-    cycles: &[u32; 512],
-    steps: &[u32; 2048],
-    bx: &mut [f64; 2048],
-    by: &mut [f64; 2048],
+    sheet: &mut SheetMut<'_>,
     row1: usize,
     base1: usize,
     m1: usize,
@@ -189,24 +126,21 @@ pub fn drop_three(
     m2: usize,
     bare: usize,
     t: usize,
-) -> usize
-    requires fits { Fits (held_by (of_lists next count ids.old kinds.old starts.old ends.old bends.old counts.old px.old py.old cycles.now steps.now bx.old by.old)) }
-    requires lengths { Lengths (of_lists next count ids.old kinds.old starts.old ends.old bends.old counts.old px.old py.old cycles.now steps.now bx.old by.old) }
-    requires by_value { normal (of_lists next count ids.old kinds.old starts.old ends.old bends.old counts.old px.old py.old cycles.now steps.now bx.old by.old) ≡ true }
-    requires three_rows { ThreeRows (of_lists next count ids.old kinds.old starts.old ends.old bends.old counts.old px.old py.old cycles.now steps.now bx.old by.old) row1 base1 m1 row2 base2 m2 bare t }
-    ensures { ThreeGone (of_lists next count ids.old kinds.old starts.old ends.old bends.old counts.old px.old py.old cycles.now steps.now bx.old by.old) row1 base1 m1 row2 base2 m2 bare t (of_lists next result ids.new kinds.new starts.new ends.new bends.new counts.new px.new py.new cycles.now steps.now bx.new by.new) }
+)
+    requires fits { Fits (held_by (arrays sheet.old)) }
+    requires lengths { Lengths (arrays sheet.old) }
+    requires by_value { normal (arrays sheet.old) ≡ true }
+    requires three_rows { ThreeRows (arrays sheet.old) row1 base1 m1 row2 base2 m2 bare t }
+    ensures three_gone { ThreeGone (arrays sheet.old) row1 base1 m1 row2 base2 m2 bare t (arrays sheet.new) }
+    ensures same { Same sheet.old sheet.new }
+    ensures kept { arrays sheet.new ≡ record (arrays sheet.new) { next = sheet.old.next.now; cycles = sheet.old.cycles.now; steps = sheet.old.steps.now } }
 {
     let b2 = fallen(row1, row2, base2, m1);
-    kernel_bends::rotate(bx, base1, base1 + m1, t);
-    kernel_bends::rotate(by, base1, base1 + m1, t);
-    kernel_bends::rotate(bx, b2, b2 + m2, t);
-    kernel_bends::rotate(by, b2, b2 + m2, t);
+    kernel_bends::rotate(sheet.bx, base1, base1 + m1, t);
+    kernel_bends::rotate(sheet.by, base1, base1 + m1, t);
+    kernel_bends::rotate(sheet.bx, b2, b2 + m2, t);
+    kernel_bends::rotate(sheet.by, b2, b2 + m2, t);
     let dead = three_dead(row1, row2, bare);
-    let k = kernel_keep::pack_rows(
-        count, ids, kinds, starts, ends, bends, counts, px, py, &dead,
-    );
-    lent::known(
-        next, k, ids, kinds, starts, ends, bends, counts, px, py, cycles, steps, bx, by,
-    );
-    k
+    kernel_keep::pack_rows(sheet, &dead);
+    sheet.known();
 }

@@ -1,26 +1,24 @@
 -- Rows that stay, in several arrays at once. Assumes nothing.
-use Prim.Native.Nat.{ℕ, zero, suc, ◌+◌, ◌<◌, ◌≤◌}
+use Prim.Native.Nat.{ℕ, zero, suc, ◌<◌, ◌≤◌}
 use native.Mathlib.Omega.{arith}
-use mathlib.Core.Path.{◌≡◌, refl, sym, ap, ap₂, ◌∙◌, subst}
-use mathlib.Core.Bool.{Bool, true, false, ◌&&◌, cond}
-use mathlib.Core.List.{List, [], ◌∷◌, map}
+use mathlib.Core.Path.{◌≡◌, refl, sym, ap, ap₂, ◌∙◌}
+use mathlib.Core.Bool.{Bool, true, false}
+use mathlib.Core.List.{List, [], ◌∷◌}
 use lib.Ieee.{Float, nan}
 use lib.ListN.{length, get_or, take}
 use lib.Seq.{get_or-take, length-take-le, ext_get_or}
-use Rattle.coordinate.specs.declared.Position.{Position}
 use Rattle.store.specs.declared.Shape.{Shape}
 use Rattle.store.specs.declared.Cell.{Cell}
-use Rattle.store.specs.View.{sheet_of, Fits, bend_total, bend_count}
-use Rattle.store.specs.Sizes.{Sizes}
+use Rattle.store.specs.View.{Fits, bend_total, bend_count}
 use Rattle.complex.specs.Lists.{total}
-use Rattle.store.specs.Edits.{kept, places_of, spread_flags, Compacted, PlacesKept, CyclesKept}
+use Rattle.store.specs.Edits.{kept, places_of, spread_flags, Compacted, CyclesKept}
 use Rattle.store.proofs.Lists.{Packing, places_sum}
 use Rattle.sound.specs.Rows.{all_from}
 use Rattle.rows_steps.proofs.Renamed.{no_cell}
 use Rattle.rows_slide.specs.Slid.{BendsKept}
 use Rattle.rows_slide.proofs.Kept.{dropped}
 use Rattle.rows_slide.proofs.Runs.{spread_length}
-use Rattle.lent.specs.Arrays.{Arrays, shape_by, shape_at, position_in, positions_in, cells_by, held_by, rows_by, row_normal, normal_at, normal, Lengths}
+use Rattle.lent.specs.Arrays.{Arrays, shape_by, shape_at, position_in, positions_in, cells_by, held_by, row_normal, normal_at, normal, Lengths}
 use Rattle.lent.proofs.Held.{held_sizes, held_indexes, cells_length, positions_length, positions_at_lem, all_at, all_intro}
 use Rattle.kernel_keep.specs.Keeps.{RowsKept, Keeps}
 
@@ -241,3 +239,16 @@ module _ (flags : List Bool) (a b : Arrays) (l : Lengths a) (m : Lengths b) (lf 
     where
       bend_places_in : total (places_of 0) (take a.count a.bends) ≡ bend_total (held_by a)
       bend_places_in = ap (total (places_of 0)) (held_indexes a l n).bends ∙ places_sum (λ (c : Cell). bend_count c.shape) (take a.count (held_by a).cells)
+
+-- the same, of the bends, cycles and steps that b has
+pub keeps_moved : (flags : List Bool) (a b : Arrays) → Lengths a → Lengths b → length flags ≡ 256 → Fits (held_by a) → normal a ≡ true
+    → (cy st : List ℕ) (bx by : List Float) → b ≡ record b { next = a.next; cycles = cy; steps = st; bx = bx; by = by }
+    → RowsKept flags a.count a b b.count → BendsKept (take a.count flags) (take a.count a.bends) a.bx a.by bx by
+    → CyclesKept (take a.count flags) (take a.count a.counts) a.cycles a.steps cy st → Keeps flags a b
+keeps_moved flags a b l m lf f n cy st bx by e k kb kk =
+    let en : b.next ≡ a.next = ap (λ (u : Arrays). u.next) e in
+    let ec : b.cycles ≡ cy = ap (λ (u : Arrays). u.cycles) e in
+    let es : b.steps ≡ st = ap (λ (u : Arrays). u.steps) e in
+    let ex : b.bx ≡ bx = ap (λ (u : Arrays). u.bx) e in
+    let ey : b.by ≡ by = ap (λ (u : Arrays). u.by) e in
+    keeps flags a b l m lf f n en k (rw (ex, ey) kb) (rw (ec, es) kk)

@@ -62,12 +62,10 @@ pub fn copy_cycles(
 {
     let mut out = u;
     let mut at = step;
-    let mut i: usize = 0;
-    while i < k {
+    for i in 0..k {
         let c = cycles[from + i];
         out = copy_cycle(c, src, at, skip[i], counts, steps, out);
         at = at + store::places(1, c);
-        i = i + 1;
     }
     out
 }

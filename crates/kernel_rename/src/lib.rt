@@ -7,8 +7,11 @@ ghost use Rattle.complex.specs.Glue.{renamed};
 ghost use Rattle.store.specs.View.{cycle_total, Fits};
 ghost use Rattle.store.specs.Edits.{places_of};
 ghost use Rattle.rows_steps.specs.Renaming.{LoneRenamed};
-ghost use Rattle.lent.specs.Arrays.{held_by, normal, Lengths, of_lists};
+ghost use Rattle.lent.specs.Arrays.{held_by, normal, Lengths};
 ghost use Rattle.kernel_rename.specs.Renames.{EndsRenamed, RenamedIn};
+ghost use Rattle.lent.specs.Sheets.{arrays, Same};
+
+use lent::SheetMut;
 
 // a where b stood.
 fn rename(v: u32, a: u32, b: u32) -> u32
@@ -31,13 +34,11 @@ fn rename_ends(
     ensures ends_renamed { EndsRenamed (renamed a b) kinds.now n starts.old starts.new }
     ensures ends_renamed_2 { EndsRenamed (renamed a b) kinds.now n ends.old ends.new }
 {
-    let mut i: usize = 0;
-    while i < n {
+    for i in 0..n {
         if kinds[i] == 1 {
             starts[i] = rename(starts[i], a, b);
             ends[i] = rename(ends[i], a, b);
         }
-        i = i + 1;
     }
 }
 
@@ -50,43 +51,25 @@ fn rename_lone(cycles: &[u32; 512], n: usize, steps: &mut [u32; 2048], a: u32, b
     ensures steps_len { length steps.new ≡ steps_most }
 {
     let mut at: usize = 0;
-    let mut i: usize = 0;
-    while i < n {
+    for i in 0..n {
         let c = cycles[i];
         if c == 0 {
             steps[at] = rename(steps[at], a, b);
         }
         at = at + store::places(1, c);
-        i = i + 1;
     }
 }
 
 // Every use of vertex b becomes a; k cycles are in use.
-pub fn rename_vertex(
-    next: u32,
-    count: usize,
-    ids: &[u32; 256],
-    kinds: &[u32; 256],
-    starts: &mut [u32; 256],
-    ends: &mut [u32; 256],
-    bends: &[u32; 256],
-    counts: &[u32; 256],
-    px: &[f64; 256],
-    py: &[f64; 256],
-    cycles: &[u32; 512],
-    steps: &mut [u32; 2048],
-    bx: &[f64; 2048],
-    by: &[f64; 2048],
-    k: usize,
-    a: u32,
-    b: u32,
-)
-    requires fits { Fits (held_by (of_lists next count ids.now kinds.now starts.old ends.old bends.now counts.now px.now py.now cycles.now steps.old bx.now by.now)) }
-    requires lengths { Lengths (of_lists next count ids.now kinds.now starts.old ends.old bends.now counts.now px.now py.now cycles.now steps.old bx.now by.now) }
-    requires by_value { normal (of_lists next count ids.now kinds.now starts.old ends.old bends.now counts.now px.now py.now cycles.now steps.old bx.now by.now) ≡ true }
-    requires k_value { k ≡ cycle_total (held_by (of_lists next count ids.now kinds.now starts.old ends.old bends.now counts.now px.now py.now cycles.now steps.old bx.now by.now)) }
-    ensures { RenamedIn (renamed a b) (of_lists next count ids.now kinds.now starts.old ends.old bends.now counts.now px.now py.now cycles.now steps.old bx.now by.now) (of_lists next count ids.now kinds.now starts.new ends.new bends.now counts.now px.now py.now cycles.now steps.new bx.now by.now) }
+pub fn rename_vertex(sheet: &mut SheetMut<'_>, k: usize, a: u32, b: u32)
+    requires fits { Fits (held_by (arrays sheet.old)) }
+    requires lengths { Lengths (arrays sheet.old) }
+    requires by_value { normal (arrays sheet.old) ≡ true }
+    requires k_value { k ≡ cycle_total (held_by (arrays sheet.old)) }
+    ensures renamed_in { RenamedIn (renamed a b) (arrays sheet.old) (arrays sheet.new) }
+    ensures same { Same sheet.old sheet.new }
+    ensures kept { arrays sheet.new ≡ record (arrays sheet.old) { starts = sheet.new.starts.now; ends = sheet.new.ends.now; steps = sheet.new.steps.now } }
 {
-    rename_ends(kinds, count, starts, ends, a, b);
-    rename_lone(cycles, k, steps, a, b);
+    rename_ends(sheet.kinds, *sheet.count, sheet.starts, sheet.ends, a, b);
+    rename_lone(sheet.cycles, k, sheet.steps, a, b);
 }

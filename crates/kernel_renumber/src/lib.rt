@@ -7,10 +7,13 @@ ghost use Rattle.store.specs.View.{cycle_total, Fits};
 ghost use Rattle.store.specs.Edits.{places_of};
 ghost use Rattle.rows_steps.specs.Renaming.{PlacesRewritten};
 ghost use Rattle.rows_steps.specs.Swap.{Wrote};
-ghost use Rattle.lent.specs.Arrays.{held_by, normal, Lengths, of_lists};
+ghost use Rattle.lent.specs.Arrays.{held_by, normal, Lengths};
 ghost use Rattle.lent_table.specs.Table.{Table};
 ghost use Rattle.kernel_rename.specs.Renames.{EndsRenamed};
 ghost use Rattle.kernel_renumber.specs.Renumbers.{new_id, new_place, RowsNumbered, RenumberedIn};
+ghost use Rattle.lent.specs.Sheets.{arrays, Same};
+
+use lent::SheetMut;
 
 // The new id of i: one more than its row.
 fn new_id(table: &[u8; 1024], ids: &[u32; 256], n: usize, i: u32) -> u32
@@ -48,13 +51,11 @@ fn rename_ends(
     ensures ends_renamed { EndsRenamed (new_id (take n ids.now)) kinds.now n starts.old starts.new }
     ensures ends_renamed_2 { EndsRenamed (new_id (take n ids.now)) kinds.now n ends.old ends.new }
 {
-    let mut i: usize = 0;
-    while i < n {
+    for i in 0..n {
         if kinds[i] == 1 {
             starts[i] = new_id(table, ids, n, starts[i]);
             ends[i] = new_id(table, ids, n, ends[i]);
         }
-        i = i + 1;
     }
 }
 
@@ -73,11 +74,9 @@ fn rename_cycle(
     requires steps_len { length steps.old ≡ steps_most }
     ensures { Wrote steps.old at (map (new_place (new_id (take n ids.now)) lone) (take k (drop at steps.old))) steps.new }
 {
-    let mut j: usize = 0;
-    while j < k {
+    for j in 0..k {
         let s = steps[at + j];
         steps[at + j] = new_place(table, ids, n, lone, s);
-        j = j + 1;
     }
 }
 
@@ -98,13 +97,11 @@ fn rename_cycles(
     ensures steps_len { length steps.new ≡ steps_most }
 {
     let mut at: usize = 0;
-    let mut i: usize = 0;
-    while i < k {
+    for i in 0..k {
         let c = cycles[i];
         let m = store::places(1, c);
         rename_cycle(table, ids, n, c == 0, steps, at, m);
         at = at + m;
-        i = i + 1;
     }
 }
 
@@ -114,42 +111,40 @@ fn number_rows(ids: &mut [u32; 256], n: usize)
     requires ids_len { length ids.old ≡ cells_most }
     ensures { RowsNumbered n ids.old ids.new }
 {
-    let mut i: usize = 0;
-    while i < n {
+    for i in 0..n {
         ids[i] = (i + 1) as u32;
-        i = i + 1;
     }
 }
 
 // The cells get the ids 1 to count in the order they have, every end, step and lone vertex is renamed, and the next id is
 // count + 1; k cycles are in use.
-pub fn renumber(
-    next: &mut u32,
-    count: usize,
-    ids: &mut [u32; 256],
-    kinds: &[u32; 256],
-    starts: &mut [u32; 256],
-    ends: &mut [u32; 256],
-    bends: &[u32; 256],
-    counts: &[u32; 256],
-    px: &[f64; 256],
-    py: &[f64; 256],
-    cycles: &[u32; 512],
-    steps: &mut [u32; 2048],
-    bx: &[f64; 2048],
-    by: &[f64; 2048],
-    k: usize,
-)
-    requires fits { Fits (held_by (of_lists next.old count ids.old kinds.now starts.old ends.old bends.now counts.now px.now py.now cycles.now steps.old bx.now by.now)) }
-    requires lengths { Lengths (of_lists next.old count ids.old kinds.now starts.old ends.old bends.now counts.now px.now py.now cycles.now steps.old bx.now by.now) }
-    requires by_value { normal (of_lists next.old count ids.old kinds.now starts.old ends.old bends.now counts.now px.now py.now cycles.now steps.old bx.now by.now) ≡ true }
-    requires k_value { k ≡ cycle_total (held_by (of_lists next.old count ids.old kinds.now starts.old ends.old bends.now counts.now px.now py.now cycles.now steps.old bx.now by.now)) }
-    ensures { RenumberedIn (of_lists next.old count ids.old kinds.now starts.old ends.old bends.now counts.now px.now py.now cycles.now steps.old bx.now by.now) (of_lists next.new count ids.new kinds.now starts.new ends.new bends.now counts.now px.now py.now cycles.now steps.new bx.now by.now) }
+pub fn renumber(sheet: &mut SheetMut<'_>, k: usize)
+    requires fits { Fits (held_by (arrays sheet.old)) }
+    requires lengths { Lengths (arrays sheet.old) }
+    requires by_value { normal (arrays sheet.old) ≡ true }
+    requires k_value { k ≡ cycle_total (held_by (arrays sheet.old)) }
+    ensures renumbered_in { RenumberedIn (arrays sheet.old) (arrays sheet.new) }
+    ensures same { Same sheet.old sheet.new }
+    ensures kept { arrays sheet.new ≡ record (arrays sheet.old) { next = sheet.new.next.now; ids = sheet.new.ids.now; starts = sheet.new.starts.now; ends = sheet.new.ends.now; steps = sheet.new.steps.now } }
 {
     let mut table = [0u8; 1024];
-    lent_table::fill(&mut table, ids, count);
-    rename_ends(&table, ids, count, kinds, starts, ends);
-    rename_cycles(&table, ids, count, cycles, k, steps);
-    number_rows(ids, count);
-    *next = (count + 1) as u32;
+    lent_table::fill(&mut table, sheet.ids, *sheet.count);
+    rename_ends(
+        &table,
+        sheet.ids,
+        *sheet.count,
+        sheet.kinds,
+        sheet.starts,
+        sheet.ends,
+    );
+    rename_cycles(
+        &table,
+        sheet.ids,
+        *sheet.count,
+        sheet.cycles,
+        k,
+        sheet.steps,
+    );
+    number_rows(sheet.ids, *sheet.count);
+    *sheet.next = (*sheet.count + 1) as u32;
 }

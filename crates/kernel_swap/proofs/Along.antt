@@ -5,11 +5,12 @@ use mathlib.Core.List.{List, [], ◌∷◌, ◌++◌}
 use mathlib.Core.Logic.{◌⊎◌, ⊎_elim}
 use mathlib.Core.Bool.{Bool, true, false, cond}
 use native.Mathlib.Omega.{arith}
-use native.Mathlib.Numerals.{add-one}
 use lib.Dec.{eqb}
 use borrow.Author.Tests.{ne_eqb}
-use lib.ListN.{length, take, drop, set, get_or, length-append, length-drop, length-take, length-set, take-append-drop}
-use lib.Seq.{drop-drop, get_or-drop, take-add, take-take, drop_at, drop-cons, length-take-le, drop-set-lt, take-set-le, get_or-set_same, get_or-take}
+use lib.ListN.{length, take, drop, set, get_or, length-append, length-drop, length-take, take-append-drop}
+use lib.Seq.{paste, drop-drop, get_or-drop, take-add, take-take, drop_at, drop-cons, length-take-le, get_or-take}
+use Rattle.std.proofs.lemmas.List.{drop-take}
+use Rattle.std.proofs.lemmas.List.Edits.{take-paste}
 use Rattle.store.specs.View.{width, width_sum}
 use Rattle.number.specs.Readers.{spread}
 use Rattle.store.proofs.Encode.{flat_append}
@@ -196,44 +197,12 @@ module _ (t : Swap) where
       record { room = subst (λ (q : List ℕ). (t.n ≤ 1) ⊎ ((1 ≤ t.n) × (length q ≤ g + width_sum ns))) (all_steps_front ns st st' e h h') r.room }
 
 -- ---- numbers that go back
-pub record Shifting (l₀ : List ℕ) (n g i : ℕ) (l : List ℕ) : Type 0 where
-  pub le : i ≤ n
-  pub size : length l ≡ length l₀
-  pub front : take i l ≡ take i l₀
-  pub rest : take (n - i) (drop (g + i) l) ≡ take (n - i) (drop i l₀)
-
-pub shifting_start : (l : List ℕ) (n g : ℕ) → Shifting l n g n l
-shifting_start l n g =
-    let z : 0 ≡ n - n = omega arith in
-    record { le = omega arith; size = refl; front = refl; rest = subst (λ (k : ℕ). take k (drop (g + n) l) ≡ take k (drop n l)) z refl }
-
-pub shifting_turn : (l₀ : List ℕ) (n g i k : ℕ) (l : List ℕ) → g + n ≤ length l₀ → i ≡ k + 1 → Shifting l₀ n g i l
-    → Shifting l₀ n g k (set l (g + k) (get_or l k 0))
-shifting_turn l₀ n g i k l h e p =
-    let v = get_or l k 0 in
-    let l' = set l (g + k) v in
-    let s = p.size in
-    let b = p.le in
-    let i-is : i ≡ suc k = e ∙ add-one k in
-    let m : n - k ≡ suc (n - i) = omega arith in
-    let same : v ≡ get_or l₀ k 0 = sym (get_or-take i l k 0 (omega arith)) ∙ ap (λ (q : List ℕ). get_or q k 0) p.front ∙ get_or-take i l₀ k 0 (omega arith) in
-    let z : suc (g + k) ≡ g + i = omega arith in
-    let a : drop (g + k) l' ≡ v ∷ drop (g + i) l =
-    drop-cons l' (g + k) 0 (omega (arith, length-set l (g + k) v)) ∙ ap₂ (λ (x : ℕ) (y : List ℕ). x ∷ y) (get_or-set_same l (g + k) v 0 (omega arith))
-    (drop-set-lt (suc (g + k)) l (g + k) v (omega arith) ∙ ap (λ (q : ℕ). drop q l) z) in
-    let c : drop k l₀ ≡ get_or l₀ k 0 ∷ drop i l₀ = drop-cons l₀ k 0 (omega arith) ∙ ap (λ (q : ℕ). get_or l₀ k 0 ∷ drop q l₀) (sym i-is) in
-    record {
-      le = omega arith;
-      size = length-set l (g + k) v ∙ p.size;
-      front = take-set-le k l (g + k) v (omega arith) ∙ sym (take-take k i l (omega arith)) ∙ ap (take k) p.front ∙ take-take k i l₀ (omega arith);
-      rest = ap₂ take m a ∙ ap₂ (λ (x : ℕ) (y : List ℕ). x ∷ y) same p.rest ∙ sym (ap₂ take m c);
-    }
-
-pub shifting_end : (l₀ l : List ℕ) (n g : ℕ) → Shifting l₀ n g 0 l → take n (drop g l) ≡ take n l₀
-shifting_end l₀ l n g p =
-    let a : g ≡ g + 0 = omega arith in
-    let b : n ≡ n - 0 = omega arith in
-    ap₂ (λ (x y : ℕ). take x (drop y l)) b a ∙ p.rest ∙ ap (λ (x : ℕ). take x l₀) (sym b)
+pub shifted : (l₀ l : List ℕ) (n g : ℕ) → g + n ≤ length l₀ → l ≡ paste l₀ g l₀ n → take n (drop g l) ≡ take n l₀
+shifted l₀ l n g h e =
+    sym (drop-take g n l)
+    ∙ ap (λ (q : List ℕ). drop g (take (g + n) q)) e
+    ∙ ap (drop g) (take-paste l₀ g l₀ n (omega arith) (omega arith))
+    ∙ drop_at (take g l₀) (take n l₀) g (length-take-le g l₀ (omega arith))
 
 -- ---- a step more of a run
 module _ (t : Swap) (st₀ : List ℕ) (from n at i w : ℕ) (st : List ℕ) (h : from + n ≤ length st₀) (k : i < n)

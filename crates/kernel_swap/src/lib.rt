@@ -8,9 +8,11 @@ ghost use Rattle.store.specs.Sheet.{all_real};
 ghost use Rattle.store.specs.Places.{entry_cycles};
 ghost use Rattle.store.specs.View.{width, width_sum, cycle_total, step_total, sheet_of, Fits};
 ghost use Rattle.rows_steps.specs.Swap.{swap_word, swap_half, swap_steps, Wrote, Swapped};
-ghost use Rattle.lent.specs.Arrays.{held_by, Lengths, of_lists};
+ghost use Rattle.lent.specs.Arrays.{held_by, Lengths};
 ghost use Rattle.kernel_swap.specs.Swaps.{Ahead, Enough, SwappedIn};
+ghost use Rattle.lent.specs.Sheets.{arrays, Same};
 
+use lent::SheetMut;
 use rows_steps::Swap;
 
 // The first n numbers, g places further back.
@@ -21,11 +23,7 @@ fn shift(l: &mut [u32], n: usize, g: usize)
     if g == 0 {
         return;
     }
-    let mut i = n;
-    while 0 < i {
-        i = i - 1;
-        l[g + i] = l[i];
-    }
+    l.copy_within(0..n, g);
 }
 
 // The steps of a cycle, swapped, put at a place of the same array.
@@ -37,12 +35,10 @@ fn swap_run(steps: &mut [u32], from: usize, n: usize, at: usize, t: Swap) -> usi
     ensures wrote { Wrote steps.old at (spread (swap_word t) (take n (drop from steps.old))) steps.new }
 {
     let mut w: usize = 0;
-    let mut i: usize = 0;
-    while i < n {
+    for i in 0..n {
         let s = steps[from + i];
         let k = rows_steps::put_step(steps, at + w, s, t);
         w = w + k;
-        i = i + 1;
     }
     w
 }
@@ -73,14 +69,12 @@ fn swap_cycles(cycles: &mut [u32], n: usize, steps: &mut [u32], g: usize, t: Swa
 {
     let mut from: usize = 0;
     let mut at: usize = 0;
-    let mut i: usize = 0;
-    while i < n {
+    for i in 0..n {
         let c = cycles[i];
         let w = swap_cycle(c, steps, g + from, at, t);
         cycles[i] = rows_steps::number_of(c, w);
         from = from + store::places(1, c);
         at = at + w;
-        i = i + 1;
     }
 }
 
@@ -108,35 +102,18 @@ fn swap_pools(
 
 // The steps of one edge replaced by others: k cycles and m steps are in use, and the steps become g more if they become more; no
 // cycle may become empty.
-pub fn swap_steps(
-    next: u32,
-    count: usize,
-    ids: &[u32; 256],
-    kinds: &[u32; 256],
-    starts: &[u32; 256],
-    ends: &[u32; 256],
-    bends: &[u32; 256],
-    counts: &[u32; 256],
-    px: &[f64; 256],
-    py: &[f64; 256],
-    cycles: &mut [u32; 512],
-    steps: &mut [u32; 2048],
-    bx: &[f64; 2048],
-    by: &[f64; 2048],
-    k: usize,
-    m: usize,
-    g: usize,
-    t: Swap,
-)
-    requires fits { Fits (held_by (of_lists next count ids.now kinds.now starts.now ends.now bends.now counts.now px.now py.now cycles.old steps.old bx.now by.now)) }
-    requires lengths { Lengths (of_lists next count ids.now kinds.now starts.now ends.now bends.now counts.now px.now py.now cycles.old steps.old bx.now by.now) }
-    requires k_value { k ≡ cycle_total (held_by (of_lists next count ids.now kinds.now starts.now ends.now bends.now counts.now px.now py.now cycles.old steps.old bx.now by.now)) }
+pub fn swap_steps(sheet: &mut SheetMut<'_>, k: usize, m: usize, g: usize, t: Swap)
+    requires fits { Fits (held_by (arrays sheet.old)) }
+    requires lengths { Lengths (arrays sheet.old) }
+    requires k_value { k ≡ cycle_total (held_by (arrays sheet.old)) }
     requires n_bound { t.n ≤ 2 }
-    requires by_value { all_real (spread entry_cycles (reshape (rewired same_vertex (swap_half t)) (sheet_of (held_by (of_lists next count ids.now kinds.now starts.now ends.now bends.now counts.now px.now py.now cycles.old steps.old bx.now by.now))).cells)) ≡ true }
-    requires by_bound { over steps_in (reshape (rewired same_vertex (swap_half t)) (sheet_of (held_by (of_lists next count ids.now kinds.now starts.now ends.now bends.now counts.now px.now py.now cycles.old steps.old bx.now by.now))).cells) ≤ steps_most }
-    requires m_value { m ≡ step_total (held_by (of_lists next count ids.now kinds.now starts.now ends.now bends.now counts.now px.now py.now cycles.old steps.old bx.now by.now)) }
-    requires fact { ((t.n ≤ 1) × (g ≡ 0)) ⊎ ((1 ≤ t.n) × (over steps_in (reshape (rewired same_vertex (swap_half t)) (sheet_of (held_by (of_lists next count ids.now kinds.now starts.now ends.now bends.now counts.now px.now py.now cycles.old steps.old bx.now by.now))).cells) ≡ g + m)) }
-    ensures { SwappedIn t (of_lists next count ids.now kinds.now starts.now ends.now bends.now counts.now px.now py.now cycles.old steps.old bx.now by.now) (of_lists next count ids.now kinds.now starts.now ends.now bends.now counts.now px.now py.now cycles.new steps.new bx.now by.now) }
+    requires by_value { all_real (spread entry_cycles (reshape (rewired same_vertex (swap_half t)) (sheet_of (held_by (arrays sheet.old))).cells)) ≡ true }
+    requires by_bound { over steps_in (reshape (rewired same_vertex (swap_half t)) (sheet_of (held_by (arrays sheet.old))).cells) ≤ steps_most }
+    requires m_value { m ≡ step_total (held_by (arrays sheet.old)) }
+    requires fact { ((t.n ≤ 1) × (g ≡ 0)) ⊎ ((1 ≤ t.n) × (over steps_in (reshape (rewired same_vertex (swap_half t)) (sheet_of (held_by (arrays sheet.old))).cells) ≡ g + m)) }
+    ensures swapped_in { SwappedIn t (arrays sheet.old) (arrays sheet.new) }
+    ensures same { Same sheet.old sheet.new }
+    ensures kept { arrays sheet.new ≡ record (arrays sheet.old) { cycles = sheet.new.cycles.now; steps = sheet.new.steps.now } }
 {
-    swap_pools(cycles, k, steps, m, g, t);
+    swap_pools(sheet.cycles, k, sheet.steps, m, g, t);
 }

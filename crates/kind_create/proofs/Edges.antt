@@ -1,6 +1,5 @@
 -- A new edge: refused for its bends; or, where 3 to 6 got a yes and n is what 7 and 8 say, refused, or with room it comes. Assumes nothing.
-use Prim.Native.Nat.{ℕ, ◌+◌, ◌<◌, ◌≤◌}
-use native.Mathlib.Omega.{arith}
+use Prim.Native.Nat.{ℕ}
 use mathlib.Core.Path.{◌≡◌, refl, sym, ◌∙◌}
 use mathlib.Core.Bool.{Bool, false}
 use mathlib.Core.List.{List}
@@ -14,7 +13,6 @@ use Rattle.complex.specs.Decode.{Command, create}
 use Rattle.complex.specs.Commands.{positions}
 use Rattle.complex.proofs.Asked.{Passed, no_3, out_bends}
 use Rattle.store.specs.View.{sheet_of, bend_total}
-use Rattle.rows_new.specs.Appends.{CellRoom}
 use Rattle.answer.specs.declared.Totals.{Totals}
 use Rattle.answer.specs.Sizes.{sized, nothing, more_less, changed_by}
 use Rattle.answer.specs.Late.{sizes_by, late_no}
@@ -48,16 +46,6 @@ module _ (a : Arrays) (t : Totals) (r : Ready a t) (bs : List Position) (k : ℕ
   module _ (z : n ≡ 0) where
     in_use_lem : t.bends ≡ bend_total (held_by a)
     in_use_lem = ready_bends a t r
-
-    -- what the bends and the row ask
-    pub edge_asks : {kind s e : ℕ} → EdgeRow kind s e → Passed (sheet_of (held_by a)) (create (edge_by kind s e bs))
-        → (t.bends + k ≤ 2048) × ((a.count < 256) × (a.next < 65536))
-    edge_asks (open_row {s} {e}) p =
-        let c = came_room a t r (open_edge s e bs) p n said z in
-        (omega (arith, c.bends, lk, in_use_lem), (c.cells, c.ids))
-    edge_asks closed_row p =
-        let c = came_room a t r (closed_edge bs) p n said z in
-        (omega (arith, c.bends, lk, in_use_lem), (c.cells, c.ids))
 
     module _ (us vs : List Float) (b : BendsPut a.bx a.by t.bends bs k us vs) where
       abbrev placed : Arrays

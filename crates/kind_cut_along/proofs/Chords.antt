@@ -32,7 +32,6 @@ use Rattle.kernel_add.proofs.Put.{with_placed, placed_long, open_grew}
 use Rattle.kind_cut_face.specs.Cuts.{FaceCuts}
 use Rattle.kind_cut_face.proofs.Cuts.{sizes_in, replaces}
 use Rattle.kernel_part.specs.Rounds.{HoldsIn}
-use Rattle.kernel_part.proofs.Coming.{same_arrays}
 
 -- the row of a is a face's, whose cycles and steps stand at s; there is room for the cycles of a list in their place, and then for an
 -- edge from v to w with the k bends that the script has at first, and for others after it; `at` bends are in use
@@ -80,18 +79,15 @@ module _ (a : Arrays) (row : ℕ) (s : Spans) (numbers : List ℕ) (u : Used) (p
         ap (λ (n : ℕ). width_sum (take n b.cycles)) (open_cycles (with_placed b us vs) long v w k chord_comes.cells)
         ∙ sym (steps_held b q.long q.rows) ∙ ap (λ (t : Totals). t.steps) q.sums
 
-    pub chord_holds : (o : Arrays) → o.next ≡ chorded.next → o.count ≡ chorded.count → o.ids ≡ chorded.ids → o.kinds ≡ chorded.kinds → o.starts ≡
-        chorded.starts → o.ends ≡ chorded.ends
-        → o.bends ≡ chorded.bends → o.counts ≡ chorded.counts → o.px ≡ b.px → o.py ≡ b.py → o.cycles ≡ b.cycles → o.steps ≡ b.steps → o.bx ≡ us
-        → o.by ≡ vs
+    pub chord_holds : (o : Arrays) → o ≡ with_open (with_placed b us vs) v w k
         → HoldsIn (appended (sheet_with_row (sheet_of (held_by a)) row (face (built numbers u places))) (open_edge v w (positions_at script first k)))
         (s.cycles.first + u.cycles + s.cycles.rest) (s.steps.first + u.steps + s.steps.rest) o
-    chord_holds o e1 e2 e3 e4 e5 e6 e7 e8 e9 e10 e11 e12 e13 e14 =
+    chord_holds o e =
         let g = open_grew b q.long bs k at (positions_length script first k) bends_are us vs p v w chord_comes in
         subst
         (HoldsIn (appended (sheet_with_row (sheet_of (held_by a)) row (face (built numbers u places))) edge) (s.cycles.first + u.cycles + s.cycles.rest)
         (s.steps.first + u.steps + s.steps.rest))
-        (sym (same_arrays o chorded e1 e2 e3 e4 e5 e6 e7 e8 e9 e10 e11 e12 e13 e14))
+        (sym e)
         (record {
           holds =
               record {

@@ -99,8 +99,10 @@ module _ (a : Arrays) (e q : ℕ) (r : Plan) (p : Parts) (c : Parting a e q r p)
       gone : Gone a r (parts_of r.two a.next e r.s r.m q) cy st b
       gone = subst (λ (v : Parts). Gone a r v cy st b) c.parts k
 
-      pub parts_fit : (b.count + 1 < 256) × ((a.next + 1 < 65536) × (r.two ≡ true → (b.count + 2 < 256) × (a.next + 2 < 65536)))
-      parts_fit = fits a c.long c.sound e q r r.two c.goes cy st b gone
+      pub parts_fit : (b.count + 1 < 256) × ((b.next + 1 < 65536) × (r.two ≡ true → (b.count + 2 < 256) × (b.next + 2 < 65536)))
+      parts_fit =
+          subst (λ (n : ℕ). (b.count + 1 < 256) × ((n + 1 < 65536) × (r.two ≡ true → (b.count + 2 < 256) × (n + 2 < 65536)))) (sym k.same)
+          (fits a c.long c.sound e q r r.two c.goes cy st b gone)
 
       pub obeyed_cut : (z : Arrays) → z ≡ parted r.two b r.p p.start r.f p.first p.second
           → (u : Line) → u ≡ record { number = 0; first = a.next; new = p.new; removed = a.count - b.count } → Obeyed a (cut_edge e q) z u

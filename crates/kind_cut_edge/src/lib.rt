@@ -2,65 +2,31 @@
 
 // 0A: an open edge becomes two that meet at a new vertex, a closed one a loop at it.
 ghost use Rattle.complex.specs.Decode.{cut_edge};
-ghost use Rattle.lent.specs.Arrays.{of_lists};
-ghost use Rattle.lent.specs.Replies.{Ready, Obeyed};
+ghost use Rattle.lent.specs.Replies.{Ready, Obeyed, line_says};
+ghost use Rattle.lent.specs.Sheets.{arrays, Same};
 
-use answer::Totals;
-use lent::Line;
+use answer::{Question, Totals};
+use lent::{Change, SheetMut};
 
 // 0A
-pub fn cut_edge(
-    next: &mut u32,
-    count: &mut usize,
-    ids: &mut [u32; 256],
-    kinds: &mut [u32; 256],
-    starts: &mut [u32; 256],
-    ends: &mut [u32; 256],
-    bends: &mut [u32; 256],
-    counts: &mut [u32; 256],
-    px: &mut [f64; 256],
-    py: &mut [f64; 256],
-    cycles: &mut [u32; 512],
-    steps: &mut [u32; 2048],
-    bx: &mut [f64; 2048],
-    by: &mut [f64; 2048],
-    t: Totals,
-    e: u32,
-    q: u32,
-) -> Line
-    requires { Ready (of_lists next.old count.old ids.old kinds.old starts.old ends.old bends.old counts.old px.old py.old cycles.old steps.old bx.old by.old) t }
-    ensures { Obeyed (of_lists next.old count.old ids.old kinds.old starts.old ends.old bends.old counts.old px.old py.old cycles.old steps.old bx.old by.old) (cut_edge e q) (of_lists next.new count.new ids.new kinds.new starts.new ends.new bends.new counts.new px.new py.new cycles.new steps.new bx.new by.new) result }
+pub fn cut_edge(sheet: &mut SheetMut<'_>, t: Totals, e: u32, q: u32) -> Result<Change, Question>
+    requires { Ready (arrays sheet.old) t }
+    ensures obeyed { Obeyed (arrays sheet.old) (cut_edge e q) (arrays sheet.new) (line_says result) }
+    ensures same { Same sheet.old sheet.new }
 {
-    let n = *count;
-    let id = *next;
+    let n = *sheet.count;
+    let id = *sheet.next;
     let place = store::wide(q);
-    let c = kind_cut_plan::cut_plan(
-        id, n, ids, kinds, starts, ends, bends, counts, px, py, cycles, steps, bx, by, t, e, place,
-    );
-    let no = c.no;
-    if no != 0 {
-        return lent::line_of(no);
-    }
+    let c = kind_cut_plan::cut_plan(&sheet.view(), t, e, place)?;
     let m = c.m;
     let w = kind_cut_parts::parts_of(c.two, id, e, c.s, m, place);
-    kernel_swap::swap_steps(
-        id, n, ids, kinds, starts, ends, bends, counts, px, py, cycles, steps, bx, by, c.cycles,
-        c.steps, c.uses, w.swap,
-    );
-    let k = kernel_drop::drop_row(
-        id, n, ids, kinds, starts, ends, bends, counts, px, py, cycles, steps, bx, by, c.row,
-        c.base, m, c.bends, w.i, w.j,
-    );
-    let removed = (n - k) as u32;
-    *count = k;
-    kind_cut_parts::put_parts(
-        c.two, next, count, ids, kinds, starts, ends, bends, counts, px, py, c.p, w.start, c.f,
-        w.first, w.second,
-    );
-    Line {
-        number: 0,
+    kernel_swap::swap_steps(sheet, c.cycles, c.steps, c.uses, w.swap);
+    kernel_drop::drop_row(sheet, c.row, c.base, m, c.bends, w.i, w.j);
+    let removed = (n - *sheet.count) as u32;
+    kind_cut_parts::put_parts(c.two, sheet, c.p, w.start, c.f, w.first, w.second);
+    Ok(Change {
         first: id,
         new: w.new,
         removed,
-    }
+    })
 }

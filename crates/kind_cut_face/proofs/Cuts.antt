@@ -1,13 +1,13 @@
 -- A face of lent arrays: where its cycles stand, other cycles in their place, and what is answered where cells came. Assumes nothing.
 use Prim.Native.Nat.{ℕ, ◌+◌, ◌-◌, ◌<◌, ◌≤◌}
-use mathlib.Core.Path.{◌≡◌, sym, ap, ap₂, subst, ◌∙◌}
-use mathlib.Core.Bool.{Bool, true, cond}
-use mathlib.Core.List.{List, []}
+use mathlib.Core.Path.{◌≡◌, sym, ap, subst, ◌∙◌}
+use mathlib.Core.Bool.{Bool, cond}
+use mathlib.Core.List.{List}
 use native.Mathlib.Omega.{arith}
 use lib.Dec.{eqb}
 use borrow.Author.Tests.{ne_eqb}
 use lib.ListN.{take}
-use Rattle.complex.specs.Cells.{Cycle, Figure, Sheet, face}
+use Rattle.complex.specs.Cells.{Cycle, Figure}
 use Rattle.store.specs.declared.Drawing.{Drawing}
 use Rattle.store.specs.Sizes.{Sizes}
 use Rattle.store.specs.Index.{row_of}
@@ -15,13 +15,13 @@ use Rattle.store.specs.View.{sheet_of}
 use Rattle.rows_spans.specs.declared.Spans.{Spans}
 use Rattle.rows_spans.specs.declared.Used.{Used}
 use Rattle.rows_spans.specs.Runs.{spans_of}
-use Rattle.rows_spans.specs.Building.{Building, Built, built}
+use Rattle.rows_spans.specs.Building.{Building, built}
 use Rattle.answer.specs.declared.Totals.{Totals}
 use Rattle.answer.specs.Answers.{outcome}
 use Rattle.rows_corners.specs.Faces.{Spanned, recycled}
 use Rattle.rows_corners.proofs.Rows.{live, spanned, replacing, replaced_with}
 use Rattle.rows_corners.proofs.Edits.{room_listed, sheet_listed}
-use Rattle.lent.specs.Arrays.{Arrays, held_by, rows_by, totals_of}
+use Rattle.lent.specs.Arrays.{Arrays, held_by, rows_by}
 use Rattle.lent.specs.declared.Line.{Line}
 use Rattle.lent.specs.Replies.{answer_by}
 use Rattle.lent.proofs.Sums.{ready_sizes, ready_rows, ready_cells}

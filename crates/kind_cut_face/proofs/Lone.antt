@@ -1,11 +1,10 @@
 -- 0B: a face cut at a vertex in lent arrays. Assumes nothing.
-use Prim.Native.Nat.{ℕ, ◌+◌, ◌<◌, ◌≤◌}
+use Prim.Native.Nat.{ℕ, ◌+◌, ◌<◌}
 use mathlib.Core.Path.{◌≡◌, refl, sym, ap, subst, ◌∙◌}
 use mathlib.Core.Bool.{true}
 use mathlib.Core.List.{List, [], ◌∷◌, ◌++◌}
 use native.Mathlib.Omega.{arith}
-use lib.ListN.{length, take, drop, length-drop, replicate, length-replicate}
-use lib.Seq.{paste, take-paste, length-paste}
+use lib.ListN.{replicate, length-replicate}
 use Rattle.coordinate.specs.declared.Position.{Position}
 use Rattle.coordinate.specs.Bounds.{within}
 use Rattle.complex.specs.Lists.{one}
@@ -15,12 +14,11 @@ use Rattle.complex.specs.Edits.{every_id}
 use Rattle.complex.specs.Decode.{cut_face_vertex}
 use Rattle.complex.specs.Cut.{face_cut_at}
 use Rattle.complex.specs.Sound.{cycles_most, steps_most}
-use Rattle.store.specs.View.{sheet_of, cycles_from, width_sum}
-use Rattle.store.proofs.Pools.{held_cycles}
+use Rattle.store.specs.View.{sheet_of}
 use Rattle.rows_spans.specs.declared.Spans.{Spans}
 use Rattle.rows_spans.specs.declared.Used.{Used}
 use Rattle.rows_spans.specs.Building.{Built}
-use Rattle.rows_spans.proofs.Building.{held, pushed_lone}
+use Rattle.rows_spans.proofs.Building.{pushed_lone}
 use Rattle.rows_new.specs.Appends.{CellRoom}
 use Rattle.answer.specs.declared.Totals.{Totals}
 use Rattle.answer.specs.Sizes.{sized, nothing, more_less, changed_by}
@@ -54,30 +52,6 @@ lone_built cycles steps t w hc hs v =
     let u : Used = record { cycles = t.cycles.count; steps = t.steps.count } in
     built_then (one (lone v)) b (pushed_lone _ u _ b.building v (omega (arith, z.0)) (omega (arith, z.1)))
 
--- ---- the arrays with the row of a vertex
-vertex_row : (b o : Arrays) (p : Position) → o.next ≡ (with_vertex b p).next → o.count ≡ (with_vertex b p).count → o.ids ≡ (with_vertex b p).ids
-    → o.kinds ≡ (with_vertex b p).kinds
-    → o.starts ≡ (with_vertex b p).starts → o.ends ≡ (with_vertex b p).ends → o.bends ≡ (with_vertex b p).bends → o.counts ≡ (with_vertex b p).counts
-    → o.px ≡ (with_vertex b p).px → o.py ≡ (with_vertex b p).py → o.cycles ≡ b.cycles → o.steps ≡ b.steps → o.bx ≡ b.bx → o.by ≡ b.by → o ≡ with_vertex b p
-vertex_row b o p e1 e2 e3 e4 e5 e6 e7 e8 e9 e10 e11 e12 e13 e14 =
-    λ i.
-    record {
-      next = e1 i;
-      count = e2 i;
-      ids = e3 i;
-      kinds = e4 i;
-      starts = e5 i;
-      ends = e6 i;
-      bends = e7 i;
-      counts = e8 i;
-      px = e9 i;
-      py = e10 i;
-      cycles = e11 i;
-      steps = e12 i;
-      bx = e13 i;
-      by = e14 i;
-    }
-
 -- ---- the cut
 module _ (a : Arrays) (t : Totals) (f : ℕ) (p : Position) where
   abbrev pub with_lone : List Cycle
@@ -91,14 +65,11 @@ module _ (a : Arrays) (t : Totals) (f : ℕ) (p : Position) where
 
     pub vertex_holds : (b : Arrays) (row : ℕ) (s : Spans) (n m : ℕ) (ks : List Cycle) → ReplacedIn a row s n m ks b
         → sheet_of (held_by b) ≡ recycled (sheet_of (held_by a)) f with_lone
-        → (o : Arrays) → o.next ≡ (with_vertex b p).next → o.count ≡ (with_vertex b p).count → o.ids ≡ (with_vertex b p).ids → o.kinds ≡ (with_vertex b p).kinds
-        → o.starts ≡ (with_vertex b p).starts → o.ends ≡ (with_vertex b p).ends → o.bends ≡ (with_vertex b p).bends → o.counts ≡ (with_vertex b p).counts
-        → o.px ≡ (with_vertex b p).px → o.py ≡ (with_vertex b p).py → o.cycles ≡ b.cycles → o.steps ≡ b.steps → o.bx ≡ b.bx → o.by ≡ b.by
-        → Holds (face_cut_at (sheet_of (held_by a)) f p) o
-    vertex_holds b row s n m ks r e o e1 e2 e3 e4 e5 e6 e7 e8 e9 e10 e11 e12 e13 e14 =
+        → (o : Arrays) → o ≡ with_vertex b p → Holds (face_cut_at (sheet_of (held_by a)) f p) o
+    vertex_holds b row s n m ks r e o eo =
         let h = vertex_room b row s n m ks r e in
         let g = vertex_comes b r.long p h in
-        subst (Holds (face_cut_at (sheet_of (held_by a)) f p)) (sym (vertex_row b o p e1 e2 e3 e4 e5 e6 e7 e8 e9 e10 e11 e12 e13 e14))
+        subst (Holds (face_cut_at (sheet_of (held_by a)) f p)) (sym eo)
         (record {
           sheet = lone_done (held_by a) (sizes_in a t f with_lone (vertex p ∷ []) w) (rows_by a) f w.named p w.room (held_by b) e
               (sheet_of (held_by (with_vertex b p))) g.0;

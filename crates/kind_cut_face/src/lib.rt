@@ -7,94 +7,57 @@ ghost use Rattle.complex.specs.Cells as cells;
 ghost use Rattle.complex.specs.Decode.{cut_face_vertex};
 ghost use Rattle.complex.specs.Cut.{face_cut_at};
 ghost use Rattle.store.specs.View.{sheet_of};
-ghost use Rattle.lent.specs.Arrays.{held_by, of_lists};
-ghost use Rattle.lent.specs.Replies.{Ready, Obeyed, Holds};
-ghost use Rattle.kernel_add.specs.Comes.{one_new};
+ghost use Rattle.lent.specs.Arrays.{held_by};
+ghost use Rattle.lent.specs.Replies.{Ready, Obeyed, Holds, line_says};
+ghost use Rattle.kernel_add.specs.Comes.{issued};
 ghost use Rattle.kind_cut_face.specs.Cuts.{FaceCuts};
+ghost use Rattle.lent.specs.Sheets.{arrays, Same};
 
-use answer::Totals;
+use answer::{Question, Totals};
 use coordinate::Position;
-use lent::Line;
+use lent::{Change, SheetMut};
 
 // ---- 0B
 
 // The face gets a lone vertex more, and the vertex comes.
-fn cut_at(
-    next: &mut u32,
-    count: &mut usize,
-    ids: &mut [u32; 256],
-    kinds: &mut [u32; 256],
-    starts: &mut [u32; 256],
-    ends: &mut [u32; 256],
-    bends: &mut [u32; 256],
-    counts: &mut [u32; 256],
-    px: &mut [f64; 256],
-    py: &mut [f64; 256],
-    cycles: &mut [u32; 512],
-    steps: &mut [u32; 2048],
-    bx: &[f64; 2048],
-    by: &[f64; 2048],
-    t: Totals,
-    f: u32,
-    p: Position,
-) -> Line
-    requires { FaceCuts (of_lists next.old count.old ids.old kinds.old starts.old ends.old bends.old counts.old px.old py.old cycles.old steps.old bx.now by.now) t f (cells.cycles_of (cell_at (sheet_of (held_by (of_lists next.old count.old ids.old kinds.old starts.old ends.old bends.old counts.old px.old py.old cycles.old steps.old bx.now by.now))) f) ++ one (lone (sheet_of (held_by (of_lists next.old count.old ids.old kinds.old starts.old ends.old bends.old counts.old px.old py.old cycles.old steps.old bx.now by.now))).next)) (vertex p ∷ []) }
-    ensures value { result ≡ one_new next.old }
-    ensures next_after { next.new ≡ next.old + 1 }
-    ensures count_after { count.new ≡ count.old + 1 }
-    ensures holds { Holds (face_cut_at (sheet_of (held_by (of_lists next.old count.old ids.old kinds.old starts.old ends.old bends.old counts.old px.old py.old cycles.old steps.old bx.now by.now))) f p) (of_lists next.new count.new ids.new kinds.new starts.new ends.new bends.new counts.new px.new py.new cycles.new steps.new bx.now by.now) }
+fn cut_at(sheet: &mut SheetMut<'_>, t: Totals, f: u32, p: Position) -> Change
+    requires { FaceCuts (arrays sheet.old) t f (cells.cycles_of (cell_at (sheet_of (held_by (arrays sheet.old))) f) ++ one (lone (sheet_of (held_by (arrays sheet.old))).next)) (vertex p ∷ []) }
+    ensures value { result ≡ issued sheet.old.next.now }
+    ensures next_after { sheet.new.next.now ≡ sheet.old.next.now + 1 }
+    ensures count_after { sheet.new.count.now ≡ sheet.old.count.now + 1 }
+    ensures holds { Holds (face_cut_at (sheet_of (held_by (arrays sheet.old))) f p) (arrays sheet.new) }
+    ensures same { Same sheet.old sheet.new }
+    ensures kept { arrays sheet.new ≡ record (arrays sheet.new) { bx = sheet.old.bx.now; by = sheet.old.by.now } }
 {
-    let n = *count;
-    let id = *next;
+    let n = *sheet.count;
+    let id = *sheet.next;
     let vertex = id;
-    let row = store::find(ids, n, f);
-    let s = kernel_cycles::spans_at(counts, cycles, row, t);
-    kernel_cycles::add_cycle(
-        id, n, ids, kinds, starts, ends, bends, counts, px, py, cycles, steps, bx, by, row, s, 0,
-        vertex,
-    );
-    lent::put_position(px, py, n, p);
-    kernel_add::add_row(
-        next, count, ids, kinds, starts, ends, bends, counts, 0, 0, 0, 0, 0,
-    )
+    let row = store::find(sheet.ids, n, f);
+    let s = kernel_cycles::spans_at(sheet.counts, sheet.cycles, row, t);
+    kernel_cycles::add_cycle(sheet, row, s, 0, vertex);
+    lent::put_position(sheet.px, sheet.py, n, p);
+    kernel_add::add_row(sheet, 0, 0, 0, 0, 0)
 }
 
 // 0B: the face f is cut at a vertex at p.
 pub fn cut_face_vertex(
-    next: &mut u32,
-    count: &mut usize,
-    ids: &mut [u32; 256],
-    kinds: &mut [u32; 256],
-    starts: &mut [u32; 256],
-    ends: &mut [u32; 256],
-    bends: &mut [u32; 256],
-    counts: &mut [u32; 256],
-    px: &mut [f64; 256],
-    py: &mut [f64; 256],
-    cycles: &mut [u32; 512],
-    steps: &mut [u32; 2048],
-    bx: &[f64; 2048],
-    by: &[f64; 2048],
+    sheet: &mut SheetMut<'_>,
     t: Totals,
     f: u32,
     p: Position,
-) -> Line
-    requires { Ready (of_lists next.old count.old ids.old kinds.old starts.old ends.old bends.old counts.old px.old py.old cycles.old steps.old bx.now by.now) t }
-    ensures { Obeyed (of_lists next.old count.old ids.old kinds.old starts.old ends.old bends.old counts.old px.old py.old cycles.old steps.old bx.now by.now) (cut_face_vertex f p) (of_lists next.new count.new ids.new kinds.new starts.new ends.new bends.new counts.new px.new py.new cycles.new steps.new bx.now by.now) result }
+) -> Result<Change, Question>
+    requires { Ready (arrays sheet.old) t }
+    ensures obeyed { Obeyed (arrays sheet.old) (cut_face_vertex f p) (arrays sheet.new) (line_says result) }
+    ensures same { Same sheet.old sheet.new }
+    ensures kept { arrays sheet.new ≡ record (arrays sheet.new) { bx = sheet.old.bx.now; by = sheet.old.by.now } }
 {
     if !coordinate::in_bounds(p) {
-        return lent::line_of(3);
+        return Err(Question::Bounds);
     }
-    let kind = store::value_at(4, ids, kinds, *count, f);
+    let kind = store::value_at(4, sheet.ids, sheet.kinds, *sheet.count, f);
     if kind != 3 {
-        return lent::line_of(4);
+        return Err(Question::Live);
     }
-    let no = ask_create::cell_no(*next, t, 1, 1, 0);
-    if no != 0 {
-        return lent::line_of(no);
-    }
-    cut_at(
-        next, count, ids, kinds, starts, ends, bends, counts, px, py, cycles, steps, bx, by, t, f,
-        p,
-    )
+    ask_create::cell_asked(*sheet.next, t, 1, 1, 0)?;
+    Ok(cut_at(sheet, t, f, p))
 }

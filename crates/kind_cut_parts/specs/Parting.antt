@@ -1,5 +1,5 @@
 -- The parts of an edge that is cut, by a flag that is true for an open one. Definitions only.
-use Rattle.std.specs.Prelude.{ℕ, ◌+◌, ◌-◌, ◌/◌, ◌%◌, Bool, true, false, List, Float}
+use Rattle.std.specs.Prelude.{ℕ, ◌+◌, ◌-◌, ◌/◌, ◌%◌, Bool, true, false}
 use Rattle.coordinate.specs.declared.Position.{Position}
 use Rattle.rows_steps.specs.Swap.{one_for, two_for}
 use Rattle.lent.specs.Arrays.{Arrays}

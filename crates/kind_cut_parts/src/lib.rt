@@ -1,12 +1,13 @@
 #![tactic(auto)]
 
 // What an edge that is cut falls into, and its rows.
-ghost use Rattle.std.specs.Prelude.{◌≡◌, true, false, List, ℕ, ◌+◌, ◌/◌, ◌%◌, ◌<◌, ◌≤◌, Float};
+ghost use Rattle.std.specs.Prelude.{◌≡◌, true, false, ◌+◌, ◌/◌, ◌%◌, ◌<◌, ◌≤◌};
 ghost use Rattle.complex.specs.Sound.{cells_most, bends_most, ids_end};
-ghost use Rattle.lent.specs.Arrays.{of_lists};
 ghost use Rattle.kind_cut_parts.specs.Parting.{parts_of, parted};
+ghost use Rattle.lent.specs.Sheets.{arrays, Same};
 
 use coordinate::Position;
+use lent::SheetMut;
 use rows_steps::Swap;
 
 // How an edge falls into parts: how many cells are new, which of its bends go last, where the first part starts, how many bends
@@ -64,40 +65,18 @@ pub fn parts_of(two: bool, id: u32, e: u32, s: u32, m: usize, q: usize) -> Parts
 
 // A vertex, an open edge from s to it of the first i of the bends after those in use, and, where an open edge is cut, one from it
 // to f of the next k.
-pub fn put_parts(
-    two: bool,
-    next: &mut u32,
-    count: &mut usize,
-    ids: &mut [u32; 256],
-    kinds: &mut [u32; 256],
-    starts: &mut [u32; 256],
-    ends: &mut [u32; 256],
-    bends: &mut [u32; 256],
-    counts: &mut [u32; 256],
-    px: &mut [f64; 256],
-    py: &mut [f64; 256],
-    p: Position,
-    s: u32,
-    f: u32,
-    i: u32,
-    k: u32,
-)
-    requires count_bound { count.old + 1 < cells_most }
-    requires next_bound { next.old + 1 < ids_end }
-    requires count_bound_2 { two ≡ true → (count.old + 2 < cells_most) × (next.old + 2 < ids_end) }
-    ensures { (cy st : List ℕ) (us vs : List Float) → of_lists next.new count.new ids.new kinds.new starts.new ends.new bends.new counts.new px.new py.new cy st us vs ≡ parted two (of_lists next.old count.old ids.old kinds.old starts.old ends.old bends.old counts.old px.old py.old cy st us vs) p s f i k }
+pub fn put_parts(two: bool, sheet: &mut SheetMut<'_>, p: Position, s: u32, f: u32, i: u32, k: u32)
+    requires count_bound { sheet.old.count.now + 1 < cells_most }
+    requires next_bound { sheet.old.next.now + 1 < ids_end }
+    requires count_bound_2 { two ≡ true → (sheet.old.count.now + 2 < cells_most) × (sheet.old.next.now + 2 < ids_end) }
+    ensures parted { arrays sheet.new ≡ parted two (arrays sheet.old) p s f i k }
+    ensures same { Same sheet.old sheet.new }
 {
-    let v = *next;
-    lent::put_position(px, py, *count, p);
-    kernel_add::add_row(
-        next, count, ids, kinds, starts, ends, bends, counts, 0, 0, 0, 0, 0,
-    );
-    kernel_add::add_row(
-        next, count, ids, kinds, starts, ends, bends, counts, 1, s, v, i, 0,
-    );
+    let v = *sheet.next;
+    lent::put_position(sheet.px, sheet.py, *sheet.count, p);
+    kernel_add::add_row(sheet, 0, 0, 0, 0, 0);
+    kernel_add::add_row(sheet, 1, s, v, i, 0);
     if two {
-        kernel_add::add_row(
-            next, count, ids, kinds, starts, ends, bends, counts, 1, v, f, k, 0,
-        );
+        kernel_add::add_row(sheet, 1, v, f, k, 0);
     }
 }

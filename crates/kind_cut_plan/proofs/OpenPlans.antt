@@ -6,6 +6,7 @@ use mathlib.Core.Bool.{true, ◌&&◌}
 use mathlib.Core.Option.{Option, some}
 use lib.Dec.{T}
 use lib.ListN.{length, get_or, take}
+use Rattle.std.specs.Prelude.{Ok}
 use Rattle.coordinate.specs.declared.Position.{Position}
 use Rattle.coordinate.specs.Bounds.{within}
 use Rattle.complex.specs.Lists.{all, total}
@@ -199,8 +200,7 @@ module _ (a : Arrays) (l : Lengths a) (w : T (sound_arrays a)) where
               omega (arith, y, v, b1, b2, ss, st)
 
           pub planned : (uses : ℕ) → uses ≡ total (step_use e) (cycles_from (take t.cycles a.cycles) a.steps)
-              → Planned a e q (record {
-                no = 0;
+              → Planned a e q (Ok (record {
                 two = true;
                 row = row;
                 base = base;
@@ -212,19 +212,15 @@ module _ (a : Arrays) (l : Lengths a) (w : T (sound_arrays a)) where
                 bends = t.bends;
                 uses = uses;
                 p = p;
-              })
+              }))
           planned uses eu' =
               record {
-                refused = λ i. absurd (i refl);
-                goes =
-                    λ i. record {
-                      cuts = cuts;
-                      ends = ends;
-                      placed = ep;
-                      row = record { below = cuts.below; from = eb; own = em; none = none_own; all = ap (λ (j : Totals). j.bends) et };
-                      cycles = ready_cycles a t (record { sound = w; long = l; sums = et });
-                      steps = ready_steps a t (record { sound = w; long = l; sums = et });
-                      grows = grown ∙ ap (λ (j : ℕ). j + t.steps) (sym eu');
-                      asked = subst (Asked (held_by a) (cut_edge e q)) r0 pass;
-                    };
+                cuts = cuts;
+                ends = ends;
+                placed = ep;
+                row = record { below = cuts.below; from = eb; own = em; none = none_own; all = ap (λ (j : Totals). j.bends) et };
+                cycles = ready_cycles a t (record { sound = w; long = l; sums = et });
+                steps = ready_steps a t (record { sound = w; long = l; sums = et });
+                grows = grown ∙ ap (λ (j : ℕ). j + t.steps) (sym eu');
+                asked = subst (Asked (held_by a) (cut_edge e q)) r0 pass;
               }

@@ -4,9 +4,10 @@ use native.Mathlib.Omega.{arith}
 use mathlib.Core.Path.{◌≡◌, refl, sym, ap, ap₂, ◌∙◌, subst}
 use mathlib.Core.Bool.{Bool, true, false, ◌||◌, false≢true}
 use mathlib.Core.Option.{Option}
-use lib.Dec.{eqb, lit≤}
+use lib.Dec.{eqb}
 use lib.ListN.{length, get_or, take}
 use borrow.Author.Tests.{ltb-true, ltb-false, leb-true, leb-false, ne_eqb}
+use Rattle.std.specs.Prelude.{Ok, Err}
 use Rattle.coordinate.specs.declared.Position.{Position}
 use Rattle.complex.specs.Lists.{total}
 use Rattle.complex.specs.Cells.{Figure, Sheet, cell_at, is_open, is_closed, is_live}
@@ -19,22 +20,22 @@ use Rattle.store.specs.View.{sheet_of}
 use Rattle.store.specs.Edits.{places_of}
 use Rattle.sound.specs.Looks.{index_value}
 use Rattle.sound.proofs.Meaning.{open_at, closed_at}
+use Rattle.answer.specs.declared.Question.TheVariants.{Live, Exists}
 use Rattle.answer.specs.declared.Totals.{Totals}
 use Rattle.answer.specs.Sizes.{sized, more_less, changed_by}
 use Rattle.answer.specs.Late.{Small, sizes_by, late_no}
 use Rattle.answer.proofs.Asked.{Asked}
 use Rattle.ask_cut_edge.specs.Cuts.{EdgeCuts, OpenEnds, CutCounted}
-use Rattle.ask_cut_edge.proofs.Found.{cut_bytes, row_below, base_asks}
+use Rattle.ask_cut_edge.proofs.Found.{cut_bytes, base_asks}
 use Rattle.ask_cut_edge.proofs.OpenAnswer as opened
 use Rattle.ask_cut_edge.proofs.ClosedAnswer as closed
 use Rattle.lent.specs.Arrays.{Arrays, held_by, rows_by}
 use Rattle.lent.specs.Replies.{Ready}
 use Rattle.lent.proofs.Sums.{ready_drawing, ready_sizes, ready_indexes, ready_looks, ready_totals}
 use Rattle.lent.proofs.Finds.{ready_finds}
-use Rattle.kind_cut_plan.specs.declared.Plan.{Plan}
 use Rattle.kind_cut_plan.specs.Kinds.{new_by, new_on, edge_on, exists_on, uses_on, place_on}
 use Rattle.kind_cut_plan.specs.Plans.{Planned}
-use Rattle.kind_cut_plan.proofs.Late.{planned_no, late_refuses}
+use Rattle.kind_cut_plan.proofs.Late.{late_refuses}
 use Rattle.kind_cut_plan.proofs.OpenPlans as opens
 use Rattle.kind_cut_plan.proofs.RingPlans as rings
 
@@ -56,7 +57,7 @@ no_edge : (s : Sheet) (e q : ℕ) → is_open (cell_at s e) ≡ false → is_clo
 unfolding question4
 no_edge s e q a b = no_4 s (cut_edge e q) (cut_bytes e q) (ap₂ ◌||◌ a b)
 
-pub new_most : (o : Bool) → (1 ≤ new_on o) × (new_on o ≤ 3)
+new_most : (o : Bool) → (1 ≤ new_on o) × (new_on o ≤ 3)
 new_most true = (omega arith, omega arith)
 new_most false = (omega arith, omega arith)
 
@@ -82,10 +83,8 @@ module _ (a : Arrays) (t : Totals) (y : Ready a t) (e q : ℕ) where
     closed_is = ap (λ (n : ℕ). eqb n 2) ek ∙ closed_at (ready_looks a t y) e
 
     -- 4
-    pub kind_no : new_by k ≡ 0 → (p : Plan) → p.no ≡ 4 → Planned a e q p
-    kind_no h p ep =
-        planned_no a e q 4 p ep (λ z. omega (arith, z))
-        (no_edge (sheet_of (held_by a)) e q (sym open_is ∙ (no_kind k h).0) (sym closed_is ∙ (no_kind k h).1))
+    pub kind_no : new_by k ≡ 0 → Planned a e q (Err Live)
+    kind_no h = no_edge (sheet_of (held_by a)) e q (sym open_is ∙ (no_kind k h).0) (sym closed_is ∙ (no_kind k h).1)
 
     pub kind_yes : (new_by k ≡ 0 → ⊥) → (edge_on (eqb k 1) (cell_at (sheet_of (held_by a)) e) ≡ true) × (new_by k ≡ new_on (eqb k 1))
     kind_yes = edge_kind k (cell_at (sheet_of (held_by a)) e) open_is closed_is
@@ -97,46 +96,29 @@ module _ (a : Arrays) (t : Totals) (y : Ready a t) (e q : ℕ) where
   uses_in_lem true = omega (arith, opened.uses_most e (take t.cycles a.cycles) a.steps, counts_in.steps_in)
   uses_in_lem false = omega arith
 
-  -- what late_no asks
+  -- what cut_asked asks
   pub late_asks : (o : Bool) (new uses : ℕ) → new ≡ new_on o → uses ≡ uses_on o e (take t.cycles a.cycles) a.steps
-      → (a.next ≤ 65536) × ((new ≤ 65536)
-      × (Small t × Small (record { cells = new - 1; cycles = 0; steps = uses; bends = 0 })
-      × Small (record { cells = 0; cycles = 0; steps = 0; bends = q % 2 })))
+      → (a.next ≤ 65536) × ((1 ≤ new) × ((new ≤ 65536) × (Small t × (uses ≤ 2048))))
   late_asks o new uses en eu =
-      let m = new_most o in (
-        counts_in.next_in,
-        (
-          omega (arith, en, m.1),
-          (
-            counts_in.small,
-            record { cells = omega (arith, en, m.1); cycles = lit≤ tt; steps = omega (arith, eu, uses_in_lem o); bends = lit≤ tt },
-            record { cells = lit≤ tt; cycles = lit≤ tt; steps = lit≤ tt; bends = omega arith },
-          ),
-        ),
-      )
+      let m = new_most o in
+      (counts_in.next_in, (omega (arith, en, m.0), (omega (arith, en, m.1), (counts_in.small, omega (arith, eu, uses_in_lem o)))))
 
   live : (o : Bool) → Is o → is_live (cell_at (sheet_of (held_by a)) e) ≡ true
   live true h = opened.open_live (held_by a) (ready_sizes a t y) (ready_drawing a t y) (rows_by a) (ready_indexes a t y) t (ready_totals a t y) e q h
   live false h = closed.closed_live (held_by a) (ready_sizes a t y) (ready_drawing a t y) e q h
 
   module _ (row : ℕ) (er : row ≡ row_of e (take a.count a.ids)) where
-    pub row_in : (o : Bool) → Is o → row < 256
-    row_in o h = row_below (held_by a) (ready_sizes a t y) (ready_drawing a t y) (rows_by a) (ready_indexes a t y) e row er (live o h)
-
     pub base_in : (o : Bool) → Is o
         → (row ≤ length a.bends) × (total (places_of 0) (take row a.bends) ≤ 2048)
     base_in o h = base_asks (held_by a) (ready_sizes a t y) (ready_drawing a t y) (rows_by a) (ready_indexes a t y) e row er (live o h)
 
     -- 5
-    pub place_no : (o : Bool) → Is o → (m : ℕ) → m ≡ get_or a.bends row 0 → exists_on o m q ≡ false
-        → (p : Plan) → p.no ≡ 5 → Planned a e q p
-    place_no true h m em g p ep =
-        planned_no a e q 5 p ep (λ z. omega (arith, z))
-        (opened.no_place (held_by a) (ready_sizes a t y) (ready_drawing a t y) (rows_by a) (ready_indexes a t y) t (ready_totals a t y) e q h row er m em
-        (leb-false (q / 2 + q % 2) m g))
-    place_no false h m em g p ep =
-        planned_no a e q 5 p ep (λ z. omega (arith, z))
-        (closed.no_place (held_by a) (ready_sizes a t y) (ready_drawing a t y) e q h (rows_by a) (ready_indexes a t y) row er m em (ltb-false (q / 2) m g))
+    pub place_no : (o : Bool) → Is o → (m : ℕ) → m ≡ get_or a.bends row 0 → exists_on o m q ≡ false → Planned a e q (Err Exists)
+    place_no true h m em g =
+        opened.no_place (held_by a) (ready_sizes a t y) (ready_drawing a t y) (rows_by a) (ready_indexes a t y) t (ready_totals a t y) e q h row er m em
+        (leb-false (q / 2 + q % 2) m g)
+    place_no false h m em g =
+        closed.no_place (held_by a) (ready_sizes a t y) (ready_drawing a t y) e q h (rows_by a) (ready_indexes a t y) row er m em (ltb-false (q / 2) m g)
 
 module _ (a : Arrays) (t : Totals) (e q row m uses r : ℕ) where
   -- the late number by the uses as they are counted
@@ -158,8 +140,8 @@ module _ (a : Arrays) (t : Totals) (e q row m uses r : ℕ) where
       row k.at m k.own (ltb-true (q / 2) m k.exists) t (ready_totals a t y) r (ring_late k)
 
   -- 7 and 8
-  pub late_no_lem : (o : Bool) → Found a t e q o row m uses r → (r ≡ 0 → ⊥) → (p : Plan) → p.no ≡ r → Planned a e q p
-  late_no_lem o k nz p ep = planned_no a e q r p ep nz (late_refuses a k.ready.long k.ready.sound e q r (pass o k) nz)
+  pub late_no_lem : (o : Bool) → Found a t e q o row m uses r → (r ≡ 0 → ⊥) → asked3 (sheet_of (held_by a)) (cut_edge e q) ≡ no r (sheet_of (held_by a))
+  late_no_lem o k nz = late_refuses a k.ready.long k.ready.sound e q r (pass o k) nz
 
   module _ (r0 : r ≡ 0) (base : ℕ) (eb : base ≡ total (places_of 0) (take row a.bends)) where
     cuts : (o : Bool) → Found a t e q o row m uses r → EdgeCuts (held_by a) e row base m q
@@ -196,8 +178,7 @@ module _ (a : Arrays) (t : Totals) (e q row m uses r : ℕ) where
 
       pub planned : (o : Bool) → Found a t e q o row m uses r
           → (p : Position) → p ≡ place_on o (take a.count a.ids) a.px a.py a.bx a.by u f base m q
-          → Planned a e q (record {
-            no = 0;
+          → Planned a e q (Ok (record {
             two = o;
             row = row;
             base = base;
@@ -209,7 +190,7 @@ module _ (a : Arrays) (t : Totals) (e q row m uses r : ℕ) where
             bends = t.bends;
             uses = uses;
             p = p;
-          })
+          }))
       planned true k p ep =
           opens.planned a k.ready.long k.ready.sound e k.edge q t k.ready.sums row k.at m k.own
           (leb-true (q / 2 + q % 2) m k.exists) r (open_late k) r0 base eb u f eu ef p

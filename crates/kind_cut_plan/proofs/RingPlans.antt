@@ -1,10 +1,11 @@
 -- What is found before a closed edge is cut. Assumes nothing.
 use Prim.Native.Nat.{ℕ, ◌+◌, ◌/◌, ◌<◌}
 use native.Mathlib.Omega.{arith}
-use mathlib.Core.Path.{◌≡◌, refl, sym, ap, ◌∙◌}
+use mathlib.Core.Path.{◌≡◌, sym, ap, ◌∙◌}
 use mathlib.Core.Bool.{true, false}
 use mathlib.Core.Option.{Option}
 use lib.ListN.{length, get_or, take}
+use Rattle.std.specs.Prelude.{Ok}
 use Rattle.coordinate.specs.declared.Position.{Position}
 use Rattle.complex.specs.Lists.{total}
 use Rattle.complex.specs.Cells.{Figure, cell_at, is_closed, cycles_of as cyclesHeld, origin}
@@ -38,8 +39,7 @@ module _ (a : Arrays) (t : Totals) (y : Ready a t) (e q : ℕ) (cl : is_closed (
 
   pub planned : (u f uses : ℕ) → uses ≡ 0
       → (p : Position) → p ≡ closed_between (position_in a.bx a.by (base + q / 2)) (position_in a.bx a.by (next_bend base m (q / 2))) q
-      → Planned a e q (record {
-        no = 0;
+      → Planned a e q (Ok (record {
         two = false;
         row = row;
         base = base;
@@ -51,23 +51,19 @@ module _ (a : Arrays) (t : Totals) (y : Ready a t) (e q : ℕ) (cl : is_closed (
         bends = t.bends;
         uses = uses;
         p = p;
-      })
+      }))
   planned u f uses eu p ep =
       let i0 = next_most base m (q / 2) cuts.range h in
       let i1 : base + q / 2 < 2048 = omega (arith, cuts.range, h) in
       let g1 = positions_at_lem a.bx a.by (base + q / 2) origin (omega (arith, i1, y.long.bx)) (omega (arith, i1, y.long.by)) in
       let g2 = positions_at_lem a.bx a.by (next_bend base m (q / 2)) origin (omega (arith, i0, y.long.bx)) (omega (arith, i0, y.long.by)) in
       record {
-        refused = λ i. absurd (i refl);
-        goes =
-            λ i. record {
-              closed = cl;
-              cuts = cuts;
-              placed = ep ∙ (λ j. closed_between (sym g1 j) (sym g2 j) q);
-              row = record { below = cuts.below; from = eb; own = em; none = none_own; all = ap (λ (j : Totals). j.bends) y.sums };
-              cycles = ready_cycles a t y;
-              steps = ready_steps a t y;
-              uses = eu;
-              asked = pass;
-            };
+        closed = cl;
+        cuts = cuts;
+        placed = ep ∙ (λ j. closed_between (sym g1 j) (sym g2 j) q);
+        row = record { below = cuts.below; from = eb; own = em; none = none_own; all = ap (λ (j : Totals). j.bends) y.sums };
+        cycles = ready_cycles a t y;
+        steps = ready_steps a t y;
+        uses = eu;
+        asked = pass;
       }

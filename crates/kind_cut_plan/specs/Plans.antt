@@ -1,8 +1,10 @@
 -- What a plan of 0A in lent arrays says. Definitions only.
-use Rattle.std.specs.Prelude.{ℕ, ◌≡◌, Bool, true, false}
+use Rattle.std.specs.Prelude.{ℕ, ◌≡◌, Bool, true, false, Result, Ok, Err}
 use Rattle.complex.specs.Decode.{cut_edge}
 use Rattle.complex.specs.Answer.{no, asked3}
 use Rattle.store.specs.View.{sheet_of}
+use Rattle.answer.specs.declared.Question.{Question}
+use Rattle.answer.specs.Questions.{number_of}
 use Rattle.lent.specs.Arrays.{Arrays, held_by}
 use Rattle.kind_cut_plan.specs.declared.Plan.{Plan}
 use Rattle.kind_cut_plan.specs.OpenPlans.{OpenGoes}
@@ -13,7 +15,7 @@ abbrev pub Goes : Bool → Arrays → ℕ → ℕ → Plan → Type 0
 Goes true = OpenGoes
 Goes false = RingGoes
 
--- the plan says no with the number of the question, or has what 0A needs
-pub record Planned (a : Arrays) (e q : ℕ) (r : Plan) : Type 0 where
-  pub refused : (r.no ≡ 0 → ⊥) → asked3 (sheet_of (held_by a)) (cut_edge e q) ≡ no r.no (sheet_of (held_by a))
-  pub goes : r.no ≡ 0 → Goes r.two a e q r
+-- the plan has what 0A needs, or the question says no
+abbrev pub Planned : Arrays → ℕ → ℕ → Result Plan Question → Type 0
+Planned a e q (Ok r) = Goes r.two a e q r
+Planned a e q (Err n) = asked3 (sheet_of (held_by a)) (cut_edge e q) ≡ no (number_of n) (sheet_of (held_by a))

@@ -1,24 +1,28 @@
 #![tactic(auto)]
 
 // What is found before an edge is cut: questions 4, 5, 7 and 8 of 0A, and where all stands.
-ghost use Rattle.std.specs.Prelude.{◌≡◌, true, false, ◌+◌, ◌/◌, ◌<◌, ◌≤◌, take, length};
-ghost use Rattle.complex.specs.Sound.{cells_most, bends_most};
+ghost use Rattle.std.specs.Prelude.{◌≡◌, true, false, ◌+◌, ◌-◌, ◌/◌, ◌%◌, ◌<◌, ◌≤◌, take, length};
+ghost use Rattle.complex.specs.Sound.{cells_most, steps_most, bends_most, ids_end};
+ghost use Rattle.answer.specs.Questions.{no_of};
+ghost use Rattle.answer.specs.Sizes.{sized, more_less, changed_by};
+ghost use Rattle.answer.specs.Late.{sizes_by, late_no, Small};
 ghost use Rattle.store.specs.Index.{Rising, row_of};
 ghost use Rattle.store.specs.View.{width_sum};
 ghost use Rattle.ask_cut_edge.specs.Cuts.{point_place, open_between, next_bend, closed_between};
-ghost use Rattle.lent.specs.Arrays.{position_in, of_lists};
+ghost use Rattle.lent.specs.Arrays.{position_in};
 ghost use Rattle.lent.specs.Replies.{Ready};
 ghost use Rattle.kind_cut_plan.specs.Kinds.{new_by, exists_on, uses_on, place_on};
 ghost use Rattle.kind_cut_plan.specs.Plans.{Planned};
+ghost use Rattle.lent.specs.Sheets.{seen};
 
-use answer::Totals;
+use answer::{Question, Totals};
 use coordinate::Position;
+use lent::SheetRef;
 
-// What is found before an edge is cut: the number of the question that says no, or whether the edge falls into two, as an
-// open one does, and where all stands. A closed edge has no start s, no end f and no uses that are counted.
+// What is found before an edge is cut: whether the edge falls into two, as an open one does, and where all stands. A closed
+// edge has no start s, no end f and no uses that are counted.
 #[derive(Clone, Copy)]
 pub struct Plan {
-    pub no: u32,
     pub two: bool,
     pub row: usize,
     pub base: usize,
@@ -30,26 +34,6 @@ pub struct Plan {
     pub bends: usize,
     pub uses: usize,
     pub p: Position,
-}
-
-// A plan that says no.
-fn refused(no: u32) -> Plan
-    ensures { result.no ≡ no }
-{
-    Plan {
-        no,
-        two: false,
-        row: 0,
-        base: 0,
-        m: 0,
-        s: 0,
-        f: 0,
-        cycles: 0,
-        steps: 0,
-        bends: 0,
-        uses: 0,
-        p: Position { x: 0.0, y: 0.0 },
-    }
 }
 
 // Where place q of a closed edge lies, whose m bends stand from base on.
@@ -67,12 +51,8 @@ fn ring_place(bx: &[f64; 2048], by: &[f64; 2048], base: usize, m: usize, q: usiz
 
 // Where place q of an open edge from s to f lies, whose m bends stand from base on.
 fn cut_place(
-    ids: &[u32; 256],
+    view: &SheetRef<'_>,
     n: usize,
-    px: &[f64; 256],
-    py: &[f64; 256],
-    bx: &[f64; 2048],
-    by: &[f64; 2048],
     s: u32,
     f: u32,
     base: usize,
@@ -80,34 +60,30 @@ fn cut_place(
     q: usize,
 ) -> Position
     requires n_le_cells_most { n ≤ cells_most }
-    requires ids_len { length ids.now ≡ cells_most }
-    requires rising { Rising (take n ids.now) }
-    requires ids_bound { row_of s (take n ids.now) < cells_most }
-    requires ids_bound_2 { row_of f (take n ids.now) < cells_most }
+    requires ids_len { length view.now.ids.now ≡ cells_most }
+    requires rising { Rising (take n view.now.ids.now) }
+    requires ids_bound { row_of s (take n view.now.ids.now) < cells_most }
+    requires ids_bound_2 { row_of f (take n view.now.ids.now) < cells_most }
     requires m_bound { base + m ≤ bends_most }
-    ensures { result ≡ open_between (position_in px.now py.now (row_of s (take n ids.now))) (position_in px.now py.now (row_of f (take n ids.now))) (position_in bx.now by.now (point_place base m (q / 2))) (position_in bx.now by.now (point_place base m (q / 2 + 1))) m q }
+    ensures { result ≡ open_between (position_in view.now.px.now view.now.py.now (row_of s (take n view.now.ids.now))) (position_in view.now.px.now view.now.py.now (row_of f (take n view.now.ids.now))) (position_in view.now.bx.now view.now.by.now (point_place base m (q / 2))) (position_in view.now.bx.now view.now.by.now (point_place base m (q / 2 + 1))) m q }
 {
     let i = q / 2;
-    let rs = store::find(ids, n, s);
-    let re = store::find(ids, n, f);
+    let rs = store::find(view.ids, n, s);
+    let re = store::find(view.ids, n, f);
     let k1 = ask_cut_edge::point_place(base, m, i);
     let k2 = ask_cut_edge::point_place(base, m, i + 1);
-    let a = lent::vertex_at(px, py, rs);
-    let b = lent::vertex_at(px, py, re);
-    let o = lent::bend_at(bx, by, k1);
-    let x = lent::bend_at(bx, by, k2);
+    let a = lent::vertex_at(view.px, view.py, rs);
+    let b = lent::vertex_at(view.px, view.py, re);
+    let o = lent::bend_at(view.bx, view.by, k1);
+    let x = lent::bend_at(view.bx, view.by, k2);
     ask_cut_edge::open_place(a, b, o, x, m, q)
 }
 
 // Where place q of an edge lies.
 fn place_at(
     two: bool,
-    ids: &[u32; 256],
+    view: &SheetRef<'_>,
     n: usize,
-    px: &[f64; 256],
-    py: &[f64; 256],
-    bx: &[f64; 2048],
-    by: &[f64; 2048],
     s: u32,
     f: u32,
     base: usize,
@@ -115,17 +91,17 @@ fn place_at(
     q: usize,
 ) -> Position
     requires n_le_cells_most { n ≤ cells_most }
-    requires ids_len { length ids.now ≡ cells_most }
-    requires rising { Rising (take n ids.now) }
-    requires ids_bound { two ≡ true → (row_of s (take n ids.now) < cells_most) × (row_of f (take n ids.now) < cells_most) }
+    requires ids_len { length view.now.ids.now ≡ cells_most }
+    requires rising { Rising (take n view.now.ids.now) }
+    requires ids_bound { two ≡ true → (row_of s (take n view.now.ids.now) < cells_most) × (row_of f (take n view.now.ids.now) < cells_most) }
     requires m_bound { base + m ≤ bends_most }
     requires q_bound { two ≡ false → q / 2 < m }
-    ensures { result ≡ place_on two (take n ids.now) px.now py.now bx.now by.now s f base m q }
+    ensures { result ≡ place_on two (take n view.now.ids.now) view.now.px.now view.now.py.now view.now.bx.now view.now.by.now s f base m q }
 {
     if two {
-        return cut_place(ids, n, px, py, bx, by, s, f, base, m, q);
+        return cut_place(view, n, s, f, base, m, q);
     }
-    ring_place(bx, by, base, m, q)
+    ring_place(view.bx, view.by, base, m, q)
 }
 
 // How many cells come where a cell of a kind is cut at a place; 0 where it is no edge.
@@ -163,41 +139,15 @@ fn uses_of(two: bool, cycles: &[u32; 512], n: usize, steps: &[u32; 2048], e: u32
     0
 }
 
-// Questions 4, 5, 7 and 8 of 0A.
-pub fn cut_plan(
-    next: u32,
-    count: usize,
-    ids: &[u32; 256],
-    kinds: &[u32; 256],
-    starts: &[u32; 256],
-    ends: &[u32; 256],
-    bends: &[u32; 256],
-    counts: &[u32; 256],
-    px: &[f64; 256],
-    py: &[f64; 256],
-    cycles: &[u32; 512],
-    steps: &[u32; 2048],
-    bx: &[f64; 2048],
-    by: &[f64; 2048],
-    t: Totals,
-    e: u32,
-    q: usize,
-) -> Plan
-    requires { Ready (of_lists next count ids.now kinds.now starts.now ends.now bends.now counts.now px.now py.now cycles.now steps.now bx.now by.now) t }
-    ensures { Planned (of_lists next count ids.now kinds.now starts.now ends.now bends.now counts.now px.now py.now cycles.now steps.now bx.now by.now) e q result }
+// Questions 7 and 8 of an edge that is cut at place q: so many cells come, and there are so many steps more.
+fn cut_asked(next: u32, new: usize, t: Totals, uses: usize, q: usize) -> Result<(), Question>
+    requires next_le_ids_end { next ≤ ids_end }
+    requires some_new { 1 ≤ new }
+    requires le_ids_end { new ≤ ids_end }
+    requires small { Small t }
+    requires uses_bound { uses ≤ steps_most }
+    ensures { no_of result ≡ late_no next new (changed_by (sizes_by t) (more_less (sized (new - 1) 0 uses 0) (sized 0 0 0 (q % 2)))) }
 {
-    let kind = store::value_at(4, ids, kinds, count, e);
-    let new = new_cells(kind);
-    if new == 0 {
-        return refused(4);
-    }
-    let two = kind == 1;
-    let row = store::find(ids, count, e);
-    let m = store::wide(bends[row]);
-    if !place_exists(two, m, q) {
-        return refused(5);
-    }
-    let uses = uses_of(two, cycles, t.cycles, steps, e);
     let more = Totals {
         cells: new - 1,
         cycles: 0,
@@ -210,16 +160,33 @@ pub fn cut_plan(
         steps: 0,
         bends: q % 2,
     };
-    let no = answer::late_no(next, new, t, more, less);
-    if no != 0 {
-        return refused(no);
+    answer::late_asked(next, new, t, more, less)
+}
+
+// Questions 4, 5, 7 and 8 of 0A.
+pub fn cut_plan(view: &SheetRef<'_>, t: Totals, e: u32, q: usize) -> Result<Plan, Question>
+    requires { Ready (seen view.now) t }
+    ensures { Planned (seen view.now) e q result }
+{
+    let kind = store::value_at(4, view.ids, view.kinds, view.count, e);
+    let new = new_cells(kind);
+    if new == 0 {
+        return Err(Question::Live);
     }
+    let two = kind == 1;
+    let row = store::find(view.ids, view.count, e);
+    let bends = view.bends;
+    let m = store::wide(bends[row]);
+    if !place_exists(two, m, q) {
+        return Err(Question::Exists);
+    }
+    let uses = uses_of(two, view.cycles, t.cycles, view.steps, e);
+    cut_asked(view.next, new, t, uses, q)?;
     let base = rows_spans::bend_start(bends, row);
-    let s = starts[row];
-    let f = ends[row];
-    let p = place_at(two, ids, count, px, py, bx, by, s, f, base, m, q);
-    Plan {
-        no: 0,
+    let s = view.starts[row];
+    let f = view.ends[row];
+    let p = place_at(two, view, view.count, s, f, base, m, q);
+    Ok(Plan {
         two,
         row,
         base,
@@ -231,5 +198,5 @@ pub fn cut_plan(
         bends: t.bends,
         uses,
         p,
-    }
+    })
 }

@@ -204,13 +204,8 @@ module _ (a : Arrays) (t : Totals) (y : Ready a t) (script : List ℕ) (f k firs
               }
 
           -- m have the edge, and o the face too
-          pub round_holds : (m o : Arrays) → m ≡ edged → o ≡ with_face m v.cycles → (o.next ≡ a.next + 2) × ((o.count ≡ a.count + 2)
-              × Holds (face_cut_round (sheet_of (held_by a)) f (positions_at script first k) (numbers_read script place moved)) o)
+          pub round_holds : (m o : Arrays) → m ≡ edged → o ≡ with_face m v.cycles
+              → Holds (face_cut_round (sheet_of (held_by a)) f (positions_at script first k) (numbers_read script place moved)) o
           round_holds m o em eo =
-              let e : o ≡ with_face edged v.cycles = eo ∙ ap (λ (x : Arrays). with_face x v.cycles) em in (
-                ap (λ (x : Arrays). x.next) e ∙ omega arith,
-                (
-                  ap (λ (x : Arrays). x.count) e ∙ omega arith,
-                  subst (Holds (face_cut_round (sheet_of (held_by a)) f (positions_at script first k) (numbers_read script place moved))) (sym e) came,
-                ),
-              )
+              subst (Holds (face_cut_round (sheet_of (held_by a)) f (positions_at script first k) (numbers_read script place moved)))
+              (sym (eo ∙ ap (λ (x : Arrays). with_face x v.cycles) em)) came

@@ -15,13 +15,11 @@ use Rattle.complex.proofs.Asked.{Passed}
 use Rattle.store.specs.Sheet.{all_real}
 use Rattle.store.specs.Places.{num_of, cycle_words}
 use Rattle.store.specs.View.{sheet_of, cycle_total, step_total}
-use Rattle.store.proofs.Encode.{all_places}
 use Rattle.sound.specs.Rows.{rows_of}
 use Rattle.rows_new.specs.Appends.{CellRoom}
 use Rattle.rows_new.proofs.Bends.{Grew}
 use Rattle.decode_parts.specs.Lists.{cycles_read, Stand}
 use Rattle.decode_parts.proofs.Stands.{stand_length}
-use Rattle.script.specs.Walks.{ScriptRoom as Space}
 use Rattle.script.proofs.Cycles.{reals_read}
 use Rattle.answer.specs.declared.Totals.{Totals}
 use Rattle.answer.specs.Sizes.{sized, nothing, more_less, changed_by}
@@ -81,7 +79,7 @@ module _ (a : Arrays) (t : Totals) (r : Ready a t) (s : List ℕ) (first k : ℕ
         ready_no a t r (create (face ks)) n x e
         (face_refuses (held_by a) (ready_sizes a t r) (ready_drawing a t r) (rows_by a) (ready_indexes a t r) s first k stand n en z)
 
-    -- m is what `count_cycle_steps` and q what `cell_no` answers
+    -- m is what `count_cycle_steps` and q what `cell_asked` answers
     module _ (z : n ≡ 0) (w m q : ℕ) (ew : w ≡ k) (em : m ≡ min 2049 (total step_count (cycles_read s first k)))
         (eq : q ≡ late_no a.next 1 (changed_by (sizes_by t) (more_less (sized 1 w m 0) nothing))) where
       passed : Passed (sheet_of (held_by a)) (create (face (cycles_read s first k)))
@@ -94,17 +92,8 @@ module _ (a : Arrays) (t : Totals) (r : Ready a t) (s : List ℕ) (first k : ℕ
       obeyed_face_full = obeyed_full a t r (face ks) passed q late
 
       module _ (y : q ≡ 0) where
-        pub face_room : CellRoom (held_by a) (face (cycles_read s first k))
+        face_room : CellRoom (held_by a) (face (cycles_read s first k))
         face_room = came_room a t r (face ks) passed q late y
-
-        pub face_space : Space s first k a.cycles t.cycles a.steps t.steps
-        face_space =
-            let f = face_room in
-            record {
-              stand = stand;
-              rows = omega (arith, f.cycles, count, ready_cycles a t r, r.long.cycles);
-              places = omega (arith, f.steps, all_places ks, ready_steps a t r, r.long.steps);
-            }
 
         pub obeyed_face : (cs ss : List ℕ) → cs ≡ sets a.cycles t.cycles (map num_of (cycles_read s first k))
             → ss ≡ sets a.steps t.steps (spread cycle_words (cycles_read s first k))

@@ -1,50 +1,49 @@
 #![tactic(auto)]
 
+ghost use Rattle.std.specs.Prelude.{◌≡◌};
 ghost use Rattle.complex.specs.Cells.{face};
 ghost use Rattle.complex.specs.Decode.{create, read_cycle};
 ghost use Rattle.decode_parts.specs.Lists.{cycles_read, Stand};
-ghost use Rattle.lent.specs.Arrays.{of_lists};
-ghost use Rattle.lent.specs.Replies.{Ready, Obeyed};
+ghost use Rattle.lent.specs.Replies.{Ready, Obeyed, line_says};
+ghost use Rattle.lent.specs.Sheets.{arrays, Same};
 
-use answer::Totals;
-use lent::Line;
+use answer::{Question, Totals};
+use lent::{Change, SheetMut};
 
 // 04: with the k cycles that the script has at `first`.
 pub fn add_face(
-    next: &mut u32,
-    count: &mut usize,
-    ids: &mut [u32; 256],
-    kinds: &mut [u32; 256],
-    starts: &mut [u32; 256],
-    ends: &mut [u32; 256],
-    bends: &mut [u32; 256],
-    counts: &mut [u32; 256],
-    px: &[f64; 256],
-    py: &[f64; 256],
-    cycles: &mut [u32; 512],
-    steps: &mut [u32; 2048],
-    bx: &[f64; 2048],
-    by: &[f64; 2048],
+    sheet: &mut SheetMut<'_>,
     t: Totals,
     script: &[u8],
     k: u32,
     first: usize,
-) -> Line
-    requires ready { Ready (of_lists next.old count.old ids.old kinds.old starts.old ends.old bends.old counts.old px.now py.now cycles.old steps.old bx.now by.now) t }
+) -> Result<Change, Question>
+    requires ready { Ready (arrays sheet.old) t }
     requires stand { Stand read_cycle script.now first k }
-    ensures { Obeyed (of_lists next.old count.old ids.old kinds.old starts.old ends.old bends.old counts.old px.now py.now cycles.old steps.old bx.now by.now) (create (face (cycles_read script.now first k))) (of_lists next.new count.new ids.new kinds.new starts.new ends.new bends.new counts.new px.now py.now cycles.new steps.new bx.now by.now) result }
+    ensures obeyed { Obeyed (arrays sheet.old) (create (face (cycles_read script.now first k))) (arrays sheet.new) (line_says result) }
+    ensures same { Same sheet.old sheet.new }
+    ensures kept { arrays sheet.new ≡ record (arrays sheet.new) { px = sheet.old.px.now; py = sheet.old.py.now; bx = sheet.old.bx.now; by = sheet.old.by.now } }
 {
-    let asked = ask_face::face_no(script, first, k, ids, kinds, starts, ends, *count);
-    if asked != 0 {
-        return lent::line_of(asked);
-    }
+    ask_face::face_asked(
+        script,
+        first,
+        k,
+        sheet.ids,
+        sheet.kinds,
+        sheet.starts,
+        sheet.ends,
+        *sheet.count,
+    )?;
     let m = script::count_cycle_steps(script, first, k, 2048);
-    let no = ask_create::cell_no(*next, t, store::wide(k), m, 0);
-    if no != 0 {
-        return lent::line_of(no);
-    }
-    script::put_cycles(script, first, k, cycles, t.cycles, steps, t.steps);
-    kernel_add::add_row(
-        next, count, ids, kinds, starts, ends, bends, counts, 3, 0, 0, 0, k,
-    )
+    ask_create::cell_asked(*sheet.next, t, store::wide(k), m, 0)?;
+    script::put_cycles(
+        script,
+        first,
+        k,
+        sheet.cycles,
+        t.cycles,
+        sheet.steps,
+        t.steps,
+    );
+    Ok(kernel_add::add_row(sheet, 3, 0, 0, 0, k))
 }

@@ -6,7 +6,7 @@ use mathlib.Core.Bool.{Bool, true, false, ◌&&◌, ◌||◌, cond}
 use mathlib.Core.Logic.{◌⊎◌, inl, inr}
 use mathlib.Core.Option.{Option, none, some}
 use mathlib.Core.List.{List}
-use lib.Dec.{T, eqb}
+use lib.Dec.{eqb}
 use lib.ListN.{length, get_or, take, set, replicate}
 use lib.Seq.{get_or-take}
 use borrow.Author.Tests.{eqb-true}
@@ -16,7 +16,7 @@ use Rattle.complex.specs.Sound.{over, steps_in}
 use Rattle.complex.specs.Edits.{reshape, rewired, same_vertex, in_place_of}
 use Rattle.complex.specs.Decode.{Command}
 use Rattle.number.specs.Readers.{spread}
-use Rattle.store.specs.Index.{Rising, row_of}
+use Rattle.store.specs.Index.{row_of}
 use Rattle.store.specs.Sheet.{all_real}
 use Rattle.store.specs.Places.{entry_cycles}
 use Rattle.store.specs.View.{sheet_of, Fits, cycle_total, step_total}
@@ -32,9 +32,9 @@ use Rattle.rows_steps.proofs.Merging.{real_with, room_with}
 use Rattle.rows_steps.proofs.Swaps.{one_for_lem, one_some, one_few}
 use Rattle.ask_glue.specs.Questions.{vertices_no, edges_no}
 use Rattle.ask_glue.proofs.Glued.{Glues, glued_made}
-use Rattle.lent.specs.Arrays.{Arrays, held_by, rows_by, normal, Lengths}
+use Rattle.lent.specs.Arrays.{Arrays, held_by, rows_by, Lengths}
 use Rattle.lent.proofs.Held.{held_sizes}
-use Rattle.lent.proofs.Sums.{ready_rows, ready_drawing, ready_sizes, ready_fits, ready_indexes, ready_looks, ready_cycles, ready_steps, ready_summed}
+use Rattle.lent.proofs.Sums.{ready_drawing, ready_sizes, ready_fits, ready_indexes, ready_looks, ready_cycles, ready_steps, ready_summed}
 use Rattle.lent.specs.declared.Line.{Line}
 use Rattle.lent.specs.Replies.{Ready, Obeyed}
 use Rattle.kernel_keep.specs.Keeps.{Keeps}
@@ -75,6 +75,13 @@ edge_bare (some (open_edge a b bs)) e = refl
 edge_bare (some (closed_edge bs)) e = refl
 edge_bare (some (face ks)) (inl e) = absurd (omega (arith, e))
 edge_bare (some (face ks)) (inr e) = absurd (omega (arith, e))
+
+-- the row of an edge is one where only cycles and steps change
+pub edge_stays : (a b : Arrays) (cy st : List ℕ) → b ≡ record a { cycles = cy; steps = st } → {row base m t : ℕ} → EdgeRow a row base m t
+    → EdgeRow b row base m t
+edge_stays a b cy st e {row} {base} {m} {t} r =
+    subst (λ (u : Arrays). EdgeRow u row base m t) (sym e)
+    (record { below = r.below; from = r.from; own = r.own; none = r.none; all = r.all })
 
 module _ (a : Arrays) (t : Totals) (y : Ready a t) where
   -- the bends before a row

@@ -1,34 +1,31 @@
 -- 05: the arrays with another position in the row of a vertex. Assumes nothing.
-use Prim.Native.Nat.{ℕ, zero, suc, ◌+◌, ◌-◌, ◌<◌, ◌≤◌}
+use Prim.Native.Nat.{ℕ, ◌+◌, ◌-◌, ◌<◌}
 use native.Mathlib.Omega.{arith}
 use mathlib.Core.Path.{◌≡◌, refl, sym, ap, ap₂, ◌∙◌, subst}
-use mathlib.Core.Bool.{Bool, true, cond}
-use mathlib.Core.List.{List, [], ◌∷◌}
-use lib.Ieee.{Float, nan}
+use mathlib.Core.Bool.{true, cond}
+use mathlib.Core.List.{List}
+use lib.Ieee.{Float}
 use lib.Dec.{T, eqb}
-use lib.ListN.{length, get_or, set, take, length-set}
-use lib.Seq.{get_or-set_same, get_or-set_other, get_or-take, set-get_or}
+use lib.ListN.{get_or, set, take, length-set}
+use lib.Seq.{get_or-take, set-get_or}
 use borrow.Author.Tests.{eq-eqb}
 use Rattle.coordinate.specs.declared.Position.{Position}
 use Rattle.coordinate.specs.Bounds.{within}
-use Rattle.complex.specs.Decode.{Command, move}
+use Rattle.complex.specs.Decode.{move}
 use Rattle.store.specs.declared.Shape.{Shape}
 use Rattle.store.specs.declared.Shape.TheVariants.{Vertex}
-use Rattle.store.specs.declared.Cell.{Cell}
 use Rattle.store.specs.declared.Drawing.{Drawing}
 use Rattle.store.specs.Edits.{with_cells}
-use Rattle.store.specs.Index.{Indexes, row_of}
-use Rattle.store.specs.Sizes.{Sizes}
+use Rattle.store.specs.Index.{row_of}
 use Rattle.store.proofs.Rows.{get_d_any}
 use Rattle.rows_steps.proofs.Renamed.{no_cell}
 use Rattle.rows_steps.proofs.Placed.{row_counted, moved_is}
-use Rattle.sound.specs.Soundness.{sound_drawing}
 use Rattle.sound.specs.Looks.{index_value}
 use Rattle.sound.proofs.Meaning.{sound_fits}
 use Rattle.answer.specs.Answers.{outcome, Answers}
 use Rattle.answer.proofs.Asked.{kind_vertex}
 use Rattle.law_move_delete.proofs.Edit.{move_passed, move_row, move_new, move_change, move_result, edit_answers}
-use Rattle.lent.specs.Arrays.{Arrays, shape_by, shape_at, position_in, cells_by, held_by, rows_by, normal, sound_arrays, Lengths}
+use Rattle.lent.specs.Arrays.{Arrays, shape_by, shape_at, cells_by, held_by, rows_by, sound_arrays, Lengths}
 use Rattle.lent.proofs.Held.{held_sizes, held_indexes, cells_set, cells_id, place_other, place_same}
 use Rattle.lent.specs.declared.Line.{Line}
 use Rattle.lent.specs.Replies.{line_of, answer_by, Obeyed}
@@ -86,7 +83,7 @@ outcome_is next n out e f =
 
 module _ (a : Arrays) (l : Lengths a) (w : T (sound_arrays a)) (v : ℕ) (p : Position) (k row : ℕ) (e : k ≡ index_value 4 (held_by a) (rows_by a) a.kinds v)
     (k0 : k ≡ 0) (er : row ≡ row_of v (take a.count a.ids)) where
-  pub moved_row : row < 256
+  moved_row : row < 256
   moved_row =
       let d = held_by a in
       let x = held_indexes a l (rows_of a w) in

@@ -1,44 +1,38 @@
 #![tactic(auto)]
 
+ghost use Rattle.std.specs.Prelude.{◌≡◌};
 ghost use Rattle.complex.specs.Decode.{move};
-ghost use Rattle.lent.specs.Arrays.{of_lists};
-ghost use Rattle.lent.specs.Replies.{Ready, Obeyed};
+ghost use Rattle.lent.specs.Replies.{Ready, Obeyed, line_says};
+ghost use Rattle.lent.specs.Sheets.{arrays, Same};
 
-use answer::Totals;
+use answer::{Question, Totals};
 use coordinate::Position;
-use lent::Line;
+use lent::{Change, SheetMut};
 
 // 05: the vertex v moves to p.
 pub fn move_vertex(
-    next: u32,
-    count: usize,
-    ids: &[u32; 256],
-    kinds: &[u32; 256],
-    starts: &[u32; 256],
-    ends: &[u32; 256],
-    bends: &[u32; 256],
-    counts: &[u32; 256],
-    px: &mut [f64; 256],
-    py: &mut [f64; 256],
-    cycles: &[u32; 512],
-    steps: &[u32; 2048],
-    bx: &[f64; 2048],
-    by: &[f64; 2048],
+    sheet: &mut SheetMut<'_>,
     t: Totals,
     v: u32,
     p: Position,
-) -> Line
-    requires { Ready (of_lists next count ids.now kinds.now starts.now ends.now bends.now counts.now px.old py.old cycles.now steps.now bx.now by.now) t }
-    ensures { Obeyed (of_lists next count ids.now kinds.now starts.now ends.now bends.now counts.now px.old py.old cycles.now steps.now bx.now by.now) (move v p) (of_lists next count ids.now kinds.now starts.now ends.now bends.now counts.now px.new py.new cycles.now steps.now bx.now by.now) result }
+) -> Result<Change, Question>
+    requires { Ready (arrays sheet.old) t }
+    ensures obeyed { Obeyed (arrays sheet.old) (move v p) (arrays sheet.new) (line_says result) }
+    ensures same { Same sheet.old sheet.new }
+    ensures kept { arrays sheet.new ≡ record (arrays sheet.old) { px = sheet.new.px.now; py = sheet.new.py.now } }
 {
     if !coordinate::in_bounds(p) {
-        return lent::line_of(3);
+        return Err(Question::Bounds);
     }
-    let kind = store::value_at(4, ids, kinds, count, v);
+    let kind = store::value_at(4, sheet.ids, sheet.kinds, *sheet.count, v);
     if kind != 0 {
-        return lent::line_of(4);
+        return Err(Question::Live);
     }
-    let row = store::find(ids, count, v);
-    lent::put_position(px, py, row, p);
-    lent::line_of(0)
+    let row = store::find(sheet.ids, *sheet.count, v);
+    lent::put_position(sheet.px, sheet.py, row, p);
+    Ok(Change {
+        first: 0,
+        new: 0,
+        removed: 0,
+    })
 }

@@ -1,35 +1,23 @@
 #![tactic(auto)]
 
-ghost use Rattle.lent.specs.Arrays.{of_lists};
-ghost use Rattle.lent.specs.Replies.{Ready, Renewed};
+ghost use Rattle.std.specs.Prelude.{◌≡◌};
+ghost use Rattle.lent.specs.Replies.{Ready, Renewed, line_says};
+ghost use Rattle.lent.specs.Sheets.{arrays, Same};
 
-use answer::Totals;
-use lent::Line;
+use answer::{Question, Totals};
+use lent::{Change, SheetMut};
 
 // 0F: the cells get the ids 1 to count, and the next id is count + 1.
-pub fn renumber(
-    next: &mut u32,
-    count: usize,
-    ids: &mut [u32; 256],
-    kinds: &[u32; 256],
-    starts: &mut [u32; 256],
-    ends: &mut [u32; 256],
-    bends: &[u32; 256],
-    counts: &[u32; 256],
-    px: &[f64; 256],
-    py: &[f64; 256],
-    cycles: &[u32; 512],
-    steps: &mut [u32; 2048],
-    bx: &[f64; 2048],
-    by: &[f64; 2048],
-    t: Totals,
-) -> Line
-    requires { Ready (of_lists next.old count ids.old kinds.now starts.old ends.old bends.now counts.now px.now py.now cycles.now steps.old bx.now by.now) t }
-    ensures { Renewed (of_lists next.old count ids.old kinds.now starts.old ends.old bends.now counts.now px.now py.now cycles.now steps.old bx.now by.now) (of_lists next.new count ids.new kinds.now starts.new ends.new bends.now counts.now px.now py.now cycles.now steps.new bx.now by.now) result }
+pub fn renumber(sheet: &mut SheetMut<'_>, t: Totals) -> Result<Change, Question>
+    requires { Ready (arrays sheet.old) t }
+    ensures renewed { Renewed (arrays sheet.old) (arrays sheet.new) (line_says result) }
+    ensures same { Same sheet.old sheet.new }
+    ensures kept { arrays sheet.new ≡ record (arrays sheet.old) { next = sheet.new.next.now; ids = sheet.new.ids.now; starts = sheet.new.starts.now; ends = sheet.new.ends.now; steps = sheet.new.steps.now } }
 {
-    kernel_renumber::renumber(
-        next, count, ids, kinds, starts, ends, bends, counts, px, py, cycles, steps, bx, by,
-        t.cycles,
-    );
-    lent::line_of(0)
+    kernel_renumber::renumber(sheet, t.cycles);
+    Ok(Change {
+        first: 0,
+        new: 0,
+        removed: 0,
+    })
 }

@@ -1,5 +1,5 @@
 -- What is asked for 0E at an edge by its two uses, and the cycles that are left, by some of the lent arrays. Definitions only.
-use Rattle.std.specs.Prelude.{ℕ, List, Float, length}
+use Rattle.std.specs.Prelude.{ℕ, List, Float}
 use Rattle.complex.specs.Cells.{cell_at}
 use Rattle.complex.specs.Uncut.{uncut_result}
 use Rattle.store.specs.View.{sheet_of}

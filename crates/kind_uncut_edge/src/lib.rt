@@ -7,13 +7,14 @@ ghost use Rattle.complex.specs.Sound.{cells_most};
 ghost use Rattle.store.specs.View.{sheet_of};
 ghost use Rattle.ask_uncut_uses.specs.Uses.{use_at, case_of};
 ghost use Rattle.law_uncut_edge.specs.Needs.{gone_with, more_cycles};
-ghost use Rattle.lent.specs.Arrays.{held_by, of_lists};
-ghost use Rattle.lent.specs.Replies.{Ready, Obeyed, Holds};
+ghost use Rattle.lent.specs.Arrays.{held_by};
+ghost use Rattle.lent.specs.Replies.{Ready, Obeyed, Holds, line_says};
 ghost use Rattle.kind_uncut_edge.specs.Left.{Leaves, LeavesIn, LeftIn};
+ghost use Rattle.lent.specs.Sheets.{arrays, Same};
 
-use answer::Totals;
+use answer::{Question, Totals};
 use ask_uncut_uses::{Between, Use};
-use lent::Line;
+use lent::{Change, SheetMut};
 use rows_spans::Used;
 
 // The cycles that are left to the face of u.
@@ -78,22 +79,9 @@ fn more_cycles(k: Between) -> usize
     }
 }
 
-// The edge e goes, with the face of w if that is another, and the face of u has the cycles that are left. How many rows there are then.
+// The edge e goes, with the face of w if that is another, and the face of u has the cycles that are left.
 fn take_out(
-    next: u32,
-    count: usize,
-    ids: &mut [u32; 256],
-    kinds: &mut [u32; 256],
-    starts: &mut [u32; 256],
-    ends: &mut [u32; 256],
-    bends: &mut [u32; 256],
-    counts: &mut [u32; 256],
-    px: &mut [f64; 256],
-    py: &mut [f64; 256],
-    cycles: &mut [u32; 512],
-    steps: &mut [u32; 2048],
-    bx: &mut [f64; 2048],
-    by: &mut [f64; 2048],
+    sheet: &mut SheetMut<'_>,
     t: Totals,
     e: u32,
     k: Between,
@@ -101,20 +89,32 @@ fn take_out(
     w: Use,
     numbers: &mut [u32],
     places: &mut [u32],
-) -> usize
-    requires { Leaves (of_lists next count ids.old kinds.old starts.old ends.old bends.old counts.old px.old py.old cycles.old steps.old bx.old by.old) t e k u w (length numbers.old) (length places.old) }
-    ensures { Holds (uncut_result (sheet_of (held_by (of_lists next count ids.old kinds.old starts.old ends.old bends.old counts.old px.old py.old cycles.old steps.old bx.old by.old))) e (case_of k (use_at e u) (use_at e w))) (of_lists next result ids.new kinds.new starts.new ends.new bends.new counts.new px.new py.new cycles.new steps.new bx.new by.new) }
+)
+    requires { Leaves (arrays sheet.old) t e k u w (length numbers.old) (length places.old) }
+    ensures holds { Holds (uncut_result (sheet_of (held_by (arrays sheet.old))) e (case_of k (use_at e u) (use_at e w))) (arrays sheet.new) }
+    ensures same { Same sheet.old sheet.new }
+    ensures kept { arrays sheet.new ≡ record (arrays sheet.new) { next = sheet.old.next.now } }
 {
     let l = left(
-        count, ids, starts, ends, counts, cycles, steps, t, e, k, u, w, numbers, places,
+        *sheet.count,
+        sheet.ids,
+        sheet.starts,
+        sheet.ends,
+        sheet.counts,
+        sheet.cycles,
+        sheet.steps,
+        t,
+        e,
+        k,
+        u,
+        w,
+        numbers,
+        places,
     );
     let j = gone_with(k, e, w.face);
-    let a = store::find(ids, count, e);
-    let b = store::find(ids, count, j);
-    kernel_reface::reface(
-        next, count, ids, kinds, starts, ends, bends, counts, px, py, cycles, steps, bx, by, e, a,
-        j, b, u.face, numbers, places, l,
-    )
+    let a = store::find(sheet.ids, *sheet.count, e);
+    let b = store::find(sheet.ids, *sheet.count, j);
+    kernel_reface::reface(sheet, e, a, j, b, u.face, numbers, places, l)
 }
 
 // Whether arrays of 32 counts and 128 steps have room for the cycles of a drawing, and a cycle more.
@@ -124,15 +124,14 @@ fn few(t: Totals) -> bool
     t.cycles < 32 && t.steps <= 128
 }
 
-// The line of a command that leaves k of n cells.
-fn gone(n: usize, k: usize) -> Line
+// The change by a command that leaves k of n cells.
+fn gone(n: usize, k: usize) -> Change
     requires k_le_n { k ≤ n }
     requires n_le_cells_most { n ≤ cells_most }
-    ensures { result ≡ record { number = 0; first = 0; new = 0; removed = n - k } }
+    ensures { result ≡ record { first = 0; new = 0; removed = n - k } }
 {
     let removed = (n - k) as u32;
-    Line {
-        number: 0,
+    Change {
         first: 0,
         new: 0,
         removed,
@@ -141,32 +140,20 @@ fn gone(n: usize, k: usize) -> Line
 
 // 0E at the edge e by its two uses. Of the sizes only the number of cycles can grow. The list of cycles gets as little room as may be.
 pub fn uncut_edge(
-    next: &mut u32,
-    count: &mut usize,
-    ids: &mut [u32; 256],
-    kinds: &mut [u32; 256],
-    starts: &mut [u32; 256],
-    ends: &mut [u32; 256],
-    bends: &mut [u32; 256],
-    counts: &mut [u32; 256],
-    px: &mut [f64; 256],
-    py: &mut [f64; 256],
-    cycles: &mut [u32; 512],
-    steps: &mut [u32; 2048],
-    bx: &mut [f64; 2048],
-    by: &mut [f64; 2048],
+    sheet: &mut SheetMut<'_>,
     t: Totals,
     e: u32,
     k: Between,
     u: Use,
     w: Use,
-) -> Line
-    requires ready { Ready (of_lists next.old count.old ids.old kinds.old starts.old ends.old bends.old counts.old px.old py.old cycles.old steps.old bx.old by.old) t }
-    requires e_value { uncut_case (sheet_of (held_by (of_lists next.old count.old ids.old kinds.old starts.old ends.old bends.old counts.old px.old py.old cycles.old steps.old bx.old by.old))) e ≡ case_of k (use_at e u) (use_at e w) }
-    ensures { Obeyed (of_lists next.old count.old ids.old kinds.old starts.old ends.old bends.old counts.old px.old py.old cycles.old steps.old bx.old by.old) (uncut e) (of_lists next.new count.new ids.new kinds.new starts.new ends.new bends.new counts.new px.new py.new cycles.new steps.new bx.new by.new) result }
+) -> Result<Change, Question>
+    requires ready { Ready (arrays sheet.old) t }
+    requires e_value { uncut_case (sheet_of (held_by (arrays sheet.old))) e ≡ case_of k (use_at e u) (use_at e w) }
+    ensures obeyed { Obeyed (arrays sheet.old) (uncut e) (arrays sheet.new) (line_says result) }
+    ensures same { Same sheet.old sheet.new }
 {
-    let id = *next;
-    let n = *count;
+    let id = *sheet.next;
+    let n = *sheet.count;
     let more = Totals {
         cells: 0,
         cycles: more_cycles(k),
@@ -179,64 +166,15 @@ pub fn uncut_edge(
         steps: 0,
         bends: 0,
     };
-    let no = answer::late_no(id, 0, t, more, less);
-    if no != 0 {
-        return lent::line_of(no);
-    }
+    answer::late_asked(id, 0, t, more, less)?;
     if few(t) {
         let mut numbers = [0u32; 32];
         let mut places = [0u32; 128];
-        let left = take_out(
-            id,
-            n,
-            ids,
-            kinds,
-            starts,
-            ends,
-            bends,
-            counts,
-            px,
-            py,
-            cycles,
-            steps,
-            bx,
-            by,
-            t,
-            e,
-            k,
-            u,
-            w,
-            &mut numbers,
-            &mut places,
-        );
-        *count = left;
-        return gone(n, left);
+        take_out(sheet, t, e, k, u, w, &mut numbers, &mut places);
+        return Ok(gone(n, *sheet.count));
     }
     let mut numbers = [0u32; 512];
     let mut places = [0u32; 2048];
-    let left = take_out(
-        id,
-        n,
-        ids,
-        kinds,
-        starts,
-        ends,
-        bends,
-        counts,
-        px,
-        py,
-        cycles,
-        steps,
-        bx,
-        by,
-        t,
-        e,
-        k,
-        u,
-        w,
-        &mut numbers,
-        &mut places,
-    );
-    *count = left;
-    gone(n, left)
+    take_out(sheet, t, e, k, u, w, &mut numbers, &mut places);
+    Ok(gone(n, *sheet.count))
 }

@@ -1,5 +1,5 @@
 -- 0E at a vertex with one end each of two open edges: from what is asked to what is answered. Assumes nothing.
-use Prim.Native.Nat.{ℕ, zero, suc, ◌<◌, ◌≤◌}
+use Prim.Native.Nat.{ℕ, zero, suc, ◌+◌, ◌-◌, ◌<◌, ◌≤◌}
 use native.Mathlib.Omega.{arith}
 use mathlib.Core.Path.{◌≡◌, refl, sym, ap, ap₂, ◌∙◌, subst}
 use mathlib.Core.Bool.{Bool, true, false, cond, false≢true}
@@ -50,7 +50,7 @@ use Rattle.ask_uncut_vertex.specs.Needs.{Merged, leaving, Sided, joint_runs, Joi
 use Rattle.ask_uncut_vertex.proofs.Told.{AtJoint, joint_told}
 use Rattle.ask_uncut_vertex.proofs.Dropping.{three_left}
 use Rattle.ask_uncut_vertex.proofs.Answering.{new_outcome, sided, at_first_lem, at_second_lem, joint_made, joint_needs, joint_asked, joint_meets}
-use Rattle.lent.specs.Arrays.{Arrays, position_in, positions_in, shape_by, shape_at, held_by, rows_by}
+use Rattle.lent.specs.Arrays.{Arrays, position_in, positions_in, shape_by, shape_at, held_by, rows_by, normal}
 use Rattle.lent.proofs.Held.{held_sizes}
 use Rattle.lent.proofs.Sums.{ready_rows, ready_drawing, ready_sheet}
 use Rattle.lent.proofs.Finds.{ready_finds}
@@ -269,30 +269,33 @@ module _ (a : Arrays) (t : Totals) (r : Ready a t) (v x : ℕ) (back1 : Bool) (y
             (read a.bends ∙ (ready_looks a t r).bends v ∙ ap (λ (k : Option Figure). length (bends_of k)) tells.at)
             (read a.counts ∙ (ready_looks a t r).cycles v ∙ ap (λ (k : Option Figure). length (cyclesHeld k)) tells.at)
 
-        module _ (cy st : List ℕ) (g : MergedIn a x y (with_pools a cy st)) where
-          abbrev mid : Arrays
-          mid = with_pools a cy st
-
+        -- the steps of both edges are those of the next cell
+        module _ (mid : Arrays) (kept : mid ≡ with_pools a mid.cycles mid.steps) (g : MergedIn a x y mid) where
           abbrev step : ℕ → Figure → Figure
           step = rewired same_vertex (in_one x y (sheet_of (held_by a)).next)
 
-          three_mid : ThreeRows (with_pools a cy st) (order_of s back1 u back2).first.row (order_of s back1 u back2).first.first
+          three_mid : ThreeRows mid (order_of s back1 u back2).first.row (order_of s back1 u back2).first.first
               (order_of s back1 u back2).first.count (order_of s back1 u back2).second.row (order_of s back1 u back2).second.first
               (order_of s back1 u back2).second.count row t.bends
           three_mid =
               let k = three_rows in
               let i = k.one in
               let j = k.two in
-              record {
+              subst
+              (λ (b : Arrays). ThreeRows b (order_of s back1 u back2).first.row (order_of s back1 u back2).first.first
+              (order_of s back1 u back2).first.count (order_of s back1 u back2).second.row (order_of s back1 u back2).second.first
+              (order_of s back1 u back2).second.count row t.bends)
+              (sym kept)
+              (record {
                 one = record { below = i.below; from = i.from; own = i.own; none = i.none; all = i.all };
                 two = record { below = j.below; from = j.from; own = j.own; none = j.none; all = j.all };
                 apart = k.apart;
                 bare_in = k.bare_in;
                 bare_bends = k.bare_bends;
                 bare_cycles = k.bare_cycles;
-              }
+              })
 
-          left : left_of (with_pools a cy st) (order_of s back1 u back2) row ≡ remade (none_of v x y) step (sheet_of (held_by a))
+          left : left_of mid (order_of s back1 u back2) row ≡ remade (none_of v x y) step (sheet_of (held_by a))
           left =
               three_left (held_by a) (ready_sizes a t r) v row x s.row y u.row need.triple step (held_by mid) (held_sizes mid g.long) g.fits
               (g.sheet ∙ ap (λ (n : ℕ). with_entries (sheet_of (held_by a)) (reshape (rewired same_vertex (in_one x y n)) (sheet_of (held_by a)).cells))
@@ -302,38 +305,49 @@ module _ (a : Arrays) (t : Totals) (r : Ready a t) (v x : ℕ) (back1 : Bool) (y
           abbrev edge : Figure
           edge = open_edge (cond back1 s.far u.far) (cond back1 u.far s.far) (runs_of (held_by a).bends (joint_runs p s back1 u back2))
 
-          joins_ordered : Joins (with_pools a cy st) (order_of s back1 u back2) row t.bends p
+          -- their bends are as they were
+          bends_are : positions_in mid.bx mid.by ≡ positions_in a.bx a.by
+          bends_are = ap (λ (b : Arrays). positions_in b.bx b.by) kept
+
+          edge_mid : edge_of (positions_in mid.bx mid.by) (order_of s back1 u back2) p ≡ edge
+          edge_mid =
+              ap (λ (l : List Position). edge_of l (order_of s back1 u back2) p) bends_are
+              ∙ edge_is (positions_in a.bx a.by) s u back1 back2 p
+
+          joins_ordered : Joins mid (order_of s back1 u back2) row t.bends p
           joins_ordered =
               record {
                 fits = g.fits;
                 long = g.long;
-                rows = ready_rows a t r;
+                rows = ap normal kept ∙ ready_rows a t r;
                 three = three_mid;
                 room =
                     subst (λ (f : Figure). RoomIn (left_of mid (order_of s back1 u back2) row) (f ∷ []))
-                    (sym (edge_is (positions_in a.bx a.by) s u back1 back2 p))
+                    (sym edge_mid)
                     (subst (λ (w : Sheet). RoomIn w (edge ∷ [])) (sym left) need.room);
               }
 
           module _ (o : Order) (eo : o ≡ order_of s back1 u back2) where
-            pub joins : Joins (with_pools a cy st) o row t.bends p
+            pub joins : Joins mid o row t.bends p
             joins = subst (λ (q : Order). Joins mid q row t.bends p) (sym eo) joins_ordered
 
-            pub obeyed : (out : Arrays) (l : Line) → Joined (with_pools a cy st) o row p out l → Obeyed a (uncut v) out l
+            pub obeyed : (out : Arrays) (l : Line) → Joined mid o row p out l → Obeyed a (uncut v) out l
             obeyed out l jo =
                 let d = held_by a in
                 let z = ready_sizes a t r in
                 let w = ready_drawing a t r in
                 let j = subst (λ (q : Order). Joined mid q row p out l) eo jo in
+                let line = j.line ∙ ap (λ (b : Arrays). record { number = 0; first = b.next; new = 1; removed = b.count + 1 - out.count }) kept in
                 let made =
-                j.sheet ∙ ap₂ appended left (edge_is (positions_in a.bx a.by) s u back1 back2 p)
+                j.sheet ∙ ap₂ appended left edge_mid
                 ∙ joint_made d z (rows_by a) v x back1 y back2 meets row er p place s u (side_is x live1 back1 s es)
                 (side_is y live2 back2 u eu) _ _ refl refl _ refl
                 ∙ sym (uncut_result_lem (sheet_of d) v (joint (leaving x back1) (leaving y back2)) h) in
                 record {
                   answers =
                       answers d z w (uncut v) no asks yes (held_by out) (held_sizes out j.long) j.fits made (answer_by l (held_by out))
-                      (ap (λ (k : Line). answer_by k (held_by out)) j.line ∙ new_outcome a.next a.count _ (held_by out) j.issued refl);
+                      (ap (λ (k : Line). answer_by k (held_by out)) line ∙ new_outcome a.next a.count _ (held_by out)
+                      (j.issued ∙ ap (λ (b : Arrays). b.next + 1) kept) refl);
                   back = λ n. absurd (n (ap (λ (k : Line). k.number) j.line));
                   rows = j.rows;
                 }

@@ -4,7 +4,7 @@ use native.Mathlib.Omega.{arith}
 use mathlib.Core.Path.{◌≡◌, refl, sym, ap, ap₂, ◌∙◌, subst}
 use mathlib.Core.List.{List, [], ◌∷◌, ◌++◌, append_assoc}
 use lib.Ieee.{Float}
-use lib.ListN.{length, take, drop, set, length-append, length-drop, take-append-drop}
+use lib.ListN.{length, take, drop, length-append, length-drop, take-append-drop}
 use lib.Seq.{length-take-le, take_at, drop-cons}
 use Rattle.coordinate.specs.declared.Position.{Position}
 use Rattle.complex.specs.Lists.{total}
@@ -19,7 +19,7 @@ use Rattle.rows_new.specs.Appends.{RoomIn, CellRoom, with_cell}
 use Rattle.rows_new.specs.Runs.{turn, run_at}
 use Rattle.rows_new.proofs.Rooms.{room_first}
 use Rattle.lent.specs.Arrays.{Arrays, positions_in, held_by, Lengths}
-use Rattle.lent.specs.Growing.{with_open}
+use Rattle.lent.specs.Growing.{row_put, with_open}
 use Rattle.lent.proofs.Held.{held_sizes, held_indexes, positions_length}
 use Rattle.lent.proofs.Grown.{open_long, open_held, open_normal}
 use Rattle.lent.specs.declared.Line.{Line}
@@ -31,23 +31,14 @@ use Rattle.kind_uncut_joint.proofs.Bends.{turn_length, joined_are, joined_long, 
 
 -- the arrays with other bends
 abbrev pub with_both : Arrays → List Float → List Float → Arrays
-with_both a xs ys =
-    record {
-      next = a.next;
-      count = a.count;
-      ids = a.ids;
-      kinds = a.kinds;
-      starts = a.starts;
-      ends = a.ends;
-      bends = a.bends;
-      counts = a.counts;
-      px = a.px;
-      py = a.py;
-      cycles = a.cycles;
-      steps = a.steps;
-      bx = xs;
-      by = ys;
-    }
+with_both a xs ys = record a { bx = xs; by = ys }
+
+-- the row of an open edge, of the id n, is written, and counted
+open_row_lem : (b o : Arrays) (n s e k : ℕ) → n ≡ b.next → o ≡ row_put b b.count n 1 s e k 0
+    → record o { next = n + 1; count = b.count + 1 } ≡ with_open b s e k
+open_row_lem b o n s e k en q =
+    ap (λ (x : Arrays). record x { next = n + 1; count = b.count + 1 }) q
+    ∙ ap (λ (i : ℕ). record (row_put b b.count i 1 s e k 0) { next = i + 1; count = b.count + 1 }) en
 
 run_length : (i n : ℕ) (l : List Position) → i + n ≤ length l → length (run_at i n l) ≡ n
 run_length i n l h = length-take-le n (drop i l) (omega (arith, length-drop i l))
@@ -119,11 +110,14 @@ module _ (a : Arrays) (o : Order) (bare t : ℕ) (p : Position) (g : Joins a o b
         omega (arith, e, f, h, b_bends, all_bends, lx, ly)
 
     -- both runs are among the bends in use, and there is room for one more
-    pub both_in : o.first.count + o.second.count ≤ t
+    both_in : o.first.count + o.second.count ≤ t
     both_in = let e = range1.1 in omega (arith, last_length, e)
 
-    pub one_more : t < 2048
+    one_more : t < 2048
     one_more = let e = room.bends in omega (arith, e, used, new_length, both_in)
+
+    pub fits : (o.first.count + o.second.count ≤ t) × (t < 2048)
+    fits = (both_in, one_more)
 
     pub row_comes : b.count < 256
     row_comes = room.cells
@@ -210,7 +204,7 @@ module _ (a : Arrays) (o : Order) (bare t : ℕ) (p : Position) (g : Joins a o b
           open_held c long s e k room.cells ∙ ap (λ (n : ℕ). with_cell (held_by c) (Open s e n)) (sym new_length) in
           (ap sheet_of q ∙ h.0 ∙ ap (λ (w : Sheet). appended w edge) gone.keeps.sheet, subst Fits (sym q) h.1)
 
-      pub joined : (out : Arrays) → out ≡ with_open (with_both b xs ys) o.first.far o.second.far (o.first.count + 1 + o.second.count)
+      joined : (out : Arrays) → out ≡ with_open (with_both b xs ys) o.first.far o.second.far (o.first.count + 1 + o.second.count)
           → (l : Line) → l ≡ record { number = 0; first = a.next; new = 1; removed = a.count - b.count } → Joined a o bare p out l
       joined out eo l el =
           subst (λ (w : Arrays). Joined a o bare p w l) (sym eo)
@@ -226,28 +220,10 @@ module _ (a : Arrays) (o : Order) (bare t : ℕ) (p : Position) (g : Joins a o b
           removed : a.count - b.count ≡ a.count + 1 - (b.count + 1)
           removed = omega arith
 
-      -- the same field by field
-      pub joined_by : (out : Arrays) → out.next ≡ b.next + 1 → out.count ≡ b.count + 1 → out.ids ≡ set b.ids b.count b.next
-          → out.kinds ≡ set b.kinds b.count 1
-          → out.starts ≡ set b.starts b.count o.first.far → out.ends ≡ set b.ends b.count o.second.far
-          → out.bends ≡ set b.bends b.count (o.first.count + 1 + o.second.count) → out.counts ≡ set b.counts b.count 0
-          → out.px ≡ b.px → out.py ≡ b.py → out.cycles ≡ b.cycles → out.steps ≡ b.steps → out.bx ≡ xs → out.by ≡ ys
-          → (l : Line) → l ≡ record { number = 0; first = a.next; new = 1; removed = a.count - b.count } → Joined a o bare p out l
-      joined_by out en' ec ei ek es ee eb eu ex' ey' ecy est ebx eby l el =
-          joined out
-          (λ i. record {
-            next = en' i;
-            count = ec i;
-            ids = ei i;
-            kinds = ek i;
-            starts = es i;
-            ends = ee i;
-            bends = eb i;
-            counts = eu i;
-            px = ex' i;
-            py = ey' i;
-            cycles = ecy i;
-            steps = est i;
-            bx = ebx i;
-            by = eby i;
-          }) l el
+      -- the row of the edge of both is written, and counted
+      pub joined_by : (out : Arrays)
+          → out ≡ row_put (with_both b xs ys) b.count a.next 1 o.first.far o.second.far (o.first.count + 1 + o.second.count) 0
+          → (l : Line) → l ≡ record { number = 0; first = a.next; new = 1; removed = a.count - b.count }
+          → Joined a o bare p (record out { next = a.next + 1; count = b.count + 1 }) l
+      joined_by out q =
+          joined (record out { next = a.next + 1; count = b.count + 1 }) (open_row_lem c out a.next o.first.far o.second.far k (sym en) q)

@@ -8,14 +8,15 @@ ghost use Rattle.complex.specs.Decode.{uncut};
 ghost use Rattle.store.specs.Index.{Rising, row_of};
 ghost use Rattle.store.specs.View.{sheet_of};
 ghost use Rattle.store.specs.Edits.{places_of};
-ghost use Rattle.lent.specs.Arrays.{held_by, of_lists};
-ghost use Rattle.lent.specs.Replies.{Ready, Obeyed};
+ghost use Rattle.lent.specs.Arrays.{held_by};
+ghost use Rattle.lent.specs.Replies.{Ready, Obeyed, line_says};
 ghost use Rattle.kind_uncut_joint.specs.Joining.{side_from, order_of, Merges, MergedIn, turned_if, joined_runs, Joins, Joined};
+ghost use Rattle.lent.specs.Sheets.{arrays, Same};
 
-use answer::Totals;
+use answer::{Question, Totals};
 use ask_uncut_vertex::Side;
 use coordinate::Position;
-use lent::Line;
+use lent::{Change, SheetMut};
 
 // The edge e, leaving a vertex backward or not.
 fn side_at(
@@ -77,39 +78,16 @@ fn order_of(x: Side, back1: bool, y: Side, back2: bool) -> Order
 }
 
 // The steps of x become those of the next cell, and those of y go; k cycles and m steps are in use.
-fn merge_steps(
-    next: u32,
-    count: usize,
-    ids: &[u32; 256],
-    kinds: &[u32; 256],
-    starts: &[u32; 256],
-    ends: &[u32; 256],
-    bends: &[u32; 256],
-    counts: &[u32; 256],
-    px: &[f64; 256],
-    py: &[f64; 256],
-    cycles: &mut [u32; 512],
-    steps: &mut [u32; 2048],
-    bx: &[f64; 2048],
-    by: &[f64; 2048],
-    k: usize,
-    m: usize,
-    x: u32,
-    y: u32,
-)
-    requires { Merges (of_lists next count ids.now kinds.now starts.now ends.now bends.now counts.now px.now py.now cycles.old steps.old bx.now by.now) k m x y }
-    ensures { MergedIn (of_lists next count ids.now kinds.now starts.now ends.now bends.now counts.now px.now py.now cycles.old steps.old bx.now by.now) x y (of_lists next count ids.now kinds.now starts.now ends.now bends.now counts.now px.now py.now cycles.new steps.new bx.now by.now) }
+fn merge_steps(sheet: &mut SheetMut<'_>, k: usize, m: usize, x: u32, y: u32)
+    requires { Merges (arrays sheet.old) k m x y }
+    ensures merged_in { MergedIn (arrays sheet.old) x y (arrays sheet.new) }
+    ensures same { Same sheet.old sheet.new }
+    ensures kept { arrays sheet.new ≡ record (arrays sheet.old) { cycles = sheet.new.cycles.now; steps = sheet.new.steps.now } }
 {
-    let one = rows_steps::one_for(x, next, false);
-    kernel_swap::swap_steps(
-        next, count, ids, kinds, starts, ends, bends, counts, px, py, cycles, steps, bx, by, k, m,
-        0, one,
-    );
+    let one = rows_steps::one_for(x, *sheet.next, false);
+    kernel_swap::swap_steps(sheet, k, m, 0, one);
     let none = rows_steps::none_for(y);
-    kernel_swap::swap_steps(
-        next, count, ids, kinds, starts, ends, bends, counts, px, py, cycles, steps, bx, by, k, m,
-        0, none,
-    );
+    kernel_swap::swap_steps(sheet, k, m, 0, none);
 }
 
 // The numbers from one place up to another, turned round or not.
@@ -137,50 +115,28 @@ fn join_runs(l: &mut [f64; 2048], t: usize, m1: usize, b1: bool, m2: usize, b2: 
 }
 
 // The vertex at p in the row bare and the two edges go, and the edge of both comes; t bends are in use.
-fn join(
-    next: &mut u32,
-    count: &mut usize,
-    ids: &mut [u32; 256],
-    kinds: &mut [u32; 256],
-    starts: &mut [u32; 256],
-    ends: &mut [u32; 256],
-    bends: &mut [u32; 256],
-    counts: &mut [u32; 256],
-    px: &mut [f64; 256],
-    py: &mut [f64; 256],
-    cycles: &[u32; 512],
-    steps: &[u32; 2048],
-    bx: &mut [f64; 2048],
-    by: &mut [f64; 2048],
-    o: Order,
-    bare: usize,
-    t: usize,
-    p: Position,
-) -> Line
-    requires { Joins (of_lists next.old count.old ids.old kinds.old starts.old ends.old bends.old counts.old px.old py.old cycles.now steps.now bx.old by.old) o bare t p }
-    ensures { Joined (of_lists next.old count.old ids.old kinds.old starts.old ends.old bends.old counts.old px.old py.old cycles.now steps.now bx.old by.old) o bare p (of_lists next.new count.new ids.new kinds.new starts.new ends.new bends.new counts.new px.new py.new cycles.now steps.now bx.new by.new) result }
+fn join(sheet: &mut SheetMut<'_>, o: Order, bare: usize, t: usize, p: Position) -> Change
+    requires { Joins (arrays sheet.old) o bare t p }
+    ensures joined { Joined (arrays sheet.old) o bare p (arrays sheet.new) (line_says (Ok result)) }
+    ensures same { Same sheet.old sheet.new }
+    ensures kept { arrays sheet.new ≡ record (arrays sheet.new) { cycles = sheet.old.cycles.now; steps = sheet.old.steps.now } }
 {
-    let n = *count;
-    let id = *next;
+    let n = *sheet.count;
+    let id = *sheet.next;
     let a = o.first;
     let b = o.second;
     let m1 = a.count;
     let m2 = b.count;
-    let k = kernel_drop::drop_three(
-        id, n, ids, kinds, starts, ends, bends, counts, px, py, cycles, steps, bx, by, a.row,
-        a.first, m1, b.row, b.first, m2, bare, t,
-    );
-    join_runs(bx, t, m1, o.turned, m2, o.turned2, p.x);
-    join_runs(by, t, m1, o.turned, m2, o.turned2, p.y);
+    kernel_drop::drop_three(sheet, a.row, a.first, m1, b.row, b.first, m2, bare, t);
+    let k = *sheet.count;
+    join_runs(sheet.bx, t, m1, o.turned, m2, o.turned2, p.x);
+    join_runs(sheet.by, t, m1, o.turned, m2, o.turned2, p.y);
     let m = (m1 + 1 + m2) as u32;
-    lent::put_row(
-        ids, kinds, starts, ends, bends, counts, k, id, 1, a.far, b.far, m, 0,
-    );
-    *count = k + 1;
-    *next = id + 1;
+    lent::put_row(sheet, k, id, 1, a.far, b.far, m, 0);
+    *sheet.count = k + 1;
+    *sheet.next = id + 1;
     let removed = (n - k) as u32;
-    Line {
-        number: 0,
+    Change {
         first: id,
         new: 1,
         removed,
@@ -189,48 +145,41 @@ fn join(
 
 // 0E at a vertex with one end each of the edges x and y, which leave it.
 pub fn jointed(
-    next: &mut u32,
-    count: &mut usize,
-    ids: &mut [u32; 256],
-    kinds: &mut [u32; 256],
-    starts: &mut [u32; 256],
-    ends: &mut [u32; 256],
-    bends: &mut [u32; 256],
-    counts: &mut [u32; 256],
-    px: &mut [f64; 256],
-    py: &mut [f64; 256],
-    cycles: &mut [u32; 512],
-    steps: &mut [u32; 2048],
-    bx: &mut [f64; 2048],
-    by: &mut [f64; 2048],
+    sheet: &mut SheetMut<'_>,
     t: Totals,
     v: u32,
     x: u32,
     back1: bool,
     y: u32,
     back2: bool,
-) -> Line
-    requires ready { Ready (of_lists next.old count.old ids.old kinds.old starts.old ends.old bends.old counts.old px.old py.old cycles.old steps.old bx.old by.old) t }
-    requires v_value { uncut_case (sheet_of (held_by (of_lists next.old count.old ids.old kinds.old starts.old ends.old bends.old counts.old px.old py.old cycles.old steps.old bx.old by.old))) v ≡ joint (record { edge = x; backward = back1 }) (record { edge = y; backward = back2 }) }
-    ensures { Obeyed (of_lists next.old count.old ids.old kinds.old starts.old ends.old bends.old counts.old px.old py.old cycles.old steps.old bx.old by.old) (uncut v) (of_lists next.new count.new ids.new kinds.new starts.new ends.new bends.new counts.new px.new py.new cycles.new steps.new bx.new by.new) result }
+) -> Result<Change, Question>
+    requires ready { Ready (arrays sheet.old) t }
+    requires v_value { uncut_case (sheet_of (held_by (arrays sheet.old))) v ≡ joint (record { edge = x; backward = back1 }) (record { edge = y; backward = back2 }) }
+    ensures obeyed { Obeyed (arrays sheet.old) (uncut v) (arrays sheet.new) (line_says result) }
+    ensures same { Same sheet.old sheet.new }
 {
-    let n = *count;
-    let id = *next;
-    let no = ask_uncut_vertex::bend_no(id, t, 2);
-    if no != 0 {
-        return lent::line_of(no);
-    }
-    let row = store::find(ids, n, v);
-    let p = lent::vertex_at(px, py, row);
-    let s = side_at(ids, n, starts, ends, bends, x, back1);
-    let u = side_at(ids, n, starts, ends, bends, y, back2);
-    let o = order_of(s, back1, u, back2);
-    merge_steps(
-        id, n, ids, kinds, starts, ends, bends, counts, px, py, cycles, steps, bx, by, t.cycles,
-        t.steps, x, y,
+    ask_uncut_vertex::bend_asked(*sheet.next, t, 2)?;
+    let row = store::find(sheet.ids, *sheet.count, v);
+    let p = lent::vertex_at(sheet.px, sheet.py, row);
+    let s = side_at(
+        sheet.ids,
+        *sheet.count,
+        sheet.starts,
+        sheet.ends,
+        sheet.bends,
+        x,
+        back1,
     );
-    join(
-        next, count, ids, kinds, starts, ends, bends, counts, px, py, cycles, steps, bx, by, o,
-        row, t.bends, p,
-    )
+    let u = side_at(
+        sheet.ids,
+        *sheet.count,
+        sheet.starts,
+        sheet.ends,
+        sheet.bends,
+        y,
+        back2,
+    );
+    let o = order_of(s, back1, u, back2);
+    merge_steps(sheet, t.cycles, t.steps, x, y);
+    Ok(join(sheet, o, row, t.bends, p))
 }

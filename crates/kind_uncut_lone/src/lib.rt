@@ -7,12 +7,12 @@ ghost use Rattle.complex.specs.Sound.{cycles_most, steps_most};
 ghost use Rattle.complex.specs.Uncut.{lonely};
 ghost use Rattle.rows_spans.specs.Building.{Built};
 ghost use Rattle.rows_corners.specs.Faces.{Within, cycles_at};
-ghost use Rattle.lent.specs.Arrays.{of_lists};
-ghost use Rattle.lent.specs.Replies.{Obeyed};
+ghost use Rattle.lent.specs.Replies.{Obeyed, line_says};
 ghost use Rattle.kind_uncut_lone.specs.Cases.{CaseIn};
+ghost use Rattle.lent.specs.Sheets.{arrays, Same};
 
-use answer::Totals;
-use lent::Line;
+use answer::{Question, Totals};
+use lent::{Change, SheetMut};
 use rows_spans::{Spans, Used};
 
 // The cycles that stand at s, but for cycle c.
@@ -44,48 +44,33 @@ fn all_but(
 }
 
 // 0E at a vertex with no edge end and one lone cycle: the vertex goes, and its face has the other cycles.
-pub fn lonely(
-    next: &mut u32,
-    count: &mut usize,
-    ids: &mut [u32; 256],
-    kinds: &mut [u32; 256],
-    starts: &mut [u32; 256],
-    ends: &mut [u32; 256],
-    bends: &mut [u32; 256],
-    counts: &mut [u32; 256],
-    px: &mut [f64; 256],
-    py: &mut [f64; 256],
-    cycles: &mut [u32; 512],
-    steps: &mut [u32; 2048],
-    bx: &mut [f64; 2048],
-    by: &mut [f64; 2048],
-    t: Totals,
-    v: u32,
-) -> Line
-    requires { CaseIn (of_lists next.old count.old ids.old kinds.old starts.old ends.old bends.old counts.old px.old py.old cycles.old steps.old bx.old by.old) t v lonely }
-    ensures { Obeyed (of_lists next.old count.old ids.old kinds.old starts.old ends.old bends.old counts.old px.old py.old cycles.old steps.old bx.old by.old) (uncut v) (of_lists next.new count.new ids.new kinds.new starts.new ends.new bends.new counts.new px.new py.new cycles.new steps.new bx.new by.new) result }
+pub fn lonely(sheet: &mut SheetMut<'_>, t: Totals, v: u32) -> Result<Change, Question>
+    requires { CaseIn (arrays sheet.old) t v lonely }
+    ensures obeyed { Obeyed (arrays sheet.old) (uncut v) (arrays sheet.new) (line_says result) }
+    ensures same { Same sheet.old sheet.new }
 {
-    let n = *count;
-    let id = *next;
-    let j = ask_uncut_lone::lone_place(cycles, t.cycles, steps, v);
-    let h = ask_uncut_lone::row_holding(counts, n, j);
+    let n = *sheet.count;
+    let j = ask_uncut_lone::lone_place(sheet.cycles, t.cycles, sheet.steps, v);
+    let h = ask_uncut_lone::row_holding(sheet.counts, n, j);
     let row = h.row;
-    let f = ids[row];
-    let s = kernel_cycles::spans_at(counts, cycles, row, t);
+    let f = sheet.ids[row];
+    let s = kernel_cycles::spans_at(sheet.counts, sheet.cycles, row, t);
     let mut numbers = [0u32; 512];
     let mut places = [0u32; 2048];
-    let u = all_but(cycles, steps, s, h.place, &mut numbers, &mut places);
-    let a = store::find(ids, n, v);
-    let k = kernel_reface::reface(
-        id, n, ids, kinds, starts, ends, bends, counts, px, py, cycles, steps, bx, by, v, a, v, a,
-        f, &numbers, &places, u,
+    let u = all_but(
+        sheet.cycles,
+        sheet.steps,
+        s,
+        h.place,
+        &mut numbers,
+        &mut places,
     );
-    *count = k;
-    let removed = (n - k) as u32;
-    Line {
-        number: 0,
+    let a = store::find(sheet.ids, n, v);
+    kernel_reface::reface(sheet, v, a, v, a, f, &numbers, &places, u);
+    let removed = (n - *sheet.count) as u32;
+    Ok(Change {
         first: 0,
         new: 0,
         removed,
-    }
+    })
 }

@@ -25,10 +25,10 @@ use Rattle.rows_steps.specs.declared.Swap.{Swap}
 use Rattle.law_uncut.proofs.Passing.{uncut_result_lem}
 use Rattle.ask_uncut_vertex.proofs.Answering.{new_outcome}
 use Rattle.ask_uncut_vertex.proofs.Joining.{loop_room, loop_result}
-use Rattle.lent.specs.Arrays.{Arrays, positions_in, held_by, Lengths}
+use Rattle.lent.specs.Arrays.{Arrays, positions_in, held_by, normal, Lengths}
 use Rattle.lent.specs.declared.Line.{Line}
 use Rattle.lent.specs.Replies.{answer_by, Ready, Obeyed}
-use Rattle.lent.specs.Growing.{with_closed}
+use Rattle.lent.specs.Growing.{row_put, with_closed}
 use Rattle.lent.proofs.Held.{held_sizes}
 use Rattle.lent.proofs.Sums.{bends_held, ready_rows, ready_drawing, ready_sizes, ready_fits}
 use Rattle.lent.proofs.Grown.{closed_long, closed_normal, closed_comes}
@@ -42,45 +42,37 @@ use Rattle.kind_uncut_loop.specs.Uncutting.{Plan, LoopGoes}
 more_one : (n m : ℕ) → n ≡ m → suc n ≡ m + 1
 more_one n m e = omega (arith, e)
 
--- the row of the closed edge is written
-closed_row_lem : (b o : Arrays) (k : ℕ) → o.next ≡ b.next + 1 → o.count ≡ b.count + 1 → o.ids ≡ set b.ids b.count b.next
-    → o.kinds ≡ set b.kinds b.count 2
-    → o.starts ≡ set b.starts b.count 0 → o.ends ≡ set b.ends b.count 0 → o.bends ≡ set b.bends b.count k
-    → o.counts ≡ set b.counts b.count 0
-    → o.px ≡ b.px → o.py ≡ b.py → o.cycles ≡ b.cycles → o.steps ≡ b.steps → o.bx ≡ b.bx → o.by ≡ b.by → o ≡ with_closed b k
-closed_row_lem b o k en ec ei ek es ee eb ey ex eu eq et ef eg =
-    λ i. record {
-      next = en i;
-      count = ec i;
-      ids = ei i;
-      kinds = ek i;
-      starts = es i;
-      ends = ee i;
-      bends = eb i;
-      counts = ey i;
-      px = ex i;
-      py = eu i;
-      cycles = eq i;
-      steps = et i;
-      bx = ef i;
-      by = eg i;
-    }
+-- the row of the closed edge, of the id n, is written
+closed_row_lem : (b o : Arrays) (n k : ℕ) → n ≡ b.next → o ≡ row_put b b.count n 2 0 0 k 0
+    → record o { next = n + 1; count = b.count + 1 } ≡ with_closed b k
+closed_row_lem b o n k en e =
+    ap (λ (x : Arrays). record x { next = n + 1; count = b.count + 1 }) e
+    ∙ ap (λ (i : ℕ). record (row_put b b.count i 2 0 0 k 0) { next = i + 1; count = b.count + 1 }) en
 
 module _ (a : Arrays) (t : Totals) (y : Ready a t) (v e : ℕ) (h : uncut_case (sheet_of (held_by a)) v ≡ loop e) (r : Plan) (g : LoopGoes a t v e r) where
   pub bends_in_lem : (r.base + r.m ≤ t.bends) × (t.bends ≤ 2048)
   bends_in_lem = row_range a y.long (ready_fits a t y) (ready_rows a t y) r.row r.base r.m t.bends g.edge
 
-  module _ (w : Swap) (ew : w ≡ one_for e a.next false) (cy st : List ℕ) (sw : SwappedIn w a (with_pools a cy st)) where
-    abbrev mid : Arrays
-    mid = with_pools a cy st
-
+  -- the steps are swapped
+  module _ (w : Swap) (ew : w ≡ one_for e a.next false) (mid : Arrays) (kept : mid ≡ with_pools a mid.cycles mid.steps) (sw : SwappedIn w a mid) where
     pub mid_edge : EdgeRow mid r.row r.base r.m t.bends
-    mid_edge = let k = g.edge in record { below = k.below; from = k.from; own = k.own; none = k.none; all = k.all }
+    mid_edge =
+        let k = g.edge in
+        subst (λ (b : Arrays). EdgeRow b r.row r.base r.m t.bends) (sym kept)
+        (record { below = k.below; from = k.from; own = k.own; none = k.none; all = k.all })
 
     pub mid_bare : BareRow mid r.vertex
-    mid_bare = let k = g.bare in record { below = k.below; bends = k.bends; cycles = k.cycles }
+    mid_bare =
+        let k = g.bare in
+        subst (λ (b : Arrays). BareRow b r.vertex) (sym kept) (record { below = k.below; bends = k.bends; cycles = k.cycles })
 
-    module _ (b : Arrays) (en : b.next ≡ a.next) (gone : PairGone mid r.vertex r.row r.base r.m t.bends r.p b) where
+    pub mid_rows : normal mid ≡ true
+    mid_rows = ap normal kept ∙ ready_rows a t y
+
+    module _ (b : Arrays) (en : b.next ≡ mid.next) (gone : PairGone mid r.vertex r.row r.base r.m t.bends r.p b) where
+      next_stays : b.next ≡ a.next
+      next_stays = en ∙ ap (λ (x : Arrays). x.next) kept
+
       abbrev step : ℕ → Figure → Figure
       step = rewired same_vertex (in_place_of e (sheet_of (held_by a)).next false)
 
@@ -114,7 +106,8 @@ module _ (a : Arrays) (t : Totals) (y : Ready a t) (v e : ℕ) (h : uncut_case (
       came =
           closed_comes b gone.long (r.m + 1) round room
           (more_one _ r.m (run_length r.base r.m (held_by a).bends (omega (arith, bends_in_lem.0, bends_in_lem.1, (ready_sizes a t y).bends))))
-          (ap (λ (n : ℕ). run_at n (r.m + 1) (positions_in b.bx b.by)) used ∙ gone.bends)
+          (ap (λ (n : ℕ). run_at n (r.m + 1) (positions_in b.bx b.by)) used ∙ gone.bends
+          ∙ ap (λ (x : Arrays). r.p ∷ run_at r.base r.m (positions_in x.bx x.by)) kept)
 
       made : sheet_of (held_by out) ≡ result (sheet_of (held_by a)) (uncut v)
       made =
@@ -131,17 +124,14 @@ module _ (a : Arrays) (t : Totals) (y : Ready a t) (v e : ℕ) (h : uncut_case (
             answers =
                 answers (held_by a) (ready_sizes a t y) (ready_drawing a t y) (uncut v) 0 g.asked refl (held_by out) (held_sizes out long) came.1 made
                 (answer_by k (held_by out))
-                (ap (λ (u : Line). answer_by u (held_by out)) ek ∙ new_outcome a.next a.count _ (held_by out) (ap (λ (n : ℕ). n + 1) en) (omega arith));
+                (ap (λ (u : Line). answer_by u (held_by out)) ek ∙ new_outcome a.next a.count _ (held_by out) (ap (λ (n : ℕ). n + 1) next_stays) (omega arith));
             back = λ n. absurd (n (ap (λ (u : Line). u.number) ek));
             rows = closed_normal b gone.long (r.m + 1) room.cells gone.keeps.rows;
           }
 
-      -- o is b with the row of the closed edge
-      pub obeyed_loop : (o : Arrays) → o.next ≡ b.next + 1 → o.count ≡ b.count + 1 → o.ids ≡ set b.ids b.count b.next
-          → o.kinds ≡ set b.kinds b.count 2
-          → o.starts ≡ set b.starts b.count 0 → o.ends ≡ set b.ends b.count 0 → o.bends ≡ set b.bends b.count (r.m + 1)
-          → o.counts ≡ set b.counts b.count 0
-          → o.px ≡ b.px → o.py ≡ b.py → o.cycles ≡ b.cycles → o.steps ≡ b.steps → o.bx ≡ b.bx → o.by ≡ b.by
-          → (k : Line) → k ≡ record { number = 0; first = a.next; new = 1; removed = a.count - b.count } → Obeyed a (uncut v) o k
-      obeyed_loop o e1 e2 e3 e4 e5 e6 e7 e8 e9 e10 e11 e12 e13 e14 k ek =
-          subst (λ (u : Arrays). Obeyed a (uncut v) u k) (sym (closed_row_lem b o (r.m + 1) e1 e2 e3 e4 e5 e6 e7 e8 e9 e10 e11 e12 e13 e14)) (obeyed k ek)
+      -- the row of the closed edge is written, and counted
+      pub obeyed_loop : (o : Arrays) → o ≡ row_put b b.count a.next 2 0 0 (r.m + 1) 0
+          → (k : Line) → k ≡ record { number = 0; first = a.next; new = 1; removed = a.count - b.count }
+          → Obeyed a (uncut v) (record o { next = a.next + 1; count = b.count + 1 }) k
+      obeyed_loop o q k ek =
+          subst (λ (u : Arrays). Obeyed a (uncut v) u k) (sym (closed_row_lem b o a.next (r.m + 1) (sym next_stays) q)) (obeyed k ek)

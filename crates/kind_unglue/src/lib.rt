@@ -3,11 +3,11 @@
 ghost use Rattle.std.specs.Prelude.{◌≡◌, cond, eqb};
 ghost use Rattle.complex.specs.Decode.{unglue as ungluing};
 ghost use Rattle.rows_uses.specs.declared.Use.TheVariants.{Step, Ring};
-ghost use Rattle.lent.specs.Arrays.{of_lists};
-ghost use Rattle.lent.specs.Replies.{Ready, Obeyed};
+ghost use Rattle.lent.specs.Replies.{Ready, Obeyed, line_says};
+ghost use Rattle.lent.specs.Sheets.{arrays, Same};
 
-use answer::Totals;
-use lent::Line;
+use answer::{Question, Totals};
+use lent::{Change, SheetMut};
 use rows_uses::Use;
 
 // What is copied with an edge of kind k: its steps, or its cycles if it is closed.
@@ -21,66 +21,36 @@ fn uses_of(k: u32) -> Use
 }
 
 // 09: a vertex by the groups of its ends; of an edge a copy for each use but the first.
-pub fn unglue(
-    next: &mut u32,
-    count: &mut usize,
-    ids: &mut [u32; 256],
-    kinds: &mut [u32; 256],
-    starts: &mut [u32; 256],
-    ends: &mut [u32; 256],
-    bends: &mut [u32; 256],
-    counts: &mut [u32; 256],
-    px: &mut [f64; 256],
-    py: &mut [f64; 256],
-    cycles: &mut [u32; 512],
-    steps: &mut [u32; 2048],
-    bx: &mut [f64; 2048],
-    by: &mut [f64; 2048],
-    t: Totals,
-    i: u32,
-) -> Line
-    requires { Ready (of_lists next.old count.old ids.old kinds.old starts.old ends.old bends.old counts.old px.old py.old cycles.old steps.old bx.old by.old) t }
-    ensures { Obeyed (of_lists next.old count.old ids.old kinds.old starts.old ends.old bends.old counts.old px.old py.old cycles.old steps.old bx.old by.old) (ungluing i) (of_lists next.new count.new ids.new kinds.new starts.new ends.new bends.new counts.new px.new py.new cycles.new steps.new bx.new by.new) result }
+pub fn unglue(sheet: &mut SheetMut<'_>, t: Totals, i: u32) -> Result<Change, Question>
+    requires { Ready (arrays sheet.old) t }
+    ensures obeyed { Obeyed (arrays sheet.old) (ungluing i) (arrays sheet.new) (line_says result) }
+    ensures same { Same sheet.old sheet.new }
 {
-    let n = *count;
-    let k = store::value_at(4, ids, kinds, n, i);
+    let n = *sheet.count;
+    let k = store::value_at(4, sheet.ids, sheet.kinds, n, i);
     if k == 0 {
-        return kind_unglue_vertex::unglue_vertex(
-            next, count, ids, kinds, starts, ends, bends, counts, px, py, cycles, steps, bx, by, t,
-            i,
-        );
+        return kind_unglue_vertex::unglue_vertex(sheet, t, i);
     }
     if 2 < k {
-        return lent::line_of(4);
+        return Err(Question::Live);
     }
     let u = uses_of(k);
     let m = t.cycles;
-    let parts = rows_uses::count_uses(u, cycles, m, steps, i);
+    let parts = rows_uses::count_uses(u, sheet.cycles, m, sheet.steps, i);
     if parts < 2 {
-        return lent::line_of(6);
+        return Err(Question::Rule);
     }
     let more = parts - 1;
-    let row = store::find(ids, n, i);
-    let b = store::wide(bends[row]);
-    let id = *next;
-    let no = ask_unglue::late_copies(id, t, b, more);
-    if no != 0 {
-        return lent::line_of(no);
-    }
-    kernel_copies::copy_uses(
-        u, id, n, ids, kinds, starts, ends, bends, counts, px, py, cycles, steps, bx, by, m, i, 0,
-    );
-    kernel_copies::put_copies(
-        id, n, ids, kinds, starts, ends, bends, counts, px, py, cycles, steps, bx, by, t.bends,
-        row, more,
-    );
+    let row = store::find(sheet.ids, n, i);
+    let b = store::wide(sheet.bends[row]);
+    let id = *sheet.next;
+    ask_unglue::copies_asked(id, t, b, more)?;
+    kernel_copies::copy_uses(u, sheet, m, i, 0);
+    kernel_copies::put_copies(sheet, t.bends, row, more);
     let new = more as u32;
-    *count = n + more;
-    *next = id + new;
-    Line {
-        number: 0,
+    Ok(Change {
         first: id,
         new,
         removed: 0,
-    }
+    })
 }

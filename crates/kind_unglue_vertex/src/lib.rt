@@ -5,30 +5,18 @@ ghost use Rattle.complex.specs.Cells.{cell_at, is_vertex};
 ghost use Rattle.complex.specs.Decode.{unglue as ungluing};
 ghost use Rattle.store.specs.View.{sheet_of};
 ghost use Rattle.ask_unglue.specs.Places.{GroupedEnds, Fresh};
-ghost use Rattle.lent.specs.Arrays.{held_by, rows_by, of_lists};
-ghost use Rattle.lent.specs.Replies.{Ready, Obeyed};
+ghost use Rattle.lent.specs.Arrays.{held_by, rows_by};
+ghost use Rattle.lent.specs.Replies.{Ready, Obeyed, line_says};
 ghost use Rattle.kind_unglue_vertex.specs.Parts.{VertexOf, Linkable};
+ghost use Rattle.lent.specs.Sheets.{arrays, seen, Same};
 
-use answer::Totals;
-use lent::Line;
+use answer::{Question, Totals};
+use lent::{Change, SheetMut, SheetRef};
 use rows_uses::Use;
 
 // The groups of the marked ends at vertex v, and how many there are; xs and ys have room for the links.
 fn link_ends(
-    next: u32,
-    count: usize,
-    ids: &[u32; 256],
-    kinds: &[u32; 256],
-    starts: &[u32; 256],
-    ends: &[u32; 256],
-    bends: &[u32; 256],
-    counts: &[u32; 256],
-    px: &[f64; 256],
-    py: &[f64; 256],
-    cycles: &[u32; 512],
-    steps: &[u32; 2048],
-    bx: &[f64; 2048],
-    by: &[f64; 2048],
+    view: &SheetRef<'_>,
     t: Totals,
     v: u32,
     at: &[bool],
@@ -36,151 +24,68 @@ fn link_ends(
     xs: &mut [u32],
     ys: &mut [u32],
 ) -> u32
-    requires ready { Ready (of_lists next count ids.now kinds.now starts.now ends.now bends.now counts.now px.now py.now cycles.now steps.now bx.now by.now) t }
-    requires t { T (is_vertex (cell_at (sheet_of (held_by (of_lists next count ids.now kinds.now starts.now ends.now bends.now counts.now px.now py.now cycles.now steps.now bx.now by.now))) v)) }
-    requires linkable { Linkable (rows_by (of_lists next count ids.now kinds.now starts.now ends.now bends.now counts.now px.now py.now cycles.now steps.now bx.now by.now)) v count at.now groups.old t.steps xs.old ys.old }
-    ensures grouped_ends { GroupedEnds (held_by (of_lists next count ids.now kinds.now starts.now ends.now bends.now counts.now px.now py.now cycles.now steps.now bx.now by.now)) (rows_by (of_lists next count ids.now kinds.now starts.now ends.now bends.now counts.now px.now py.now cycles.now steps.now bx.now by.now)) v result at.now groups.new }
+    requires ready { Ready (seen view.now) t }
+    requires t { T (is_vertex (cell_at (sheet_of (held_by (seen view.now))) v)) }
+    requires linkable { Linkable (rows_by (seen view.now)) v view.now.count at.now groups.old t.steps xs.old ys.old }
+    ensures grouped_ends { GroupedEnds (held_by (seen view.now)) (rows_by (seen view.now)) v result at.now groups.new }
     ensures upper_bound { result ≤ 512 }
 {
-    let k = rows_links::find_links(ids, count, at, cycles, t.cycles, steps, xs, ys);
-    rows_groups::find_groups(groups, at, xs, ys, k, count * 2)
+    let cycles = view.cycles;
+    let steps = view.steps;
+    let k = rows_links::find_links(view.ids, view.count, at, cycles, t.cycles, steps, xs, ys);
+    rows_groups::find_groups(groups, at, xs, ys, k, view.count * 2)
 }
 
 // The groups of the ends at vertex v, and how many there are. Room for the links is made as long as the steps ask for.
-fn group_ends(
-    next: u32,
-    count: usize,
-    ids: &[u32; 256],
-    kinds: &[u32; 256],
-    starts: &[u32; 256],
-    ends: &[u32; 256],
-    bends: &[u32; 256],
-    counts: &[u32; 256],
-    px: &[f64; 256],
-    py: &[f64; 256],
-    cycles: &[u32; 512],
-    steps: &[u32; 2048],
-    bx: &[f64; 2048],
-    by: &[f64; 2048],
-    t: Totals,
-    v: u32,
-    at: &mut [bool],
-    groups: &mut [u32],
-) -> u32
-    requires ready { Ready (of_lists next count ids.now kinds.now starts.now ends.now bends.now counts.now px.now py.now cycles.now steps.now bx.now by.now) t }
-    requires t { T (is_vertex (cell_at (sheet_of (held_by (of_lists next count ids.now kinds.now starts.now ends.now bends.now counts.now px.now py.now cycles.now steps.now bx.now by.now))) v)) }
+fn group_ends(view: &SheetRef<'_>, t: Totals, v: u32, at: &mut [bool], groups: &mut [u32]) -> u32
+    requires ready { Ready (seen view.now) t }
+    requires t { T (is_vertex (cell_at (sheet_of (held_by (seen view.now))) v)) }
     requires fresh { Fresh at.old groups.old }
-    ensures grouped_ends { GroupedEnds (held_by (of_lists next count ids.now kinds.now starts.now ends.now bends.now counts.now px.now py.now cycles.now steps.now bx.now by.now)) (rows_by (of_lists next count ids.now kinds.now starts.now ends.now bends.now counts.now px.now py.now cycles.now steps.now bx.now by.now)) v result at.new groups.new }
+    ensures grouped_ends { GroupedEnds (held_by (seen view.now)) (rows_by (seen view.now)) v result at.new groups.new }
     ensures upper_bound { result ≤ 512 }
 {
-    rows_ends::mark_ends(kinds, starts, ends, count, v, at);
+    let kinds = view.kinds;
+    let starts = view.starts;
+    let ends = view.ends;
+    rows_ends::mark_ends(kinds, starts, ends, view.count, v, at);
     if t.steps <= 256 {
         let mut xs = [0u32; 256];
         let mut ys = [0u32; 256];
-        return link_ends(
-            next, count, ids, kinds, starts, ends, bends, counts, px, py, cycles, steps, bx, by, t,
-            v, at, groups, &mut xs, &mut ys,
-        );
+        return link_ends(view, t, v, at, groups, &mut xs, &mut ys);
     }
     let mut xs = [0u32; 2048];
     let mut ys = [0u32; 2048];
-    link_ends(
-        next, count, ids, kinds, starts, ends, bends, counts, px, py, cycles, steps, bx, by, t, v,
-        at, groups, &mut xs, &mut ys,
-    )
+    link_ends(view, t, v, at, groups, &mut xs, &mut ys)
 }
 
 // 09, of a vertex by the groups of its ends and its lone cycles: a copy for each of them but the first.
-pub fn unglue_vertex(
-    next: &mut u32,
-    count: &mut usize,
-    ids: &mut [u32; 256],
-    kinds: &mut [u32; 256],
-    starts: &mut [u32; 256],
-    ends: &mut [u32; 256],
-    bends: &mut [u32; 256],
-    counts: &mut [u32; 256],
-    px: &mut [f64; 256],
-    py: &mut [f64; 256],
-    cycles: &mut [u32; 512],
-    steps: &mut [u32; 2048],
-    bx: &mut [f64; 2048],
-    by: &mut [f64; 2048],
-    t: Totals,
-    v: u32,
-) -> Line
-    requires { VertexOf (of_lists next.old count.old ids.old kinds.old starts.old ends.old bends.old counts.old px.old py.old cycles.old steps.old bx.old by.old) t v }
-    ensures { Obeyed (of_lists next.old count.old ids.old kinds.old starts.old ends.old bends.old counts.old px.old py.old cycles.old steps.old bx.old by.old) (ungluing v) (of_lists next.new count.new ids.new kinds.new starts.new ends.new bends.new counts.new px.new py.new cycles.new steps.new bx.new by.new) result }
+pub fn unglue_vertex(sheet: &mut SheetMut<'_>, t: Totals, v: u32) -> Result<Change, Question>
+    requires { VertexOf (arrays sheet.old) t v }
+    ensures obeyed { Obeyed (arrays sheet.old) (ungluing v) (arrays sheet.new) (line_says result) }
+    ensures same { Same sheet.old sheet.new }
 {
-    let n = *count;
-    let id = *next;
+    let n = *sheet.count;
+    let id = *sheet.next;
     let mut at = [false; 512];
     let mut groups = [0u32; 512];
-    let g = group_ends(
-        id,
-        n,
-        ids,
-        kinds,
-        starts,
-        ends,
-        bends,
-        counts,
-        px,
-        py,
-        cycles,
-        steps,
-        bx,
-        by,
-        t,
-        v,
-        &mut at,
-        &mut groups,
-    );
-    let lone = rows_uses::count_uses(Use::Lone, cycles, t.cycles, steps, v);
+    let g = group_ends(&sheet.view(), t, v, &mut at, &mut groups);
+    let lone = rows_uses::count_uses(Use::Lone, sheet.cycles, t.cycles, sheet.steps, v);
     let k = store::wide(g);
     let parts = k + lone;
     if parts < 2 {
-        return lent::line_of(6);
+        return Err(Question::Rule);
     }
     let more = parts - 1;
-    let no = ask_unglue::late_copies(id, t, 0, more);
-    if no != 0 {
-        return lent::line_of(no);
-    }
-    let row = store::find(ids, n, v);
-    rows_ends::new_ends(0, &at, &groups, n, v, id, starts);
-    rows_ends::new_ends(1, &at, &groups, n, v, id, ends);
-    kernel_copies::copy_uses(
-        Use::Lone,
-        id,
-        n,
-        ids,
-        kinds,
-        starts,
-        ends,
-        bends,
-        counts,
-        px,
-        py,
-        cycles,
-        steps,
-        bx,
-        by,
-        t.cycles,
-        v,
-        k,
-    );
-    kernel_copies::put_copies(
-        id, n, ids, kinds, starts, ends, bends, counts, px, py, cycles, steps, bx, by, t.bends,
-        row, more,
-    );
+    ask_unglue::copies_asked(id, t, 0, more)?;
+    let row = store::find(sheet.ids, n, v);
+    rows_ends::new_ends(0, &at, &groups, n, v, id, sheet.starts);
+    rows_ends::new_ends(1, &at, &groups, n, v, id, sheet.ends);
+    kernel_copies::copy_uses(Use::Lone, sheet, t.cycles, v, k);
+    kernel_copies::put_copies(sheet, t.bends, row, more);
     let new = more as u32;
-    *count = n + more;
-    *next = id + new;
-    Line {
-        number: 0,
+    Ok(Change {
         first: id,
         new,
         removed: 0,
-    }
+    })
 }

@@ -1,10 +1,3 @@
 #![tactic(auto)]
 
-use rows_corners::Listed;
-
-// The cycles of two faces.
-#[derive(Clone, Copy)]
-pub struct Parts {
-    pub old: Listed,
-    pub new: Listed,
-}
+// What 0B and 0D make of a sheet: definitions stand in specs/, laws in proofs/.

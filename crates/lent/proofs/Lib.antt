@@ -3,3 +3,4 @@ pub mod Replies
 pub mod Sums
 pub mod Finds
 pub mod Grown
+pub mod Refusals

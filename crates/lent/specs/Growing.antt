@@ -27,6 +27,18 @@ with_row a k s e b c xs ys =
       by = a.by;
     }
 
+-- the id and the kind, start, end, bends and cycles in a row
+abbrev pub row_put : Arrays → ℕ → ℕ → ℕ → ℕ → ℕ → ℕ → ℕ → Arrays
+row_put a row i k s e b c =
+    record a {
+      ids = set a.ids row i;
+      kinds = set a.kinds row k;
+      starts = set a.starts row s;
+      ends = set a.ends row e;
+      bends = set a.bends row b;
+      counts = set a.counts row c;
+    }
+
 abbrev pub with_vertex : Arrays → Position → Arrays
 with_vertex a p = with_row a 0 0 0 0 0 (set a.px a.count p.x) (set a.py a.count p.y)
 
@@ -55,6 +67,14 @@ up_with ys i (Vertex p) = set ys i p.y
 up_with ys i (Open s e n) = ys
 up_with ys i (Closed n) = ys
 up_with ys i (Face k) = ys
+
+-- the id i and the shape x in a row: every number, and the position of a vertex
+abbrev pub cell_put : Arrays → ℕ → ℕ → Shape → Arrays
+cell_put a row i x =
+    record (row_put a row i (kind_of x) (shape_start x) (shape_end x) (bend_count x) (cycle_count x)) {
+      px = across_with a.px row x;
+      py = up_with a.py row x;
+    }
 
 -- the id i and the shape x are written into a row: every number, and the position of a vertex
 pub record RowPut (row i : ℕ) (x : Shape) (is ks ss es bs cs : List ℕ) (xs ys : List Float)

@@ -1,3 +1,4 @@
 pub mod Arrays
 pub mod Replies
 pub mod Growing
+pub mod Sheets

@@ -1,5 +1,5 @@
 -- What a command on lent arrays answers, and what it leaves in them. Definitions only.
-use Rattle.std.specs.Prelude.{ℕ, ◌≡◌, true, cond, T}
+use Rattle.std.specs.Prelude.{ℕ, ◌≡◌, true, cond, T, Result, Ok, Err}
 use Rattle.complex.specs.Cells.{Sheet}
 use Rattle.complex.specs.Decode.{Command, Order, edit, renumber}
 use Rattle.complex.specs.Renumber.{renumbered}
@@ -7,14 +7,22 @@ use Rattle.complex.specs.Answer.{Answer as Said, no, ordered}
 use Rattle.store.specs.View.{sheet_of, Fits}
 use Rattle.store.specs.declared.Drawing.{Drawing}
 use Rattle.answer.specs.declared.Answer.{Answer}
+use Rattle.answer.specs.declared.Question.{Question}
+use Rattle.answer.specs.Questions.{number_of}
 use Rattle.answer.specs.declared.Totals.{Totals}
 use Rattle.answer.specs.Answers.{said_by, Answers}
 use Rattle.lent.specs.Arrays.{Arrays, held_by, normal, sound_arrays, totals_of, Lengths}
+use Rattle.lent.specs.declared.Change.{Change}
 use Rattle.lent.specs.declared.Line.{Line}
 
 -- the line of a command that issues nothing
 abbrev pub line_of : ℕ → Line
 line_of n = record { number = n; first = 0; new = 0; removed = 0 }
+
+-- the line of what a command did, or of the first no
+abbrev pub line_says : Result Change Question → Line
+line_says (Ok c) = record { number = 0; first = c.first; new = c.new; removed = c.removed }
+line_says (Err q) = line_of (number_of q)
 
 -- the answer that a line and the drawing after it give
 abbrev pub answer_by : Line → Drawing → Answer

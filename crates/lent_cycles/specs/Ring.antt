@@ -1,4 +1,5 @@
 -- The cycles of lent arrays, each with its steps after those of the cycles before it. Definitions only.
+use Rattle.std.specs.Prelude.{Option, Some, None}
 use Rattle.std.specs.Prelude.{ℕ, ◌+◌, ◌≡◌, Bool, ◌&&◌, cond, List, leb, length, take, drop, get_or}
 use Rattle.number.specs.Said.{Said, done, no}
 use Rattle.complex.specs.Lists.{total}
@@ -6,8 +7,6 @@ use Rattle.complex.specs.Sound.{cells_most, steps_most}
 use Rattle.store.specs.Edits.{places_of}
 use Rattle.sound.specs.Rows.{Rows, cycle_good, all_from}
 use Rattle.lent_table.specs.Table.{Table}
-use Rattle.lent_cycles.specs.declared.Steps.{Steps}
-use Rattle.lent_cycles.specs.declared.Steps.TheVariants.{Upto, Fault}
 
 -- the arrays of n rows, and their table of ids
 pub record Looked (n : ℕ) (ts is ks ss es : List ℕ) : Type 0 where
@@ -28,7 +27,7 @@ cycle_right t ns st i = cycle_good t (get_or ns i 0) (drop (steps_upto ns i) st)
 abbrev pub cycles_right : Rows → List ℕ → List ℕ → ℕ → ℕ → Bool
 cycles_right t ns st k m = leb (steps_upto ns (k + m)) steps_most && all_from (cycle_right t ns st) k m
 
--- the cases of `Steps`: 0 with how many there are, or 1
-abbrev pub steps_say : Steps → Said ℕ
-steps_say (Upto s) = done s
-steps_say Fault = no 1
+-- 0 with how many there are, or 1
+abbrev pub steps_say : Option ℕ → Said ℕ
+steps_say (Some s) = done s
+steps_say None = no 1

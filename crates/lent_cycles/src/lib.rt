@@ -15,13 +15,6 @@ const OPEN: u32 = 1;
 
 const CLOSED: u32 = 2;
 
-// How many steps the cycles have up to the last that was looked at, or a fault of one.
-#[derive(Clone, Copy)]
-pub enum Steps {
-    Upto(usize),
-    Fault,
-}
-
 // Whether m halfedges lead from u to w.
 fn walk(
     table: &[u8; 1024],
@@ -42,8 +35,7 @@ fn walk(
     ensures { result ≡ leads_in (rows_of n ids.now kinds.now starts.now ends.now) u (take m (drop from steps.now)) w }
 {
     let mut at = u;
-    let mut i: usize = 0;
-    while i < m {
+    for i in 0..m {
         let s = steps[from + i];
         let row = lent_table::row_of(table, ids, n, s / 2);
         if n <= row {
@@ -53,7 +45,6 @@ fn walk(
             return false;
         }
         at = rows_halfedge::side(ends, starts, n, row, s);
-        i = i + 1;
     }
     at == w
 }
@@ -64,13 +55,11 @@ fn repeated(steps: &[u32; 2048], from: usize, m: usize, s: u32) -> bool
     requires m_bound { from + m ≤ steps_most }
     ensures { result ≡ all (eqb s) (take m (drop from steps.now)) }
 {
-    let mut i: usize = 0;
-    while i < m {
+    for i in 0..m {
         let t = steps[from + i];
         if s != t {
             return false;
         }
-        i = i + 1;
     }
     true
 }
@@ -114,7 +103,7 @@ fn cycle_good(
     false
 }
 
-// The steps up to the last of m cycles from the cycle k on, whose steps begin at from; or a fault, at the first cycle
+// The steps up to the last of m cycles from the cycle k on, whose steps begin at from; none at the first cycle
 // that passes the ceiling or is not right.
 pub fn cycles_good(
     table: &[u8; 1024],
@@ -128,7 +117,7 @@ pub fn cycles_good(
     k: usize,
     m: usize,
     from: usize,
-) -> Steps
+) -> Option<usize>
     requires looked { Looked n table.now ids.now kinds.now starts.now ends.now }
     requires cycles_len { length cycles.now ≡ cycles_most }
     requires steps_len { length steps.now ≡ steps_most }
@@ -138,18 +127,16 @@ pub fn cycles_good(
     ensures { steps_say result ≡ cond (cycles_right (rows_of n ids.now kinds.now starts.now ends.now) cycles.now steps.now k m) (done (steps_upto cycles.now (k + m))) (no 1) }
 {
     let mut at = from;
-    let mut i: usize = 0;
-    while i < m {
+    for i in 0..m {
         let c = cycles[k + i];
         let w = store::places(1, c);
         if STEPS_MOST - at < w {
-            return Steps::Fault;
+            return None;
         }
         if !cycle_good(table, ids, kinds, starts, ends, n, steps, at, c) {
-            return Steps::Fault;
+            return None;
         }
         at = at + w;
-        i = i + 1;
     }
-    Steps::Upto(at)
+    Some(at)
 }

@@ -1,4 +1,5 @@
 -- One row after another, with the sums so far. Assumes nothing.
+use Rattle.std.specs.Prelude.{Option, Some, None}
 use Prim.Native.Nat.{ℕ, ◌+◌, ◌-◌, ◌<◌, ◌≤◌}
 use mathlib.Core.Path.{◌≡◌, refl, ap, ap₂, sym, ◌∙◌}
 use mathlib.Core.Bool.{Bool, true, false, ◌&&◌, cond}
@@ -18,8 +19,6 @@ use Rattle.answer.specs.declared.Totals.{Totals}
 use Rattle.lent.specs.Arrays.{Arrays, position_in, normal_at}
 use Rattle.lent_table.specs.Table.{Table}
 use Rattle.lent_cycles.specs.Ring.{Looked, steps_upto, cycle_right, cycles_right, steps_say}
-use Rattle.lent_cycles.specs.declared.Steps.{Steps}
-use Rattle.lent_cycles.specs.declared.Steps.TheVariants.{Upto as Summed, Fault as Stop}
 use Rattle.lent_row.specs.Row.{places_upto, rows_in, row_right, totals_upto, Upto}
 use Rattle.lent_figure.specs.Figure.{figure_right}
 
@@ -97,11 +96,11 @@ module _ {a : Arrays} {i : ℕ} {t : Totals} (u : Upto a i t) (h : i < a.count) 
     right_is : row_right a i ≡ cycles_right (rows_in a) a.cycles a.steps t.cycles c
     right_is = left ∙ ap₂ (cycles_right (rows_in a) a.cycles a.steps) (sym cycles_so) (sym ec)
 
-    abbrev Stepped : Steps → Type 0
+    abbrev Stepped : Option ℕ → Type 0
     Stepped w = steps_say w ≡ cond (cycles_right (rows_in a) a.cycles a.steps t.cycles c) (done (steps_upto a.cycles (t.cycles + c))) (no 1)
 
     -- a row without cycles: nothing is wrong with them, and the steps are those before it
-    none_right : c ≡ 0 → Stepped (Summed t.steps)
+    none_right : c ≡ 0 → Stepped (Some t.steps)
     none_right z =
         let p : t.cycles ≡ t.cycles + c = omega (arith, z) in
         let q : t.steps ≡ steps_upto a.cycles (t.cycles + c) = steps_so ∙ ap (steps_upto a.cycles) p in
@@ -110,13 +109,13 @@ module _ {a : Arrays} {i : ℕ} {t : Totals} (u : Upto a i t) (h : i < a.count) 
         (ap (all_from (cycle_right (rows_in a) a.cycles a.steps) t.cycles) z) in
         ap done q ∙ sym (ap (λ x. cond x (done (steps_upto a.cycles (t.cycles + c))) (no 1)) b)
 
-    pub row_stop : (w : Steps) → Stepped w → w ≡ Stop → no 1 ≡ said (row_right a i)
+    pub row_stop : (w : Option ℕ) → Stepped w → w ≡ None → no 1 ≡ said (row_right a i)
     row_stop w ew q =
         sym (ap said
         (right_is ∙ said_no (cycles_right (rows_in a) a.cycles a.steps t.cycles c) (steps_upto a.cycles (t.cycles + c)) (ap steps_say (sym q) ∙ ew)))
 
     module _ (b : ℕ) (eb : b ≡ get_or a.bends i 0) where
-      pub row_done : (w : Steps) → Stepped w → (s : ℕ) → w ≡ Summed s
+      pub row_done : (w : Option ℕ) → Stepped w → (s : ℕ) → w ≡ Some s
           → done (record { cells = i + 1; cycles = t.cycles + c; steps = s; bends = t.bends + b }) ≡ said (row_right a i)
       row_done w ew s q =
           let d = said_done (cycles_right (rows_in a) a.cycles a.steps t.cycles c) s (steps_upto a.cycles (t.cycles + c))
@@ -127,7 +126,7 @@ module _ {a : Arrays} {i : ℕ} {t : Totals} (u : Upto a i t) (h : i < a.count) 
           ∙ sym (ap said (right_is ∙ d.0))
 
       row_none : c ≡ 0 → done (record { cells = i + 1; cycles = t.cycles + c; steps = t.steps; bends = t.bends + b }) ≡ said (row_right a i)
-      row_none z = row_done (Summed t.steps) (none_right z) t.steps refl
+      row_none z = row_done (Some t.steps) (none_right z) t.steps refl
 
   -- a row without cycles passes no ceiling of theirs
   pub row_plain : (c : ℕ) → c ≡ get_or a.counts i 0 → row_right a i ≡ after_bends a i → (b : ℕ) → b ≡ get_or a.bends i 0 → c ≡ 0

@@ -1,4 +1,5 @@
 -- The rules of one row of lent arrays, but for the places of its bends. Definitions only.
+use Rattle.std.specs.Prelude.{Option, Some, None}
 use Rattle.std.specs.Prelude.{ℕ, ◌+◌, ◌≤◌, ◌≡◌, Bool, ◌&&◌, List, [], leb, Float, take, get_or}
 use Rattle.number.specs.Said.{Said, done, no}
 use Rattle.complex.specs.Lists.{total}
@@ -10,8 +11,6 @@ use Rattle.answer.specs.declared.Totals.{Totals}
 use Rattle.lent.specs.Arrays.{Arrays, Lengths, of_lists, position_in, normal_at, totals_by}
 use Rattle.lent_cycles.specs.Ring.{cycles_right}
 use Rattle.lent_figure.specs.Figure.{figure_right}
-use Rattle.lent_row.specs.declared.Row.{Row}
-use Rattle.lent_row.specs.declared.Row.TheVariants.{Sums, Fault}
 
 -- ---- the rules
 -- the places that the counts of the first i rows stand for
@@ -49,10 +48,10 @@ pub record RowLengths (a : Arrays) : Type 0 where
       a.px a.py a.cycles a.steps xs ys)
 
 -- ---- what is said of a row
--- the cases of `Row`: 0 with the sums, or 1
-abbrev pub row_says : Row → Said Totals
-row_says (Sums t) = done t
-row_says Fault = no 1
+-- 0 with the sums, or 1
+abbrev pub row_says : Option Totals → Said Totals
+row_says (Some t) = done t
+row_says None = no 1
 
 -- the sums of the first i rows
 abbrev pub totals_upto : Arrays → ℕ → Totals

@@ -7,60 +7,53 @@ ghost use Rattle.lent_row.specs.Row.{row_right, row_says, totals_upto, bare, Upt
 
 use answer::Totals;
 use coordinate::Position;
-use lent_cycles::Steps;
+use lent::SheetRef;
 
 const CYCLES_MOST: usize = 512;
 
 const BENDS_MOST: usize = 2048;
 
-// The sums with a row, or its fault.
-#[derive(Clone, Copy)]
-pub enum Row {
-    Sums(Totals),
-    Fault,
-}
-
-// The cell in row i but for the places of its bends, where t are the sums of the rows before it: the sums with it, or its fault.
+// The cell in row i but for the places of its bends, where t are the sums of the rows before it: the sums with it, or none at its fault.
 // What depends on the kind is asked first, all at once: so the kind is looked at once.
-pub fn row_right(
-    next: u32,
-    count: usize,
-    ids: &[u32; 256],
-    kinds: &[u32; 256],
-    starts: &[u32; 256],
-    ends: &[u32; 256],
-    bends: &[u32; 256],
-    counts: &[u32; 256],
-    px: &[f64; 256],
-    py: &[f64; 256],
-    cycles: &[u32; 512],
-    steps: &[u32; 2048],
-    t: Totals,
-    table: &[u8; 1024],
-    i: usize,
-) -> Row
-    requires upto { Upto (bare next count ids.now kinds.now starts.now ends.now bends.now counts.now px.now py.now cycles.now steps.now) i t }
-    requires table { Table count table.now ids.now }
-    requires i_lt_count { i < count }
-    ensures { row_says result ≡ cond (row_right (bare next count ids.now kinds.now starts.now ends.now bends.now counts.now px.now py.now cycles.now steps.now) i) (done (totals_upto (bare next count ids.now kinds.now starts.now ends.now bends.now counts.now px.now py.now cycles.now steps.now) (i + 1))) (no 1) }
+pub fn row_right(view: &SheetRef<'_>, t: Totals, table: &[u8; 1024], i: usize) -> Option<Totals>
+    requires upto { Upto (bare view.now.next view.now.count view.now.ids.now view.now.kinds.now view.now.starts.now view.now.ends.now view.now.bends.now view.now.counts.now view.now.px.now view.now.py.now view.now.cycles.now view.now.steps.now) i t }
+    requires table { Table view.now.count table.now view.now.ids.now }
+    requires i_lt_count { i < view.now.count }
+    ensures { row_says result ≡ cond (row_right (bare view.now.next view.now.count view.now.ids.now view.now.kinds.now view.now.starts.now view.now.ends.now view.now.bends.now view.now.counts.now view.now.px.now view.now.py.now view.now.cycles.now view.now.steps.now) i) (done (totals_upto (bare view.now.next view.now.count view.now.ids.now view.now.kinds.now view.now.starts.now view.now.ends.now view.now.bends.now view.now.counts.now view.now.px.now view.now.py.now view.now.cycles.now view.now.steps.now) (i + 1))) (no 1) }
 {
-    if !lent_figure::id_right(next, ids, i) {
-        return Row::Fault;
+    if !lent_figure::id_right(view.next, view.ids, i) {
+        return None;
     }
-    if !lent_figure::row_normal(kinds[i], starts[i], ends[i], bends[i], counts[i]) {
-        return Row::Fault;
+    if !lent_figure::row_normal(
+        view.kinds[i],
+        view.starts[i],
+        view.ends[i],
+        view.bends[i],
+        view.counts[i],
+    ) {
+        return None;
     }
-    let p = lent::vertex_at(px, py, i);
-    if !lent_figure::figure_right(table, ids, kinds, starts, ends, count, i, bends[i], p) {
-        return Row::Fault;
+    let p = lent::vertex_at(view.px, view.py, i);
+    if !lent_figure::figure_right(
+        table,
+        view.ids,
+        view.kinds,
+        view.starts,
+        view.ends,
+        view.count,
+        i,
+        view.bends[i],
+        p,
+    ) {
+        return None;
     }
-    let b = store::wide(bends[i]);
+    let b = store::wide(view.bends[i]);
     if BENDS_MOST - t.bends < b {
-        return Row::Fault;
+        return None;
     }
-    let c = store::wide(counts[i]);
+    let c = store::wide(view.counts[i]);
     if c == 0 {
-        return Row::Sums(Totals {
+        return Some(Totals {
             cells: i + 1,
             cycles: t.cycles + c,
             steps: t.steps,
@@ -68,14 +61,24 @@ pub fn row_right(
         });
     }
     if CYCLES_MOST - t.cycles < c {
-        return Row::Fault;
+        return None;
     }
-    let Steps::Upto(s) = lent_cycles::cycles_good(
-        table, ids, kinds, starts, ends, count, cycles, steps, t.cycles, c, t.steps,
+    let Some(s) = lent_cycles::cycles_good(
+        table,
+        view.ids,
+        view.kinds,
+        view.starts,
+        view.ends,
+        view.count,
+        view.cycles,
+        view.steps,
+        t.cycles,
+        c,
+        t.steps,
     ) else {
-        return Row::Fault;
+        return None;
     };
-    Row::Sums(Totals {
+    Some(Totals {
         cells: i + 1,
         cycles: t.cycles + c,
         steps: s,

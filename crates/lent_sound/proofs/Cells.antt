@@ -1,4 +1,5 @@
 -- One cell after another, with the sums so far. Assumes nothing.
+use Rattle.std.specs.Prelude.{Option, Some, None, Result, Ok, Err}
 use Prim.Native.Nat.{ℕ, ◌+◌, ◌-◌, ◌<◌, ◌≤◌}
 use mathlib.Core.Path.{◌≡◌, refl, ap, ap₂, sym, ◌∙◌}
 use mathlib.Core.Bool.{Bool, true, false, cond}
@@ -16,15 +17,9 @@ use Rattle.sound.proofs.Testing.{and_true, and_false, Counting, counting_turn, c
 use Rattle.answer.specs.declared.Totals.{Totals}
 use Rattle.lent.specs.Arrays.{Arrays, position_in, normal_at, totals_of, Lengths}
 use Rattle.lent_cycles.specs.Ring.{steps_upto}
-use Rattle.lent_row.specs.declared.Row.{Row}
-use Rattle.lent_row.specs.declared.Row.TheVariants.{Sums, Fault}
 use Rattle.lent_row.specs.Row.{places_upto, rows_in, row_right, bare_of, row_says, totals_upto, RowLengths, Upto}
 use Rattle.lent_figure.specs.Figure.{figure_right}
 use Rattle.lent_row.proofs.Rows.{said_no, said_done, places_more}
-use Rattle.lent_sound.specs.declared.Walked.{Walked}
-use Rattle.lent_sound.specs.declared.Walked.TheVariants.{Sound, Fault as Wrong}
-use Rattle.lent_sound.specs.declared.Visited.{Visited}
-use Rattle.lent_sound.specs.declared.Visited.TheVariants.{All, Upto as Stopped}
 use Rattle.lent_sound.specs.Walk.{bend_right, right_at, walk_right, walk_visits, walk_says, visit_says}
 
 -- ---- the next id and the number of cells
@@ -36,11 +31,11 @@ module _ (a : Arrays) (l : RowLengths a) (few : a.count ≤ cells_most) where
   pub rows_start : Upto a 0 (record { cells = 0; cycles = 0; steps = 0; bends = 0 })
   rows_start = record { few = few; sized = l; sums = refl; bends = omega arith; cycles = omega arith; steps = omega arith }
 
-  module _ (i : ℕ) (h : i < a.count) (r : Row) (e : row_says r ≡ cond (row_right a i) (done (totals_upto a (i + 1))) (no 1)) where
-    pub row_wrong : r ≡ Fault → row_right a i ≡ false
+  module _ (i : ℕ) (h : i < a.count) (r : Option Totals) (e : row_says r ≡ cond (row_right a i) (done (totals_upto a (i + 1))) (no 1)) where
+    pub row_wrong : r ≡ None → row_right a i ≡ false
     row_wrong q = said_no (row_right a i) (totals_upto a (i + 1)) (ap row_says (sym q) ∙ e)
 
-    module _ (t : Totals) (q : r ≡ Sums t) where
+    module _ (t : Totals) (q : r ≡ Some t) where
       told : (row_right a i ≡ true) × (t ≡ totals_upto a (i + 1))
       told = said_done (row_right a i) t (totals_upto a (i + 1)) (ap row_says (sym q) ∙ e)
 
@@ -123,16 +118,16 @@ module _ (look : Bool) (a : Arrays) (l : Lengths a) where
     )
 
 -- ---- what the walk said
-module _ (x : Said Totals) (r : Visited) (e : visit_says r ≡ x) where
-  pub visited_no : (n : ℕ) → r ≡ Stopped n → no 1 ≡ x
+module _ (x : Said Totals) (r : Result Totals ℕ) (e : visit_says r ≡ x) where
+  pub visited_no : (n : ℕ) → r ≡ Err n → no 1 ≡ x
   visited_no n q = ap visit_says (sym q) ∙ e
 
-  pub visited_yes : (t : Totals) → r ≡ All t → done t ≡ x
+  pub visited_yes : (t : Totals) → r ≡ Ok t → done t ≡ x
   visited_yes t q = ap visit_says (sym q) ∙ e
 
-module _ (b : Bool) (t : Totals) (r : Walked) (e : walk_says r ≡ cond b (done t) (no 1)) where
-  pub walked_no : r ≡ Wrong → false ≡ b
+module _ (b : Bool) (t : Totals) (r : Option Totals) (e : walk_says r ≡ cond b (done t) (no 1)) where
+  pub walked_no : r ≡ None → false ≡ b
   walked_no q = sym (said_no b t (ap walk_says (sym q) ∙ e))
 
-  pub walked_yes : (u : Totals) → r ≡ Sound u → true ≡ b
+  pub walked_yes : (u : Totals) → r ≡ Some u → true ≡ b
   walked_yes u q = sym (said_done b u t (ap walk_says (sym q) ∙ e)).0

@@ -1,4 +1,5 @@
 -- Question 1 of lent arrays, cell by cell in the order in which they stand. Definitions only.
+use Rattle.std.specs.Prelude.{Option, Some, None, Result, Ok, Err}
 use Rattle.std.specs.Prelude.{ℕ, Bool, true, ◌&&◌, cond, List, Float, get_or}
 use Rattle.number.specs.Said.{Said, done, no}
 use Rattle.coordinate.specs.Bounds.{within}
@@ -7,10 +8,6 @@ use Rattle.sound.specs.Rows.{all_from}
 use Rattle.answer.specs.declared.Totals.{Totals}
 use Rattle.lent.specs.Arrays.{Arrays, position_in}
 use Rattle.lent_row.specs.Row.{places_upto, row_right}
-use Rattle.lent_sound.specs.declared.Walked.{Walked}
-use Rattle.lent_sound.specs.declared.Walked.TheVariants.{Sound, Fault}
-use Rattle.lent_sound.specs.declared.Visited.{Visited}
-use Rattle.lent_sound.specs.declared.Visited.TheVariants.{All, Upto}
 
 -- the bend in place j lies in bounds
 abbrev pub bend_right : List Float → List Float → ℕ → Bool
@@ -28,16 +25,16 @@ walk_right look a = bounds_right a.next a.count && all_from (right_at look a) 0 
 abbrev pub walk_visits : Bool → Arrays → ℕ
 walk_visits look a = cond (bounds_right a.next a.count) (visits (right_at look a) 0 a.count) 0
 
--- the cases of `Walked`: 0 with the sums, or 1
-abbrev pub walk_says : Walked → Said Totals
-walk_says (Sound t) = done t
-walk_says Fault = no 1
+-- 0 with the sums, or 1
+abbrev pub walk_says : Option Totals → Said Totals
+walk_says (Some t) = done t
+walk_says None = no 1
 
--- the cases of `Visited`: the same, and the count of cells visited
-abbrev pub visit_says : Visited → Said Totals
-visit_says (All t) = done t
-visit_says (Upto n) = no 1
+-- the same, and the count of cells visited
+abbrev pub visit_says : Result Totals ℕ → Said Totals
+visit_says (Ok t) = done t
+visit_says (Err n) = no 1
 
-abbrev pub visit_count : Visited → ℕ
-visit_count (All t) = t.cells
-visit_count (Upto n) = n
+abbrev pub visit_count : Result Totals ℕ → ℕ
+visit_count (Ok t) = t.cells
+visit_count (Err n) = n

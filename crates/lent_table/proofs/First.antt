@@ -2,15 +2,19 @@
 use Prim.Native.Nat.{ℕ, zero, suc, ◌+◌, ◌%◌, ◌<◌, ◌≤◌}
 use mathlib.Core.Path.{◌≡◌, refl, ap, ap₂, sym, ◌∙◌}
 use mathlib.Core.List.{List, [], ◌∷◌}
-use mathlib.Core.Bool.{Bool, cond}
+use mathlib.Core.Bool.{Bool, true, false, cond}
 use native.Mathlib.Omega.{arith}
-use native.Mathlib.Decide.{ℕ_discrete}
+use native.Mathlib.Decide.{ℕ_discrete, dec_lt}
 use lib.ListN.{length, take, get_or, set, length-set}
 use lib.Seq.{get_or-take, length-take-le, get_or-set_same, get_or-set_other}
-use borrow.Author.Tests.{eq-eqb, ne_eqb}
+use lib.Dec.{eqb}
+use borrow.Author.Tests.{eq-eqb, ne_eqb, lt-ltb, le-ltb}
+use Rattle.std.specs.Prelude.{Some, None, not, position, ◌==◌}
+use Rattle.std.specs.List.{position_or_len}
+use Rattle.std.specs.Prelude.{unwrap_or}
 use Rattle.complex.specs.Sound.{cells_most}
 use Rattle.store.specs.Index.{row_of}
-use Rattle.store.proofs.Rows.{row_none}
+use Rattle.store.proofs.Rows.{row_le}
 use Rattle.lent_table.specs.Table.{table_places, row_hinted, Table}
 
 row_first : (x : ℕ) (l : List ℕ) (i : ℕ) → i < length l → get_or l i 0 ≡ x → ((k : ℕ) → k < i → get_or l k 0 ≡ x → ⊥) → row_of x l ≡ i
@@ -19,30 +23,27 @@ row_first x (y ∷ l) zero h e f = ap (λ (b : Bool). cond b 0 (suc (row_of x l)
 row_first x (y ∷ l) (suc i) h e f =
     ap₂ (λ (b : Bool) (r : ℕ). cond b 0 (suc r)) (ne_eqb y x (f 0 (omega arith))) (row_first x l i (omega arith) e (λ k u. f (suc k) (omega arith)))
 
--- ---- one row after another: none of the first i rows has the id
-module _ (is : List ℕ) (n x : ℕ) where
-  pub record Passed (i : ℕ) : Type 0 where
-    pub other : (k : ℕ) → k < i → get_or is k 0 ≡ x → ⊥
+-- ---- one row after another
+place_is : (x : ℕ) (l : List ℕ) → row_of x l ≡ position_or_len (λ (y : ℕ). y == x) l
+place_is x [] = refl
+place_is x (y ∷ l) = go (eqb y x) (place_is x l)
+  where
+    go : (b : Bool) → row_of x l ≡ position_or_len (λ (z : ℕ). z == x) l → cond b 0 (suc (row_of x l)) ≡ cond (not b) (1 + position_or_len (λ (z : ℕ). z == x) l) 0
+    go true h = refl
+    go false h = omega arith
 
-  pub passed_start : Passed 0
-  passed_start = record { other = λ k h e. absurd (omega arith) }
+pub searched_row : (x : ℕ) (l : List ℕ) → unwrap_or (position (λ (y : ℕ). y == x) l) (length l) ≡ row_of x l
+searched_row x l = go (dec_lt q (length l))
+  where
+    q : ℕ
+    q = position_or_len (λ (y : ℕ). y == x) l
 
-  pub passed_turn : (i : ℕ) → Passed i → (get_or is i 0 ≡ x → ⊥) → Passed (i + 1)
-  passed_turn i p f = record { other = λ k h e. go k h e (ℕ_discrete k i) }
-    where
-      go : (k : ℕ) → k < i + 1 → get_or is k 0 ≡ x → Dec (k ≡ i) → ⊥
-      go k h e (yes q) = f (ap (λ (j : ℕ). get_or is j 0) (sym q) ∙ e)
-      go k h e (no q) = p.other k (omega (arith, q)) e
+    found : Bool → ℕ
+    found b = unwrap_or (cond b (Some q) None) (length l)
 
-  pub passed_found : (i : ℕ) → n ≤ length is → i < n → Passed i → get_or is i 0 ≡ x → i ≡ row_of x (take n is)
-  passed_found i h k p e =
-      let l = length-take-le n is h in
-      sym (row_first x (take n is) i (omega arith) (get_or-take n is i 0 k ∙ e) (λ j u g. p.other j u (sym (get_or-take n is j 0 (omega arith)) ∙ g)))
-
-  pub passed_end : (i : ℕ) → n ≤ length is → i ≡ n → Passed i → n ≡ row_of x (take n is)
-  passed_end i h e p =
-      let l = length-take-le n is h in
-      sym (row_none x (take n is) (λ j u g. p.other j (omega arith) (sym (get_or-take n is j 0 (omega arith)) ∙ g)) ∙ l)
+    go : Dec (q < length l) → unwrap_or (position (λ (y : ℕ). y == x) l) (length l) ≡ row_of x l
+    go (yes h) = ap found (lt-ltb q (length l) h) ∙ sym (place_is x l)
+    go (no h) = let e = place_is x l in let r = row_le x l in ap found (le-ltb q (length l) (omega arith)) ∙ omega arith
 
 -- ---- the table from the last row to the first: the place of each row from i on has that row or one before it
 pub record Filling (ts is : List ℕ) (n i : ℕ) : Type 0 where

@@ -1,6 +1,6 @@
 #![tactic(auto)]
 
-ghost use Rattle.std.specs.Prelude.{◌≡◌, ◌≤◌, take, length};
+ghost use Rattle.std.specs.Prelude.{◌≡◌, ◌≤◌, take, length, position, ◌==◌};
 ghost use Rattle.complex.specs.Sound.{cells_most};
 ghost use Rattle.store.specs.Index.{row_of};
 ghost use Rattle.sound.specs.Rows.{is_vertex_in};
@@ -25,28 +25,17 @@ pub fn fill(table: &mut [u8; 1024], ids: &[u32; 256], n: usize)
 {
     lengths::rows_long(ids);
     table_long(table);
-    let mut i = n;
-    while 0 < i {
-        i = i - 1;
+    for i in (0..n).rev() {
         let at = store::wide(ids[i]) % PLACES;
         table[at] = i as u8;
     }
 }
 
-// The first row of an id, or n, one row after another.
-fn search(ids: &[u32; 256], n: usize, id: u32) -> usize
-    requires n_le_cells_most { n ≤ cells_most }
-    requires ids_len { length ids.now ≡ cells_most }
-    ensures { result ≡ row_of id (take n ids.now) }
+// The first row of an id, if one has it, looked for one row after another.
+fn search(ids: &[u32], id: u32) -> Option<usize>
+    ensures { result ≡ position (λ x. x == id) ids.now }
 {
-    let mut i: usize = 0;
-    while i < n {
-        if ids[i] == id {
-            return i;
-        }
-        i = i + 1;
-    }
-    n
+    ids.iter().position(|&x| x == id)
 }
 
 // The first row of an id, or n: the one that the table has for it, or else searched.
@@ -60,7 +49,7 @@ pub fn row_of(table: &[u8; 1024], ids: &[u32; 256], n: usize, id: u32) -> usize
             return row;
         }
     }
-    search(ids, n, id)
+    search(&ids[..n], id).unwrap_or(n)
 }
 
 // Whether the id v is a vertex's.

@@ -1,8 +1,6 @@
 -- A number: groups of seven bits, low group first, the top bit set on all but the last byte, shortest form, at most three bytes.
 -- Definitions only.
-use Rattle.std.specs.Prelude.{ℕ, zero, suc, ◌+◌, ◌-◌, ◌*◌, ◌/◌, ◌%◌, ◌^◌, Bool, true, false, cond, List, [], ◌∷◌, ◌++◌, length, drop, eqb, ltb}
-use Rattle.number.specs.declared.Number.{Number}
-use Rattle.number.specs.declared.Number.TheVariants.{Value, Malformed}
+use Rattle.std.specs.Prelude.{ℕ, zero, suc, ◌+◌, ◌-◌, ◌*◌, ◌/◌, ◌%◌, ◌^◌, Bool, true, false, cond, List, [], ◌∷◌, ◌++◌, length, drop, eqb, ltb, Option, Some, None}
 use Rattle.number.specs.Readers.{Read, got, bad, and_then, times, spread}
 use Rattle.number.specs.Said.{Said, done, no, placed_or}
 
@@ -44,10 +42,10 @@ spelled (suc k) n =
 abbrev pub spell : ℕ → List ℕ
 spell n = spelled number_bytes n
 
--- the cases of `Number`: 0 with a number and the place after it, or 2
-abbrev pub number_says : Number → Said (ℕ × ℕ)
-number_says (Value n next) = done (n, next)
-number_says Malformed = no 2
+-- 0 with a number and the place after it, or 2
+abbrev pub number_says : Option (ℕ × ℕ) → Said (ℕ × ℕ)
+number_says (Some found) = done found
+number_says None = no 2
 
 -- question 2 of the number at a place
 abbrev pub number_at : List ℕ → ℕ → Said (ℕ × ℕ)

@@ -4,48 +4,41 @@ ghost use Rattle.std.specs.Prelude.{◌≡◌, ◌+◌, ◌≤◌, ◌<◌, leng
 ghost use Rattle.std.proofs.lemmas.List.Edits.{sets};
 ghost use Rattle.number.specs.Numbers.{number_says, number_at, numbers_end, spell};
 
-// What stands at a place: a number and the place after it, or no number.
-#[derive(Clone, Copy)]
-pub enum Number {
-    Value(u32, usize),
-    Malformed,
-}
-
-// Groups of seven bits, low group first, the top bit set on all but the last byte; at most three
-// bytes, the shortest form alone.
-pub fn read_number(s: &[u8], at: usize) -> Number
+// The number that stands at a place, and the place after it, if one does. Groups of seven bits, low
+// group first, the top bit set on all but the last byte; at most three bytes, the shortest form alone.
+pub fn read_number(s: &[u8], at: usize) -> Option<(u32, usize)>
     ensures { number_says result ≡ number_at s.now at }
 {
     if s.len() <= at {
-        return Number::Malformed;
+        return None;
     }
     let a = s[at] as u32;
     if a < 128 {
-        return Number::Value(a, at + 1);
+        return Some((a, at + 1));
     }
     let second = at + 1;
     if s.len() <= second {
-        return Number::Malformed;
+        return None;
     }
     let b = s[second] as u32;
     if b == 0 {
-        return Number::Malformed;
+        return None;
     }
     if b < 128 {
-        return Number::Value(a - 128 + 128 * b, second + 1);
+        return Some((a - 128 + 128 * b, second + 1));
     }
     let third = second + 1;
     if s.len() <= third {
-        return Number::Malformed;
+        return None;
     }
     let c = s[third] as u32;
     if c == 0 {
-        return Number::Malformed;
+        return None;
     }
     if 128 <= c {
-        return Number::Malformed;
+        return None;
     }
-    Number::Value(a - 128 + 128 * (b - 128 + 128 * c), third + 1)
+    Some((a - 128 + 128 * (b - 128 + 128 * c), third + 1))
 }
 
 // Writes n at a place, and returns the place after it.
@@ -57,6 +50,7 @@ pub fn put_number(n: u32, out: &mut [u8], at: usize) -> usize
 {
     let mut rest = n;
     let mut place = at;
+    // Not a count: the number falls by 128 times a byte.
     while 128 <= rest {
         out[place] = (rest % 128 + 128) as u8;
         rest = rest / 128;
@@ -73,6 +67,7 @@ pub fn number_width(n: u32) -> usize
 {
     let mut rest = n;
     let mut width: usize = 1;
+    // Not a count: the number falls by 128 times a byte.
     while 128 <= rest {
         rest = rest / 128;
         width += 1;

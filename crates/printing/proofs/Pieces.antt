@@ -2,7 +2,7 @@
 use Prim.Native.Nat.{ℕ, ◌+◌, ◌≤◌, ◌<◌}
 use native.Mathlib.Omega.{arith}
 use borrow.Author.Tests.{le-leb, lt-leb}
-use mathlib.Core.Path.{◌≡◌, refl, sym, ap, ◌∙◌}
+use mathlib.Core.Path.{◌≡◌, refl, sym, ap, ◌∙◌, subst}
 use mathlib.Core.Bool.{Bool, true, false, cond}
 use mathlib.Core.List.{List, [], ◌++◌, append-nil}
 use lib.Dec.{T}
@@ -73,6 +73,11 @@ module _ {a : Arrays} {script : List ℕ} {from : ℕ} {b : Arrays} {entry x : L
         ahead = λ z. absurd (false_not z tt);
         sound = p.sound;
       }
+
+-- the end line of the arrays d, which are b
+pub last_seen : {d b : Arrays} → d ≡ b → {x : List ℕ} {end : ℕ} {y : List ℕ} {r : ℕ} → TextPut x end (last_text (sheet_of (held_by d))) last_most y r
+    → TextPut x end (last_text (sheet_of (held_by b))) last_most y r
+last_seen e {x} {end} {y} {r} q = subst (λ (a : Arrays). TextPut x end (last_text (sheet_of (held_by a))) last_most y r) e q
 
 -- ---- a script that is too long
 pub long_none : (at : ℕ) (entry : List ℕ) → length entry < 9 → LongPut at entry entry (record { at = at; count = 0; last = false })

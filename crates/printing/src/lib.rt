@@ -3,10 +3,13 @@
 // What the program `edit` prints, piece by piece, in a lent buffer.
 ghost use Rattle.std.specs.Prelude.{◌≡◌, ◌+◌, ◌≤◌, ◌<◌, T, length};
 ghost use Rattle.store.specs.View.{sheet_of};
-ghost use Rattle.lent.specs.Arrays.{held_by, sound_arrays, of_lists};
+ghost use Rattle.lent.specs.Arrays.{held_by, sound_arrays};
 ghost use Rattle.text.specs.Texts.{line_most, last_most, TextPut};
 ghost use Rattle.printing.specs.Lines.{last_text, LinesPut};
 ghost use Rattle.printing.specs.Texts.{LongPut, Pieced};
+ghost use Rattle.lent.specs.Sheets.{arrays, seen, Same};
+
+use lent::{SheetMut, SheetRef};
 
 const SCRIPT_MOST: usize = 65536;
 // The most bytes of a command's line.
@@ -37,39 +40,20 @@ struct Lined {
 }
 
 // The lines of a script's commands from a place on, until no byte is left, one is not read, or the next might not fit.
-fn put_lines(
-    next: &mut u32,
-    count: &mut usize,
-    ids: &mut [u32; 256],
-    kinds: &mut [u32; 256],
-    starts: &mut [u32; 256],
-    ends: &mut [u32; 256],
-    bends: &mut [u32; 256],
-    counts: &mut [u32; 256],
-    px: &mut [f64; 256],
-    py: &mut [f64; 256],
-    cycles: &mut [u32; 512],
-    steps: &mut [u32; 2048],
-    bx: &mut [f64; 2048],
-    by: &mut [f64; 2048],
-    script: &[u8],
-    from: usize,
-    out: &mut [u8],
-) -> Lined
-    requires { T (sound_arrays (of_lists next.old count.old ids.old kinds.old starts.old ends.old bends.old counts.old px.old py.old cycles.old steps.old bx.old by.old)) }
-    ensures lines_put { LinesPut (of_lists next.old count.old ids.old kinds.old starts.old ends.old bends.old counts.old px.old py.old cycles.old steps.old bx.old by.old) script.now from (of_lists next.new count.new ids.new kinds.new starts.new ends.new bends.new counts.new px.new py.new cycles.new steps.new bx.new by.new) out.old out.new result.at result.end }
+fn put_lines(sheet: &mut SheetMut<'_>, script: &[u8], from: usize, out: &mut [u8]) -> Lined
+    requires { T (sound_arrays (arrays sheet.old)) }
+    ensures lines_put { LinesPut (arrays sheet.old) script.now from (arrays sheet.new) out.old out.new result.at result.end }
     ensures out_len_bound { result.at < length script.now → length out.new < result.end + line_most }
+    ensures same { Same sheet.old sheet.new }
 {
     let mut at = from;
     let mut end: usize = 0;
+    // Not a range: each command says where the next begins.
     while at < script.len() {
         if out.len() - end < LINE_MOST {
             return Lined { at, end };
         }
-        let t = entry_run::step_at(
-            next, count, ids, kinds, starts, ends, bends, counts, px, py, cycles, steps, bx, by,
-            script, at,
-        );
+        let t = entry_run::step_at(sheet, script, at);
         let l = t.line;
         end = text::put_line(l.number, l.first, l.new, l.removed, out, end);
         at = t.end;
@@ -78,35 +62,14 @@ fn put_lines(
 }
 
 // The end line of the drawing in sound arrays; the place after it.
-fn put_last(
-    next: u32,
-    count: usize,
-    ids: &[u32; 256],
-    kinds: &[u32; 256],
-    starts: &[u32; 256],
-    ends: &[u32; 256],
-    bends: &[u32; 256],
-    counts: &[u32; 256],
-    px: &[f64; 256],
-    py: &[f64; 256],
-    cycles: &[u32; 512],
-    steps: &[u32; 2048],
-    bx: &[f64; 2048],
-    by: &[f64; 2048],
-    out: &mut [u8],
-    at: usize,
-) -> usize
-    requires t { T (sound_arrays (of_lists next count ids.now kinds.now starts.now ends.now bends.now counts.now px.now py.now cycles.now steps.now bx.now by.now)) }
+fn put_last(view: &SheetRef<'_>, out: &mut [u8], at: usize) -> usize
+    requires t { T (sound_arrays (seen view.now)) }
     requires last_most_in_bounds { at + last_most ≤ length out.old }
-    ensures { TextPut out.old at (last_text (sheet_of (held_by (of_lists next count ids.now kinds.now starts.now ends.now bends.now counts.now px.now py.now cycles.now steps.now bx.now by.now)))) last_most out.new result }
+    ensures { TextPut out.old at (last_text (sheet_of (held_by (seen view.now)))) last_most out.new result }
 {
-    lent::known(
-        next, count, ids, kinds, starts, ends, bends, counts, px, py, cycles, steps, bx, by,
-    );
-    let e = call_euler::euler(
-        next, count, ids, kinds, starts, ends, bends, counts, px, py, cycles, steps, bx, by,
-    );
-    text::put_end(e, count as u32, out, at)
+    view.known();
+    let e = call_euler::euler(view);
+    text::put_end(e, view.count as u32, out, at)
 }
 
 // What is printed for a script that is too long, if it fits.
@@ -130,35 +93,15 @@ fn too_long(at: usize, out: &mut [u8]) -> Printed
 
 // The next piece of what is printed for a script, from a place of it on: the lines of as many commands as surely fit, and after the
 // last of them the end line if that surely fits.
-pub fn piece(
-    next: &mut u32,
-    count: &mut usize,
-    ids: &mut [u32; 256],
-    kinds: &mut [u32; 256],
-    starts: &mut [u32; 256],
-    ends: &mut [u32; 256],
-    bends: &mut [u32; 256],
-    counts: &mut [u32; 256],
-    px: &mut [f64; 256],
-    py: &mut [f64; 256],
-    cycles: &mut [u32; 512],
-    steps: &mut [u32; 2048],
-    bx: &mut [f64; 2048],
-    by: &mut [f64; 2048],
-    script: &[u8],
-    at: usize,
-    out: &mut [u8],
-) -> Printed
-    requires { T (sound_arrays (of_lists next.old count.old ids.old kinds.old starts.old ends.old bends.old counts.old px.old py.old cycles.old steps.old bx.old by.old)) }
-    ensures { Pieced (of_lists next.old count.old ids.old kinds.old starts.old ends.old bends.old counts.old px.old py.old cycles.old steps.old bx.old by.old) script.now at (of_lists next.new count.new ids.new kinds.new starts.new ends.new bends.new counts.new px.new py.new cycles.new steps.new bx.new by.new) out.old out.new result }
+pub fn piece(sheet: &mut SheetMut<'_>, script: &[u8], at: usize, out: &mut [u8]) -> Printed
+    requires { T (sound_arrays (arrays sheet.old)) }
+    ensures pieced { Pieced (arrays sheet.old) script.now at (arrays sheet.new) out.old out.new result }
+    ensures same { Same sheet.old sheet.new }
 {
     if SCRIPT_MOST < script.len() {
         return too_long(at, out);
     }
-    let p = put_lines(
-        next, count, ids, kinds, starts, ends, bends, counts, px, py, cycles, steps, bx, by,
-        script, at, out,
-    );
+    let p = put_lines(sheet, script, at, out);
     let end = p.end;
     if p.at < script.len() {
         return Printed {
@@ -174,11 +117,7 @@ pub fn piece(
             last: false,
         };
     }
-    let id = *next;
-    let n = *count;
-    let k = put_last(
-        id, n, ids, kinds, starts, ends, bends, counts, px, py, cycles, steps, bx, by, out, end,
-    );
+    let k = put_last(&sheet.view(), out, end);
     Printed {
         at: p.at,
         count: k,

@@ -25,6 +25,10 @@ use Rattle.door.specs.Apart.{Apart}
 use Rattle.door.proofs.Sound.{sound_apart}
 use Rattle.register.specs.Entries.{command_on, Commanded, rest_of}
 
+-- the struct is apart in the arrays b, which are a
+pub apart_seen : {d : Drawing} {b a : Arrays} → b ≡ a → Apart d a → Apart d b
+apart_seen {d} e h = subst (Apart d) (sym e) h
+
 module _ (d : Drawing) (a : Arrays) (h : Apart d a) where
   same_sound : sound_arrays a ≡ sound_drawing d
   same_sound = sound_apart a d h.rows h.held

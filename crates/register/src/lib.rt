@@ -17,6 +17,7 @@ use answer::Answer;
 use entry_check::Verdict;
 use file_read::ReadAnswer;
 use file_write::Written;
+use lent::{SheetBuf, lend};
 use rows_euler::EulerNumber;
 use rows_pieces::PieceCount;
 use rows_star::Counted;
@@ -33,56 +34,11 @@ pub fn empty() -> Drawing
 pub fn command(d: Drawing, script: &[u8]) -> Answer
     ensures { Commanded d script.now result }
 {
-    let mut next = d.next;
-    let mut count = d.count;
-    let mut ids = [0u32; 256];
-    let mut kinds = [0u32; 256];
-    let mut starts = [0u32; 256];
-    let mut ends = [0u32; 256];
-    let mut bends = [0u32; 256];
-    let mut counts = [0u32; 256];
-    let mut px = [0.0; 256];
-    let mut py = [0.0; 256];
-    let mut cycles = [0u32; 512];
-    let mut steps = [0u32; 2048];
-    let mut bx = [0.0; 2048];
-    let mut by = [0.0; 2048];
-    door::take_apart(
-        d,
-        &mut ids,
-        &mut kinds,
-        &mut starts,
-        &mut ends,
-        &mut bends,
-        &mut counts,
-        &mut px,
-        &mut py,
-        &mut cycles,
-        &mut steps,
-        &mut bx,
-        &mut by,
-    );
-    let l = entry_command::command(
-        &mut next,
-        &mut count,
-        &mut ids,
-        &mut kinds,
-        &mut starts,
-        &mut ends,
-        &mut bends,
-        &mut counts,
-        &mut px,
-        &mut py,
-        &mut cycles,
-        &mut steps,
-        &mut bx,
-        &mut by,
-        script,
-    );
-    let e = door::put_together(
-        next, count, &ids, &kinds, &starts, &ends, &bends, &counts, &px, &py, &cycles, &steps, &bx,
-        &by,
-    );
+    let mut own = SheetBuf::empty();
+    let mut sheet = lend!(own);
+    door::take_apart(d, &mut sheet);
+    let l = entry_command::command(&mut sheet, script);
+    let e = door::put_together(&sheet.view());
     Answer {
         number: l.number,
         first: l.first,
@@ -96,221 +52,59 @@ pub fn command(d: Drawing, script: &[u8]) -> Answer
 pub fn rest(d: Drawing, script: &[u8]) -> &[u8]
     ensures { result.now ≡ rest_of d script.now }
 {
-    let mut ids = [0u32; 256];
-    let mut kinds = [0u32; 256];
-    let mut starts = [0u32; 256];
-    let mut ends = [0u32; 256];
-    let mut bends = [0u32; 256];
-    let mut counts = [0u32; 256];
-    let mut px = [0.0; 256];
-    let mut py = [0.0; 256];
-    let mut cycles = [0u32; 512];
-    let mut steps = [0u32; 2048];
-    let mut bx = [0.0; 2048];
-    let mut by = [0.0; 2048];
-    door::take_apart(
-        d,
-        &mut ids,
-        &mut kinds,
-        &mut starts,
-        &mut ends,
-        &mut bends,
-        &mut counts,
-        &mut px,
-        &mut py,
-        &mut cycles,
-        &mut steps,
-        &mut bx,
-        &mut by,
-    );
-    entry_rest::rest(
-        d.next, d.count, &ids, &kinds, &starts, &ends, &bends, &counts, &px, &py, &cycles, &steps,
-        &bx, &by, script,
-    )
+    let mut own = SheetBuf::empty();
+    let mut sheet = lend!(own);
+    door::take_apart(d, &mut sheet);
+    entry_rest::rest(&sheet.view(), script)
 }
 
 // The ids, rising, of the cells whose boundary holds the cell, in the buffer's first places.
 pub fn star(d: Drawing, id: u32, buffer: &mut [u32]) -> Counted
     ensures { queried result buffer.new ≡ star_of d id buffer.old }
 {
-    let mut ids = [0u32; 256];
-    let mut kinds = [0u32; 256];
-    let mut starts = [0u32; 256];
-    let mut ends = [0u32; 256];
-    let mut bends = [0u32; 256];
-    let mut counts = [0u32; 256];
-    let mut px = [0.0; 256];
-    let mut py = [0.0; 256];
-    let mut cycles = [0u32; 512];
-    let mut steps = [0u32; 2048];
-    let mut bx = [0.0; 2048];
-    let mut by = [0.0; 2048];
-    door::take_apart(
-        d,
-        &mut ids,
-        &mut kinds,
-        &mut starts,
-        &mut ends,
-        &mut bends,
-        &mut counts,
-        &mut px,
-        &mut py,
-        &mut cycles,
-        &mut steps,
-        &mut bx,
-        &mut by,
-    );
-    entry_star::star(
-        d.next, d.count, &ids, &kinds, &starts, &ends, &bends, &counts, &px, &py, &cycles, &steps,
-        &bx, &by, id, buffer,
-    )
+    let mut own = SheetBuf::empty();
+    let mut sheet = lend!(own);
+    door::take_apart(d, &mut sheet);
+    entry_star::star(&sheet.view(), id, buffer)
 }
 
 pub fn euler(d: Drawing) -> EulerNumber
     ensures { euler_answered result ≡ euler_of d }
 {
-    let mut ids = [0u32; 256];
-    let mut kinds = [0u32; 256];
-    let mut starts = [0u32; 256];
-    let mut ends = [0u32; 256];
-    let mut bends = [0u32; 256];
-    let mut counts = [0u32; 256];
-    let mut px = [0.0; 256];
-    let mut py = [0.0; 256];
-    let mut cycles = [0u32; 512];
-    let mut steps = [0u32; 2048];
-    let mut bx = [0.0; 2048];
-    let mut by = [0.0; 2048];
-    door::take_apart(
-        d,
-        &mut ids,
-        &mut kinds,
-        &mut starts,
-        &mut ends,
-        &mut bends,
-        &mut counts,
-        &mut px,
-        &mut py,
-        &mut cycles,
-        &mut steps,
-        &mut bx,
-        &mut by,
-    );
-    entry_euler::euler(
-        d.next, d.count, &ids, &kinds, &starts, &ends, &bends, &counts, &px, &py, &cycles, &steps,
-        &bx, &by,
-    )
+    let mut own = SheetBuf::empty();
+    let mut sheet = lend!(own);
+    door::take_apart(d, &mut sheet);
+    entry_euler::euler(&sheet.view())
 }
 
 // How many pieces the drawing falls into: cells that boundaries link, through chains.
 pub fn pieces(d: Drawing) -> PieceCount
     ensures { pieces_answered result ≡ pieces_of d }
 {
-    let mut ids = [0u32; 256];
-    let mut kinds = [0u32; 256];
-    let mut starts = [0u32; 256];
-    let mut ends = [0u32; 256];
-    let mut bends = [0u32; 256];
-    let mut counts = [0u32; 256];
-    let mut px = [0.0; 256];
-    let mut py = [0.0; 256];
-    let mut cycles = [0u32; 512];
-    let mut steps = [0u32; 2048];
-    let mut bx = [0.0; 2048];
-    let mut by = [0.0; 2048];
-    door::take_apart(
-        d,
-        &mut ids,
-        &mut kinds,
-        &mut starts,
-        &mut ends,
-        &mut bends,
-        &mut counts,
-        &mut px,
-        &mut py,
-        &mut cycles,
-        &mut steps,
-        &mut bx,
-        &mut by,
-    );
-    entry_pieces::pieces(
-        d.next, d.count, &ids, &kinds, &starts, &ends, &bends, &counts, &px, &py, &cycles, &steps,
-        &bx, &by,
-    )
+    let mut own = SheetBuf::empty();
+    let mut sheet = lend!(own);
+    door::take_apart(d, &mut sheet);
+    entry_pieces::pieces(&sheet.view())
 }
 
 // The soundness test as a call of its own: yes or no, and the count of cells visited. It refuses nothing.
 pub fn check(d: Drawing) -> Verdict
     ensures { verdict_by result ≡ check_of d }
 {
-    let mut ids = [0u32; 256];
-    let mut kinds = [0u32; 256];
-    let mut starts = [0u32; 256];
-    let mut ends = [0u32; 256];
-    let mut bends = [0u32; 256];
-    let mut counts = [0u32; 256];
-    let mut px = [0.0; 256];
-    let mut py = [0.0; 256];
-    let mut cycles = [0u32; 512];
-    let mut steps = [0u32; 2048];
-    let mut bx = [0.0; 2048];
-    let mut by = [0.0; 2048];
-    door::take_apart(
-        d,
-        &mut ids,
-        &mut kinds,
-        &mut starts,
-        &mut ends,
-        &mut bends,
-        &mut counts,
-        &mut px,
-        &mut py,
-        &mut cycles,
-        &mut steps,
-        &mut bx,
-        &mut by,
-    );
-    entry_check::check(
-        d.next, d.count, &ids, &kinds, &starts, &ends, &bends, &counts, &px, &py, &cycles, &steps,
-        &bx, &by,
-    )
+    let mut own = SheetBuf::empty();
+    let mut sheet = lend!(own);
+    door::take_apart(d, &mut sheet);
+    entry_check::check(&sheet.view())
 }
 
 // The drawing's file, in the buffer's first places.
 pub fn write(d: Drawing, buffer: &mut [u8]) -> Written
     ensures { written result buffer.new ≡ write_of d buffer.old }
 {
-    let mut ids = [0u32; 256];
-    let mut kinds = [0u32; 256];
-    let mut starts = [0u32; 256];
-    let mut ends = [0u32; 256];
-    let mut bends = [0u32; 256];
-    let mut counts = [0u32; 256];
-    let mut px = [0.0; 256];
-    let mut py = [0.0; 256];
-    let mut cycles = [0u32; 512];
-    let mut steps = [0u32; 2048];
-    let mut bx = [0.0; 2048];
-    let mut by = [0.0; 2048];
-    door::take_apart(
-        d,
-        &mut ids,
-        &mut kinds,
-        &mut starts,
-        &mut ends,
-        &mut bends,
-        &mut counts,
-        &mut px,
-        &mut py,
-        &mut cycles,
-        &mut steps,
-        &mut bx,
-        &mut by,
-    );
-    entry_write::write(
-        d.next, d.count, &ids, &kinds, &starts, &ends, &bends, &counts, &px, &py, &cycles, &steps,
-        &bx, &by, buffer,
-    )
+    let mut own = SheetBuf::empty();
+    let mut sheet = lend!(own);
+    door::take_apart(d, &mut sheet);
+    entry_write::write(&sheet.view(), buffer)
 }
 
 // The drawing of a file.

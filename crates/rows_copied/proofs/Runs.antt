@@ -21,15 +21,16 @@ pub copy_later : (i next k : ℕ) → (k ≡ 0 → ⊥) → next + (k - 1) ≡ c
 copy_later i next zero h = absurd (h refl)
 copy_later i next (suc n) h = omega arith
 
+pub copy_most : (i next k m : ℕ) → i ≤ m → next + k ≤ m → copy_of i next k ≤ m
+copy_most i next zero m h g = h
+copy_most i next (suc n) m h g = omega arith
+
 module _ (i next k s : ℕ) where
   pub word_other : (i ≡ s / 2 → ⊥) → s ≡ copied_word i next k s
   word_other h = rw (ne_eqb i (s / 2) h)
 
-  pub word_first : i ≡ s / 2 → k ≡ 0 → s ≡ copied_word i next k s
-  word_first e z = rw (eq-eqb i (s / 2) e, z) (omega arith)
-
-  pub word_later : i ≡ s / 2 → (k ≡ 0 → ⊥) → (next + (k - 1)) * 2 + s % 2 ≡ copied_word i next k s
-  word_later e h = rw (eq-eqb i (s / 2) e) (ap (λ (m : ℕ). m * 2 + s % 2) (copy_later i next k h))
+  pub word_own : i ≡ s / 2 → {w : ℕ} → w ≡ copy_of i next k → w * 2 + s % 2 ≡ copied_word i next k s
+  word_own e h = rw (eq-eqb i (s / 2) e) (ap (λ (m : ℕ). m * 2 + s % 2) h)
 
   -- the halfedge of a copied number
   copied_half : halfedge_of (copied_word i next k s) ≡ record { edge = cond (eqb i (s / 2)) (copy_of i next k) (s / 2); backward = eqb (s % 2) 1 }

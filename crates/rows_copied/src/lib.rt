@@ -30,10 +30,7 @@ fn copy_word(s: u32, i: u32, next: u32, k: usize) -> u32
     if i != s / 2 {
         return s;
     }
-    if k == 0 {
-        return s;
-    }
-    (next + ((k - 1) as u32)) * 2 + s % 2
+    copy_of(i, next, k) * 2 + s % 2
 }
 
 // How often a step is of edge i.
@@ -66,12 +63,10 @@ fn copy_run(l: &mut [u32], n: usize, each: bool, i: u32, next: u32, k0: usize)
     ensures l_unchanged { drop n l.new ≡ drop n l.old }
 {
     let mut k = k0;
-    let mut j: usize = 0;
-    while j < n {
+    for j in 0..n {
         let s = l[j];
         l[j] = copy_word(s, i, next, k);
         k = next_use(each, i, k, s);
-        j = j + 1;
     }
 }
 
@@ -142,13 +137,11 @@ pub fn copy_cycles(
 {
     let mut k = k0;
     let mut from: usize = 0;
-    let mut j: usize = 0;
-    while j < n {
+    for j in 0..n {
         let c = cycles[j];
         let m = rows_uses::cycle_uses(u, c, &steps[from..], i);
         copy_cycle(u, c, &mut steps[from..], i, next, k);
         k = k + m;
         from = from + store::places(1, c);
-        j = j + 1;
     }
 }

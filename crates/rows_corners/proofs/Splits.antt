@@ -14,10 +14,6 @@ use Rattle.store.specs.Edits.{kept}
 use Rattle.rows_spans.proofs.Splicing.{run_take}
 use Rattle.rows_corners.proofs.Rows.{list_steps}
 
-pub width_of : (n : ℕ) → (n ≡ 0 → ⊥) → width n ≡ n
-width_of zero h = absurd (h refl)
-width_of (suc n) h = refl
-
 -- what a part of the flags that reaches to the end has
 pub part_flags : (l : List Bool) (i : ℕ) → take (length l - i) (drop i l) ≡ drop i l
 part_flags l i = take_all (length l - i) (drop i l) (omega (arith, length-drop i l))

@@ -1,9 +1,9 @@
 #![tactic(auto)]
 
 ghost use Rattle.std.specs.Prelude.{◌≡◌, not, map, ◌+◌, ◌<◌, ◌≤◌, length, take, drop};
-ghost use Rattle.complex.specs.Lists.{one};
+ghost use Rattle.complex.specs.Lists.{one, distance};
 ghost use Rattle.complex.specs.Cells.{face};
-ghost use Rattle.store.specs.View.{width, width_sum};
+ghost use Rattle.store.specs.View.{width_sum};
 ghost use Rattle.rows_corners.specs.Arcs.{arc_of, Arc, Pasted};
 
 use rows_spans::{Spans, Used};
@@ -22,10 +22,8 @@ pub fn others(flags: &[bool; 512], out: &mut [bool; 512])
     requires out_len { length out.old ≡ 512 }
     ensures { out.new ≡ map not flags.now }
 {
-    let mut i: usize = 0;
-    while i < 512 {
+    for i in 0..512 {
         out[i] = !flags[i];
-        i = i + 1;
     }
 }
 
@@ -51,6 +49,19 @@ pub fn copy_arc(
     rows_spans::copy_run(steps, base, len - most, out, end)
 }
 
+// How many steps lead from corner s to corner t of a cycle of m, round its end.
+pub fn between(m: usize, s: usize, t: usize) -> usize
+    requires m_bound { m ≤ 2048 }
+    requires s_le_m { s ≤ m }
+    requires t_le_m { t ≤ m }
+    ensures { result ≡ distance m s t }
+{
+    if s <= t {
+        return t - s;
+    }
+    t + m - s
+}
+
 // Where the steps of cycle c of a face begin.
 pub fn cycle_place(cycles: &[u32; 512], t: Spans, c: usize) -> usize
     requires cycles_len { length cycles.now ≡ 512 }
@@ -61,15 +72,4 @@ pub fn cycle_place(cycles: &[u32; 512], t: Spans, c: usize) -> usize
     let k = t.cycles;
     let s = t.steps;
     s.first + rows_spans::place_sum(1, cycles, k.first, c)
-}
-
-// The place after the steps of a cycle.
-pub fn after(at: usize, m: usize) -> usize
-    requires { at + width m ≤ 2048 }
-    ensures { result ≡ at + width m }
-{
-    if m == 0 {
-        return at + 1;
-    }
-    at + m
 }

@@ -23,12 +23,10 @@ pub fn mark_ends(kinds: &[u32], starts: &[u32], ends: &[u32], n: usize, v: u32, 
     requires end_marks { EndMarks kinds.now starts.now ends.now v 0 at.old }
     ensures { EndMarks kinds.now starts.now ends.now v n at.new }
 {
-    let mut j: usize = 0;
-    while j < n {
+    for j in 0..n {
         let k = kinds[j];
         at[j * 2] = is_end(k, starts[j], v);
         at[j * 2 + 1] = is_end(k, ends[j], v);
-        j = j + 1;
     }
 }
 
@@ -59,10 +57,8 @@ pub fn new_ends(
     requires { EndRows side at.now groups.now n next ends.old }
     ensures { NewEnds side at.now groups.now v next n ends.old ends.new }
 {
-    let mut j: usize = 0;
-    while j < n {
+    for j in 0..n {
         let p = j * 2 + side;
         ends[j] = new_end(at[p], groups[p], ends[j], v, next);
-        j = j + 1;
     }
 }

@@ -50,12 +50,10 @@ pub fn euler_rows(kinds: &[u32; 256], counts: &[u32; 256], n: usize) -> i32
 {
     let mut up: u32 = 0;
     let mut down: u32 = 0;
-    let mut i: usize = 0;
-    while i < n {
+    for i in 0..n {
         let k = kinds[i];
         up = up + gain_of(k);
         down = down + loss_of(k, counts[i]);
-        i = i + 1;
     }
     difference(up, down)
 }

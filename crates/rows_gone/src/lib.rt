@@ -18,8 +18,7 @@ pub fn dead_rows(a: usize, b: usize) -> [bool; 256]
     requires b_bound { b < 256 }
     ensures { result ≡ set (set (replicate 256 false) a true) b true }
 {
-    let mut dead = [false; 256];
-    dead[a] = true;
+    let mut dead = dead_row(a);
     dead[b] = true;
     dead
 }

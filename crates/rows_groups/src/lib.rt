@@ -19,14 +19,12 @@ fn split_link(groups: &[u32], xs: &[u32], ys: &[u32], m: usize, g: u32) -> usize
     requires { Links (length groups.now) xs.now ys.now m }
     ensures { FirstSplit groups.now xs.now ys.now m g result }
 {
-    let mut i: usize = 0;
-    while i < m {
+    for i in 0..m {
         let x = store::wide(xs[i]);
         let y = store::wide(ys[i]);
         if differs(groups[x], groups[y], g) {
             return i;
         }
-        i = i + 1;
     }
     m
 }
@@ -88,10 +86,8 @@ pub fn find_groups(
     ensures { Sorting at.now xs.now ys.now m n result groups.new }
 {
     let mut g: u32 = 0;
-    let mut p: usize = 0;
-    while p < n {
+    for p in 0..n {
         g = start_group(groups, at, xs, ys, m, p, g);
-        p = p + 1;
     }
     g
 }

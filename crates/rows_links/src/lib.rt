@@ -96,11 +96,9 @@ fn path_links(
     ensures { LinksPut (take n ids.now) at.now (passages (map halfedge_of (take c l.now))) used xs.old ys.old result xs.new ys.new }
 {
     let mut k = used;
-    let mut j: usize = 0;
-    while j < c {
+    for j in 0..c {
         let g = next_step(l, c, j);
         k = put_link(ids, n, at, l[j], g, xs, ys, k);
-        j = j + 1;
     }
     k
 }
@@ -147,12 +145,10 @@ pub fn find_links(
 {
     let mut k: usize = 0;
     let mut from: usize = 0;
-    let mut j: usize = 0;
-    while j < m {
+    for j in 0..m {
         let c = cycles[j];
         k = cycle_links(ids, n, at, c, &steps[from..], xs, ys, k);
         from = from + store::places(1, c);
-        j = j + 1;
     }
     k
 }

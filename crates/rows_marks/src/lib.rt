@@ -37,10 +37,8 @@ pub fn edges_at(
     ensures marks_after { take n marks.new ≡ edge_marks id (take n kinds.now) (take n starts.now) (take n ends.now) }
     ensures marks_len_2 { length marks.new ≡ 256 }
 {
-    let mut i: usize = 0;
-    while i < n {
+    for i in 0..n {
         marks[i] = ends_at(kinds[i], starts[i], ends[i], id);
-        i = i + 1;
     }
 }
 
@@ -53,13 +51,11 @@ fn flag_ids(ids: &[u32; 256], marks: &[bool; 256], n: usize, flags: &mut [bool; 
     requires rising { Rising (take n ids.now) }
     ensures { Sought ids.now marks.now n flags.new }
 {
-    let mut i: usize = 0;
-    while i < n {
+    for i in 0..n {
         if marks[i] {
             let at = store::wide(ids[i] % 256);
             flags[at] = true;
         }
-        i = i + 1;
     }
 }
 
@@ -112,13 +108,11 @@ fn path_marked(
     requires m_bound { from + m ≤ steps_most }
     ensures { result ≡ any (step_marked (take n ids.now) (take n marks.now)) (map halfedge_of (take m (drop from steps.now))) }
 {
-    let mut i: usize = 0;
-    while i < m {
+    for i in 0..m {
         let s = steps[from + i];
         if step_marked(ids, marks, n, flags, s) {
             return true;
         }
-        i = i + 1;
     }
     false
 }
@@ -181,12 +175,10 @@ fn face_marked(
 {
     let mut marked = mark;
     let mut next = from;
-    let mut j: usize = 0;
-    while j < k {
+    for j in 0..k {
         let c = cycles[first + j];
         marked = cycle_marked(marked, ids, marks, n, flags, steps, next, c, v);
         next = next + store::places(1, c);
-        j = j + 1;
     }
     Walk { marked, next }
 }
@@ -211,8 +203,7 @@ fn mark_faces(
 {
     let mut first: usize = 0;
     let mut from: usize = 0;
-    let mut i: usize = 0;
-    while i < n {
+    for i in 0..n {
         let c = counts[i];
         if c != 0 {
             let k = store::wide(c);
@@ -223,7 +214,6 @@ fn mark_faces(
             from = w.next;
             first = first + k;
         }
-        i = i + 1;
     }
 }
 

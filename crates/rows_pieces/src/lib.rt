@@ -18,10 +18,8 @@ pub fn part(up: &mut [u8; 256], n: usize)
     requires up_len { length up.old ≡ cells_most }
     ensures { Owns n up.new }
 {
-    let mut i: usize = 0;
-    while i < n {
+    for i in 0..n {
         up[i] = i as u8;
-        i = i + 1;
     }
 }
 
@@ -34,6 +32,7 @@ fn top(up: &mut [u8; 256], row: usize) -> usize
 {
     let mut r = row;
     let mut a = rows_halfedge::row_in(up[r]);
+    // A walk up, not a count: how many rows lead to the top is not known.
     while a < r {
         let b = up[a];
         up[r] = b;

@@ -33,12 +33,10 @@ fn run_sides(l: &[u32], n: usize, e: u32) -> Sides
 {
     let mut forward: usize = 0;
     let mut backward: usize = 0;
-    let mut j: usize = 0;
-    while j < n {
+    for j in 0..n {
         let s = l[j];
         forward = forward + side_use(e, s, 0, 1);
         backward = backward + side_use(e, s, 1, 0);
-        j = j + 1;
     }
     Sides { forward, backward }
 }
@@ -68,14 +66,12 @@ pub fn count_sides(cycles: &[u32], n: usize, steps: &[u32], e: u32) -> Sides
     let mut forward: usize = 0;
     let mut backward: usize = 0;
     let mut from: usize = 0;
-    let mut j: usize = 0;
-    while j < n {
+    for j in 0..n {
         let c = cycles[j];
         let x = path_sides(c, &steps[from..], e);
         forward = forward + x.forward;
         backward = backward + x.backward;
         from = from + store::places(1, c);
-        j = j + 1;
     }
     Sides { forward, backward }
 }

@@ -7,68 +7,14 @@ ghost use Rattle.store.specs.Edits.{CyclesKept, places_of};
 ghost use Rattle.rows_slide.specs.Slid.{Slid, Seen, Alike, BendsKept};
 ghost use Rattle.rows_slide.specs.Stretches.{StretchAt};
 
-// n numbers go to an earlier place of the same array, four at a time; how many have gone.
-fn slide_numbers_fours(l: &mut [u32], from: usize, n: usize, to: usize) -> usize
-    requires to_le_from { to ≤ from }
-    requires n_in_bounds { from + n ≤ length l.old }
-    ensures upper_bound { result ≤ n }
-    ensures slid { Slid l.old from result to l.new }
-{
-    let mut i: usize = 0;
-    while i + 4 <= n {
-        let a = l[from + i];
-        let b = l[from + i + 1];
-        let c = l[from + i + 2];
-        let d = l[from + i + 3];
-        l[to + i] = a;
-        l[to + i + 1] = b;
-        l[to + i + 2] = c;
-        l[to + i + 3] = d;
-        i = i + 4;
-    }
-    i
-}
-
-// n numbers go to an earlier place of the same array, the first one first.
-pub fn slide_numbers(l: &mut [u32], from: usize, n: usize, to: usize)
+// n elements go to an earlier place of the same array.
+pub fn slide<T: Copy>(l: &mut [T], from: usize, n: usize, to: usize)
     requires to_le_from { to ≤ from }
     requires n_in_bounds { from + n ≤ length l.old }
     ensures { Slid l.old from n to l.new }
 {
-    if from == to {
-        return;
-    }
-    let mut i = slide_numbers_fours(l, from, n, to);
-    while i < n {
-        l[to + i] = l[from + i];
-        i = i + 1;
-    }
-}
-
-// n points go to an earlier place of the same two arrays, two at a time, the first ones first.
-pub fn slide_points(xs: &mut [f64], ys: &mut [f64], from: usize, n: usize, to: usize)
-    requires to_le_from { to ≤ from }
-    requires n_in_bounds { (from + n ≤ length xs.old) × (from + n ≤ length ys.old) }
-    ensures { (Slid xs.old from n to xs.new) × (Slid ys.old from n to ys.new) }
-{
-    if from == to {
-        return;
-    }
-    let mut i: usize = 0;
-    while i + 2 <= n {
-        let a = xs[from + i];
-        let b = xs[from + i + 1];
-        let c = ys[from + i];
-        let d = ys[from + i + 1];
-        xs[to + i] = a;
-        xs[to + i + 1] = b;
-        ys[to + i] = c;
-        ys[to + i + 1] = d;
-        i = i + 2;
-    }
-    if i < n {
-        xs[to + i] = xs[from + i];
-        ys[to + i] = ys[from + i];
+    if from != to {
+        l.copy_within(from..from + n, to);
     }
 }
 
@@ -79,6 +25,7 @@ fn living_eights(dead: &[bool], i: usize, n: usize) -> usize
     ensures { Seen dead.now false i n result }
 {
     let mut k = i;
+    // Not a range: eight flags are looked at in one step, which is faster than one by one.
     while k + 8 <= n {
         let a = dead[k] | dead[k + 1] | dead[k + 2] | dead[k + 3];
         let b = dead[k + 4] | dead[k + 5] | dead[k + 6] | dead[k + 7];
@@ -96,12 +43,11 @@ pub fn living_until(dead: &[bool], i: usize, n: usize) -> usize
     requires n_in_bounds { n ≤ length dead.now }
     ensures { Alike dead.now false i n result }
 {
-    let mut k = living_eights(dead, i, n);
-    while k < n {
+    let eights = living_eights(dead, i, n);
+    for k in eights..n {
         if dead[k] {
             return k;
         }
-        k = k + 1;
     }
     n
 }
@@ -112,12 +58,10 @@ pub fn dead_until(dead: &[bool], i: usize, n: usize) -> usize
     requires n_in_bounds { n ≤ length dead.now }
     ensures { Alike dead.now true i n result }
 {
-    let mut k = i;
-    while k < n {
+    for k in i..n {
         if !dead[k] {
             return k;
         }
-        k = k + 1;
     }
     n
 }
@@ -167,11 +111,13 @@ pub fn drop_bends(
     let mut i: usize = 0;
     let mut at: usize = 0;
     let mut to: usize = 0;
+    // Not a range: how far a stretch goes is only seen at its start.
     while i < n {
         let s = next_stretch(dead, counts, n, i);
         let from = at + s.gone;
         let m = s.stay;
-        slide_points(bx, by, from, m, to);
+        slide(bx, from, m, to);
+        slide(by, from, m, to);
         at = from + m;
         to = to + m;
         i = s.next;
@@ -197,14 +143,15 @@ pub fn drop_cycles(
     let mut to: usize = 0;
     let mut step_at: usize = 0;
     let mut step_to: usize = 0;
+    // Not a range: how far a stretch goes is only seen at its start.
     while i < n {
         let s = next_stretch(dead, counts, n, i);
         let from = at + s.gone;
         let m = s.stay;
         let step_from = step_at + rows_spans::place_sum(1, cycles, at, s.gone);
         let k = rows_spans::place_sum(1, cycles, from, m);
-        slide_numbers(steps, step_from, k, step_to);
-        slide_numbers(cycles, from, m, to);
+        slide(steps, step_from, k, step_to);
+        slide(cycles, from, m, to);
         step_at = step_from + k;
         step_to = step_to + k;
         at = from + m;

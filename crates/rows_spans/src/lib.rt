@@ -23,11 +23,9 @@ pub fn place_sum(z: usize, counts: &[u32], from: usize, n: usize) -> usize
     ensures { result ≡ total (places_of z) (take n (drop from counts.now)) }
 {
     let mut sum: usize = 0;
-    let mut i: usize = 0;
-    while i < n {
+    for i in 0..n {
         let k = store::places(z, counts[from + i]);
         sum = sum + k;
-        i = i + 1;
     }
     sum
 }
@@ -93,10 +91,8 @@ pub fn copy_run(src: &[u32], from: usize, n: usize, out: &mut [u32], at: usize) 
     ensures value { result ≡ at + n }
     ensures out_after { out.new ≡ paste out.old at (drop from src.now) n }
 {
-    let mut i: usize = 0;
-    while i < n {
+    for i in 0..n {
         out[at + i] = src[from + i];
-        i = i + 1;
     }
     at + n
 }

@@ -1,11 +1,9 @@
 #![tactic(auto)]
 
 ghost use Rattle.std.specs.Prelude.{◌≡◌, ◌+◌, ◌<◌, ◌≤◌, length, take, drop};
-ghost use Rattle.complex.specs.Lists.{one, distance};
 ghost use Rattle.store.specs.View.{width_sum};
 ghost use Rattle.rows_split.specs.Parts.{place_of};
 
-use rows_corners::Listed;
 use rows_spans::Spans;
 
 // Where a cycle stands: its number of steps, 0 if it is a lone vertex, and the place of the first.
@@ -29,24 +27,4 @@ pub fn place_of(cycles: &[u32; 512], t: Spans, c: u32) -> Place
         m: cycles[j],
         at: rows_corners::cycle_place(cycles, t, i),
     }
-}
-
-// How many steps lead from corner s to corner t of a cycle of m.
-pub fn between(m: usize, s: usize, t: usize) -> usize
-    requires m_bound { m ≤ 2048 }
-    requires s_le_m { s ≤ m }
-    requires t_le_m { t ≤ m }
-    ensures { result ≡ distance m s t }
-{
-    if s <= t {
-        return t - s;
-    }
-    t + m - s
-}
-
-// The cycles of two faces.
-#[derive(Clone, Copy)]
-pub struct Sides {
-    pub old: Listed,
-    pub new: Listed,
 }

@@ -4,6 +4,7 @@ use mathlib.Core.Path.{◌≡◌, refl, ap, ap₂, sym, ◌∙◌}
 use mathlib.Core.List.{List, [], ◌∷◌, ◌++◌, map, append-nil}
 use mathlib.Core.Bool.{Bool, true, false, ◌||◌, cond}
 use native.Mathlib.Omega.{arith}
+use mir.Val.{bool_byte}
 use native.Mathlib.Numerals.{add-one}
 use lib.Dec.{eqb}
 use lib.ListN.{length, take, drop, set, get_or}
@@ -124,6 +125,11 @@ module _ {A : Type 0} where
 pub bit_most : (b : Bool) → bit b ≤ 1
 bit_most true = omega arith
 bit_most false = omega arith
+
+-- a mark as a number
+pub one_is : (b : Bool) → bool_byte b ≡ bit b
+one_is true = refl
+one_is false = refl
 
 -- ---- an answer in a buffer
 module _ (xs buffer : List ℕ) (k : ℕ) (e : k ≡ length xs) where

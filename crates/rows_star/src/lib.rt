@@ -35,12 +35,6 @@ pub fn mark_star(
     rows_marks::faces_at(ids, &edges, n, counts, cycles, steps, id, out);
 }
 
-fn one_if(mark: bool) -> usize
-    ensures { result ≡ bit mark }
-{
-    if mark { 1 } else { 0 }
-}
-
 // How many of the first n marks are true.
 pub fn count_marked(marks: &[bool; 256], n: usize) -> usize
     requires n_bound { n ≤ 256 }
@@ -48,10 +42,8 @@ pub fn count_marked(marks: &[bool; 256], n: usize) -> usize
     ensures { result ≡ total bit (take n marks.now) }
 {
     let mut sum: usize = 0;
-    let mut i: usize = 0;
-    while i < n {
-        sum = sum + one_if(marks[i]);
-        i = i + 1;
+    for i in 0..n {
+        sum = sum + marks[i] as usize;
     }
     sum
 }
@@ -74,12 +66,10 @@ pub fn list_marked(ids: &[u32; 256], marks: &[bool; 256], n: usize, out: &mut [u
     ensures { out.new ≡ picked (take n marks.now) (take n ids.now) ++ drop (total bit (take n marks.now)) out.old }
 {
     let mut at: usize = 0;
-    let mut i: usize = 0;
-    while i < n {
+    for i in 0..n {
         let m = marks[i];
         put_if(m, ids[i], out, at);
-        at = at + one_if(m);
-        i = i + 1;
+        at = at + m as usize;
     }
 }
 

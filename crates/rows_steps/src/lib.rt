@@ -2,7 +2,6 @@
 
 ghost use Rattle.std.specs.Prelude.{◌≡◌, eqb, ◌+◌, ◌<◌, ◌≤◌, take, length, ◌∷◌, [], cond};
 ghost use Rattle.complex.specs.Lists.{one};
-ghost use Rattle.store.specs.Places.{bit};
 ghost use Rattle.rows_steps.specs.Swap.{swap_word, Wrote, one_for, two_for, none_for};
 
 // What the two steps of one edge become: n steps each, at most 2.
@@ -60,29 +59,16 @@ pub fn number_of(c: u32, w: usize) -> u32
     w as u32
 }
 
-fn bit_of(b: bool) -> u32
-    ensures value { result ≡ bit b }
-    ensures upper_bound { result ≤ 1 }
-{
-    if b {
-        return 1;
-    }
-    0
-}
-
 pub fn one_for(e: u32, a: u32, flip: bool) -> Swap
     requires e_bound { e < 2147483648 }
     requires a_bound { a < 2147483648 }
     ensures { result ≡ one_for e a flip }
 {
     Swap {
-        fore: e * 2,
-        back: e * 2 + 1,
         n: 1,
-        f1: a * 2 + bit_of(flip),
-        f2: 0,
-        b1: a * 2 + bit_of(!flip),
-        b2: 0,
+        f1: a * 2 + flip as u32,
+        b1: a * 2 + !flip as u32,
+        ..none_for(e)
     }
 }
 
@@ -93,13 +79,12 @@ pub fn two_for(e: u32, a: u32, b: u32) -> Swap
     ensures { result ≡ two_for e a b }
 {
     Swap {
-        fore: e * 2,
-        back: e * 2 + 1,
         n: 2,
         f1: a * 2,
         f2: b * 2,
         b1: b * 2 + 1,
         b2: a * 2 + 1,
+        ..none_for(e)
     }
 }
 

@@ -1,7 +1,7 @@
 #![tactic(auto)]
 
 ghost use Rattle.std.specs.Prelude.{◌≡◌, ◌+◌, ◌<◌, ◌≤◌};
-ghost use Rattle.complex.specs.Lists.{one, distance};
+ghost use Rattle.complex.specs.Lists.{one};
 ghost use Rattle.rows_stretches.specs.Paths.{all_but, between};
 
 use rows_spans::Spans;
@@ -37,18 +37,6 @@ pub fn following(p: Place, s: usize) -> Stretch
     }
 }
 
-// How many steps lead from the place s to the place t, round the end of n places.
-fn steps_between(n: usize, s: usize, t: usize) -> usize
-    requires s_le_n { s ≤ n }
-    requires n_bound { t + n ≤ 65536 }
-    ensures { result ≡ distance n s t }
-{
-    if s <= t {
-        return t - s;
-    }
-    t + n - s
-}
-
 // What follows the step s of a cycle, up to its step t.
 pub fn up_to(p: Place, s: usize, t: usize) -> Stretch
     requires count_bound { p.count ≤ 2048 }
@@ -62,6 +50,6 @@ pub fn up_to(p: Place, s: usize, t: usize) -> Stretch
         at: p.at,
         count: n,
         from: from,
-        len: steps_between(n, from, t),
+        len: rows_corners::between(n, from, t),
     }
 }

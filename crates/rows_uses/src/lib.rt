@@ -67,12 +67,10 @@ pub fn count_uses(u: Use, cycles: &[u32], n: usize, steps: &[u32], i: u32) -> us
 {
     let mut sum: usize = 0;
     let mut from: usize = 0;
-    let mut j: usize = 0;
-    while j < n {
+    for j in 0..n {
         let c = cycles[j];
         sum = sum + cycle_uses(u, c, &steps[from..], i);
         from = from + store::places(1, c);
-        j = j + 1;
     }
     sum
 }

@@ -1,16 +1,19 @@
 -- One turn of a walk along a list in a script. Assumes nothing.
 use mathlib.Core.Path.{◌≡◌, refl, sym, ap, ◌∙◌}
 use mathlib.Core.List.{List, [], ◌∷◌}
-use Prim.Native.Nat.{ℕ, suc, ◌-◌, ◌≤◌, ◌<◌}
+use Prim.Native.Nat.{ℕ, suc, ◌+◌, ◌-◌, ◌≤◌, ◌<◌}
 use native.Mathlib.Omega.{arith}
 use lib.ListN.{length, drop}
 use Rattle.number.specs.Readers.{Read, got, bad, and_then, times}
-use Rattle.number.specs.Said.{no}
 use Rattle.number.proofs.Laws.{not_bad, got_thing, got_rest}
 use Rattle.number.proofs.Counted.{Things, times_cases}
-use Rattle.decode_parts.specs.Lists.{FieldAt, Found, list_of, skipped, things_read, Reaches, Stand}
+use Rattle.decode_parts.specs.Lists.{FieldAt, list_of, skipped, things_read, Reaches, Stand}
 use Rattle.decode_parts.proofs.Rest.{Leaves, leaves_times}
 use Rattle.decode_parts.proofs.Skips.{one_more, skip_turn, skip_end, skipped_to}
+
+-- how many of n are left when one more than i are passed
+pub one_passed : (n i : ℕ) → n - (i + 1) ≡ n - i - 1
+one_passed n i = omega arith
 
 module _ {A : Type 0} (r : List ℕ → Read A) where
   -- what is read after the first thing

@@ -11,8 +11,6 @@ ghost use Rattle.store.specs.Places.{num_of, cycle_words};
 ghost use Rattle.decode_parts.specs.Lists.{FieldAt, numbers_read, cycles_read, Reaches, Stand};
 ghost use Rattle.script.specs.Walks.{below, Marks, Copied, ScriptRoom};
 
-use decode_parts::Skip;
-use number::Number;
 // Walks along the lists that a command leaves in its script: the moved cycles of a cut, and the
 // cycles of a face.
 
@@ -29,9 +27,7 @@ pub fn take_number(script: &[u8], at: usize) -> Taken
     requires { Stand read_number script.now at 1 }
     ensures { FieldAt read_number script.now at result.value result.next }
 {
-    let Number::Value(value, next) = number::read_number(script, at) else {
-        return Taken { value: 0, next: at };
-    };
+    let (value, next) = number::read_number(script, at).unwrap();
     Taken { value, next }
 }
 
@@ -40,10 +36,7 @@ pub fn cycle_end(script: &[u8], at: usize) -> usize
     requires { Stand read_cycle script.now at 1 }
     ensures { Reaches read_cycle script.now at 1 result }
 {
-    let Skip::To(next) = decode_parts::skip_cycle(script, at) else {
-        return at;
-    };
-    next
+    decode_parts::skip_cycle(script, at).unwrap()
 }
 
 // ---- moved cycles
@@ -54,9 +47,8 @@ pub fn moved_rise(script: &[u8], place: usize, count: u32, limit: u32) -> bool
     ensures { result ≡ places 0 (numbers_read script.now place count) limit }
 {
     let mut at = place;
-    let mut left = count;
     let mut least: u32 = 0;
-    while 0 < left {
+    for _ in 0..count {
         let taken = take_number(script, at);
         let cycle = taken.value;
         if cycle < least {
@@ -67,7 +59,6 @@ pub fn moved_rise(script: &[u8], place: usize, count: u32, limit: u32) -> bool
         }
         least = cycle + 1;
         at = taken.next;
-        left -= 1;
     }
     true
 }
@@ -77,15 +68,13 @@ pub fn moved_has(script: &[u8], place: usize, count: u32, cycle: u32) -> bool
     ensures { result ≡ holds cycle (numbers_read script.now place count) }
 {
     let mut at = place;
-    let mut left = count;
-    while 0 < left {
+    for _ in 0..count {
         let taken = take_number(script, at);
         let other = taken.value;
         if cycle == other {
             return true;
         }
         at = taken.next;
-        left -= 1;
     }
     false
 }
@@ -98,13 +87,11 @@ pub fn mark_moved(script: &[u8], place: usize, count: u32, flags: &mut [bool; 51
 {
     *flags = [false; 512];
     let mut at = place;
-    let mut left = count;
-    while 0 < left {
+    for _ in 0..count {
         let taken = take_number(script, at);
         let i = store::wide(taken.value);
         flags[i] = true;
         at = taken.next;
-        left -= 1;
     }
 }
 
@@ -118,20 +105,18 @@ pub fn count_cycle_steps(script: &[u8], first: usize, count: u32, max: u32) -> u
 {
     let most = store::wide(max);
     let mut at = first;
-    let mut left = count;
     let mut sum: usize = 0;
-    while 0 < left {
+    for i in 0..count {
         let size = take_number(script, at);
         let n = store::places(1, size.value);
         if most - sum < n {
             return most + 1;
         }
-        if left == 1 {
+        if i + 1 == count {
             return sum + n;
         }
-        sum = sum + n;
+        sum += n;
         at = cycle_end(script, at);
-        left -= 1;
     }
     sum
 }
@@ -144,14 +129,10 @@ fn copy_numbers(script: &[u8], at: usize, count: usize, out: &mut [u32; 2048], t
     ensures { Copied script.now at count to out.old out.new result }
 {
     let mut place = at;
-    let mut left = count;
-    let mut row = to;
-    while 0 < left {
+    for row in to..to + count {
         let taken = take_number(script, place);
         out[row] = taken.value;
-        row = row + 1;
         place = taken.next;
-        left = left - 1;
     }
     place
 }
@@ -175,19 +156,15 @@ pub fn put_cycles(
     ensures steps_after { steps.new ≡ sets steps.old place (spread cycle_words (cycles_read script.now first count)) }
 {
     let mut at = first;
-    let mut left = count;
-    let mut i = row;
     let mut used = place;
-    while 0 < left {
+    for i in row..row + store::wide(count) {
         let size = take_number(script, at);
         let m = size.value;
         counts[i] = m;
         let width = store::places(1, m);
         let start = size.next;
         at = copy_numbers(script, start, width, steps, used);
-        used = used + width;
-        i = i + 1;
-        left -= 1;
+        used += width;
     }
     used
 }

@@ -1,5 +1,5 @@
 -- Where a number stands in a rising list. Assumes nothing.
-use Prim.Native.Nat.{ℕ, zero, suc, ◌+◌, ◌<◌, ◌≤◌}
+use Prim.Native.Nat.{ℕ, zero, suc, ◌<◌, ◌≤◌}
 use mathlib.Core.Path.{◌≡◌, refl, sym, ap, ap₂, ◌∙◌}
 use mathlib.Core.List.{List, [], ◌∷◌}
 use mathlib.Core.Bool.{Bool, true, false, cond}
@@ -10,6 +10,11 @@ use lib.ListN.{length, get_or, take}
 use lib.Seq.{get_or-take, length-take-le}
 use lib.Dec.{eqb}
 use borrow.Author.Tests.{eq-eqb, ne_eqb}
+use Rattle.std.specs.Prelude.{Result, Ok, Err}
+use Rattle.std.specs.Result.{result_unwrap_or}
+use Rattle.std.specs.List.Sorted.{IsBinarySearchResult}
+use Rattle.std.specs.Ordering.{nat_cmp}
+use Rattle.std.proofs.lemmas.List.Sorted.{searched}
 use Rattle.complex.specs.Cells.{LiveCell, ids, lookup, some_if}
 use Rattle.store.specs.Index.{row_of, Rising, value_at}
 
@@ -40,30 +45,19 @@ rising_le l r i j h k = go (dec_lt i j)
     go (yes u) = let v = r.below i j u k in omega arith
     go (no u) = let e : i ≡ j = omega arith in rw e (omega arith)
 
--- x is above what stands before lo, and not above what stands from hi on
-pub record Halving (l : List ℕ) (x lo hi : ℕ) : Type 0 where
-  pub low : (k : ℕ) → k < lo → get_or l k 0 < x
-  pub high : (k : ℕ) → hi ≤ k → k < length l → x ≤ get_or l k 0
-
-pub halving_start : (l : List ℕ) (x n : ℕ) → length l ≡ n → Halving l x 0 n
-halving_start l x n e = record { low = λ k h. absurd (omega arith); high = λ k h g. absurd (omega arith) }
-
-module _ (l : List ℕ) (x lo hi m : ℕ) (r : Rising l) (p : Halving l x lo hi) (h : m < length l) where
-  pub halving_up : get_or l m 0 < x → Halving l x (m + 1) hi
-  halving_up g = record { low = λ k u. let v = rising_le l r k m (omega arith) h in omega arith; high = p.high }
-
-  pub halving_down : x ≤ get_or l m 0 → Halving l x lo m
-  halving_down g = record { low = p.low; high = λ k u w. let v = rising_le l r m k u w in omega arith }
-
-pub row_past : (l : List ℕ) (x i : ℕ) → Rising l → Halving l x i i → i < length l → (get_or l i 0 ≡ x → ⊥) → row_of x l ≡ length l
-row_past l x i r p h n = row_none x l (λ k u. go k u (dec_lt k i))
+-- what a search of the list finds is the place, or that there is none
+pub row_searched : (x : ℕ) (l : List ℕ) (r : Result ℕ ℕ) → Rising l → IsBinarySearchResult (λ (y : ℕ). nat_cmp y x) l r → result_unwrap_or r (length l) ≡ row_of x l
+row_searched x l (Ok i) up s =
+    let f = searched l x (Ok i) s (rising_le l up) in
+    sym (row_found x l i f.0 f.1 (λ k h. let b = up.below k i h f.0 in omega (arith, f.1)))
+row_searched x l (Err i) up s = sym (row_none x l (λ k h e. go k h e (dec_lt k i)))
   where
-    go : (k : ℕ) → k < length l → Dec (k < i) → get_or l k 0 ≡ x → ⊥
-    go k u (yes v) e = let w = p.low k v in omega arith
-    go k u (no v) e = let w = rising_le l r i k (omega arith) u in let y = p.high i (omega arith) h in n (omega arith)
+    f : (i ≤ length l) × ((k : ℕ) → k < i → get_or l k 0 < x) × ((k : ℕ) → i ≤ k → k < length l → x < get_or l k 0)
+    f = searched l x (Err i) s (rising_le l up)
 
-pub row_end : (l : List ℕ) (x i j : ℕ) → Halving l x i j → length l ≤ i → row_of x l ≡ length l
-row_end l x i j p h = row_none x l (λ k u e. let w = p.low k (omega arith) in omega arith)
+    go : (k : ℕ) → k < length l → get_or l k 0 ≡ x → Dec (k < i) → ⊥
+    go k h e (yes u) = let v = f.1 k u in omega arith
+    go k h e (no u) = let v = f.2 k (omega arith) h in omega arith
 
 -- ---- what stands in a row
 module _ {A : Type 0} where

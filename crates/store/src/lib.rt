@@ -93,22 +93,7 @@ pub fn find(ids: &[u32; 256], n: usize, id: u32) -> usize
     requires rising { Rising (take n ids.now) }
     ensures { result ≡ row_of id (take n ids.now) }
 {
-    let mut lo: usize = 0;
-    let mut hi = n;
-    while lo < hi {
-        let mid = lo + (hi - lo) / 2;
-        if ids[mid] < id {
-            lo = mid + 1;
-        } else {
-            hi = mid;
-        }
-    }
-    if lo < n {
-        if ids[lo] == id {
-            return lo;
-        }
-    }
-    n
+    ids[..n].binary_search(&id).unwrap_or(n)
 }
 
 // The value in the row of an id, or z if no row has it.

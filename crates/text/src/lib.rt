@@ -57,12 +57,10 @@ pub fn put_bytes(text: &[u8], out: &mut [u8], at: usize) -> usize
     requires { at + length text.now ≤ length out.old }
     ensures { TextPut out.old at text.now (length text.now) out.new result }
 {
-    let mut i: usize = 0;
-    while i < text.len() {
+    for i in 0..text.len() {
         out[at + i] = text[i];
-        i = i + 1;
     }
-    at + i
+    at + text.len()
 }
 
 // A hyphen before a negative number; the place after it.

@@ -2,7 +2,7 @@
 
 // Asks whether a sound drawing and damaged ones are sound, made by the lines of standard input, whose letters its first lines explain, and
 // prints a line for each: yes or no, and the count of cells visited.
-use coordinate::{Located, Position};
+use coordinate::Position;
 use std::io;
 use store::{Cell, Drawing, Shape};
 
@@ -13,7 +13,7 @@ fn number(a: u8, b: u8, c: u8, d: u8) -> u32 {
 
 // The position in the bytes after the first; too few are the position of zeros.
 fn position(s: &[u8]) -> Position {
-    let Located::At(p, _) = coordinate::read_position(s, 1) else {
+    let Some((p, _)) = coordinate::read_position(s, 1) else {
         return Position { x: 0.0, y: 0.0 };
     };
     p

@@ -3,9 +3,10 @@
 // Replays scripts: what is printed for each, and the file of the drawing at the end, against what is stored. The arguments
 // name three files of the data folder for each script: the script, what is printed, the drawing's file.
 ghost use Rattle.std.specs.Prelude.{◌≤◌, length};
-ghost use Rattle.lent.specs.Arrays.{of_lists};
 ghost use Rattle.call_asked.specs.Entries.{EmptyIn};
+ghost use Rattle.lent.specs.Sheets.{arrays, Same};
 
+use lent::{SheetBuf, SheetMut, lend};
 use std::env::{Env, FillError};
 use std::io;
 use std::rt::Files;
@@ -48,34 +49,15 @@ fn differing(rt: &impl Print, argument: usize, same: bool, differ: u64) -> io::R
 }
 
 // Whether what is printed for a script from the empty drawing, a piece at a time, is what is stored.
-fn same_text(
-    next: &mut u32,
-    count: &mut usize,
-    ids: &mut [u32; 256],
-    kinds: &mut [u32; 256],
-    starts: &mut [u32; 256],
-    ends: &mut [u32; 256],
-    bends: &mut [u32; 256],
-    counts: &mut [u32; 256],
-    px: &mut [f64; 256],
-    py: &mut [f64; 256],
-    cycles: &mut [u32; 512],
-    steps: &mut [u32; 2048],
-    bx: &mut [f64; 2048],
-    by: &mut [f64; 2048],
-    script: &[u8],
-    stored: &[u8],
-) -> bool
-    requires { EmptyIn (of_lists next.old count.old ids.old kinds.old starts.old ends.old bends.old counts.old px.old py.old cycles.old steps.old bx.old by.old) }
+fn same_text(sheet: &mut SheetMut<'_>, script: &[u8], stored: &[u8]) -> bool
+    requires { EmptyIn (arrays sheet.old) }
+    ensures same { Same sheet.old sheet.new }
 {
     let mut out = [0u8; 4096];
     let mut at: usize = 0;
     let mut from: usize = 0;
     loop {
-        let p = printing::piece(
-            next, count, ids, kinds, starts, ends, bends, counts, px, py, cycles, steps, bx, by,
-            script, at, &mut out,
-        );
+        let p = printing::piece(sheet, script, at, &mut out);
         if !try_text::stands(&out, p.count, stored, from) {
             return false;
         }
@@ -89,38 +71,9 @@ fn same_text(
 
 // What is printed for a script, against a stored text.
 fn same_printed(script: &[u8], stored: &[u8]) -> bool {
-    let mut next: u32 = 1;
-    let mut count: usize = 0;
-    let mut ids = [0u32; 256];
-    let mut kinds = [0u32; 256];
-    let mut starts = [0u32; 256];
-    let mut ends = [0u32; 256];
-    let mut bends = [0u32; 256];
-    let mut counts = [0u32; 256];
-    let mut px = [0.0; 256];
-    let mut py = [0.0; 256];
-    let mut cycles = [0u32; 512];
-    let mut steps = [0u32; 2048];
-    let mut bx = [0.0; 2048];
-    let mut by = [0.0; 2048];
-    same_text(
-        &mut next,
-        &mut count,
-        &mut ids,
-        &mut kinds,
-        &mut starts,
-        &mut ends,
-        &mut bends,
-        &mut counts,
-        &mut px,
-        &mut py,
-        &mut cycles,
-        &mut steps,
-        &mut bx,
-        &mut by,
-        script,
-        stored,
-    )
+    let mut own = SheetBuf::empty();
+    let mut sheet = lend!(own);
+    same_text(&mut sheet, script, stored)
 }
 
 // The drawing's file after a script, against the stored one. Zeros follow each in its buffer.

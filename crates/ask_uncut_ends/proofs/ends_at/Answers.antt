@@ -1,5 +1,5 @@
 -- `ends_at` meets its contract. The loop keeps: the ends of the rows left are to be added. Assumes nothing.
-use Prim.Native.Nat.{◌≤◌, ◌-◌, ◌+◌}
+use Prim.Native.Nat.{◌+◌}
 use mathlib.Core.Path.{◌≡◌, ◌∙◌}
 use native.Mathlib.Omega.{arith}
 use lib.ListN.{take, get_or}
@@ -15,9 +15,6 @@ loop-i-init c = let a = c.args in (omega arith, ending_start a.v a.n a.ids.now a
 
 pub edge_ends-x-requires : goal.edge_ends-x-requires
 edge_ends-x-requires c = omega (arith, c.loop-i.invariant.1.few, c.loop-i-test.true, c.requires.few)
-
-pub overflow_add-i : goal.overflow_add-i
-overflow_add-i c = record { fits = omega (arith, c.loop-i-test.true, c.requires.few) }
 
 pub loop-i-preserved : goal.loop-i-preserved
 loop-i-preserved c =

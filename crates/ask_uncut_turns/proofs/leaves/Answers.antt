@@ -1,21 +1,19 @@
--- `leaves` meets its contract. Assumes nothing.
+-- `leaves` meets its contract: the row of its edge, or none. Assumes nothing.
 use borrow.Author.Rules.{rules}
+use mathlib.Core.Path.{◌∙◌}
+use Rattle.std.proofs.Common.{length-take-le}
+use native.Mathlib.Omega.{arith}
 use Rattle.sound.specs.Rows.{rows_of}
-use Rattle.ask_uncut_turns.proofs.Turning.{leaves_open, leaves_none}
+use Rattle.ask_uncut_turns.proofs.Turning.{leaves_row, leaves_none}
 use Rattle.ask_uncut_turns.proofs.leaves.Goals as goal
 
-pub side-u-requires : goal.side-u-requires
-side-u-requires c =
-    let p = c.requires in
-    record { few = p.few; ids = p.ids; kinds = p.starts; starts = p.starts; ends = p.ends; rising = p.rising }
-
-pub returns-then-k-eq1 : goal.returns-then-k-eq1
-returns-then-k-eq1 c =
+pub returns-then-row-n : goal.returns-then-row-n
+returns-then-row-n c =
     let a = c.args in
-    leaves_open (rows_of a.n a.ids.now a.kinds.now a.starts.now a.ends.now) a.v a.s _ c.value_at-k.ensures
-    c.if-k-eq1.true _ c.side-u.ensures
+    c.goes_on.ensures ∙ leaves_row (rows_of a.n a.ids.now a.kinds.now a.starts.now a.ends.now) a.v a.s _ c.find-row.ensures
 
 pub returns : goal.returns
 returns c =
     let a = c.args in
-    leaves_none (rows_of a.n a.ids.now a.kinds.now a.starts.now a.ends.now) a.v a.s _ c.value_at-k.ensures c.if-k-eq1.false
+    let l = length-take-le a.n a.kinds.now (omega arith) in
+    leaves_none (rows_of a.n a.ids.now a.kinds.now a.starts.now a.ends.now) a.v a.s _ c.find-row.ensures (omega arith)

@@ -11,6 +11,3 @@ use Rattle.ask_uncut_turns.proofs.path_turns.Given as goal
 abbrev pub invariant-loop-i : goal.invariant-loop-i
 invariant-loop-i l =
     (l.i ≤ l.m) × Turning (turns_at (rows_of l.n l.ids l.kinds l.starts l.ends) l.whole l.v) l.steps l.from l.m l.first l.h l.i
-
-abbrev pub decreases-loop-i : goal.decreases-loop-i
-decreases-loop-i l = l.m - l.i

@@ -41,12 +41,6 @@ overflow_add-from c =
     let t = c in
     record { fits = omega (arith, c.places-from.ensures ∙ places_one (get_or t.args.cycles.now t.loop-i.i 0), room t) }
 
-pub overflow_add-i : goal.overflow_add-i
-overflow_add-i c = omega (arith, c)
-
-pub loop-i-smaller : goal.loop-i-smaller
-loop-i-smaller c = omega (arith, c)
-
 pub loop-i-preserved : goal.loop-i-preserved
 loop-i-preserved c =
     let t = c in

@@ -16,6 +16,3 @@ use Rattle.ask_uncut_turns.proofs.turns.Given as goal
 abbrev pub invariant-loop-i : goal.invariant-loop-i
 invariant-loop-i l =
     (l.i ≤ l.m) × Rounding (turns_at (rows_of l.n l.ids l.kinds l.starts l.ends) l.whole l.v) (λ (k : Cycle). passages (steps_of k)) l.cycles l.steps l.m l.from l.i
-
-abbrev pub decreases-loop-i : goal.decreases-loop-i
-decreases-loop-i l = l.m - l.i

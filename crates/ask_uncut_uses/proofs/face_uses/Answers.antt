@@ -33,14 +33,6 @@ overflow_add-from c =
     let e = c.places-from.ensures ∙ places_one (get_or a.cycles.now (a.c0 + at.loop-i.i) 0) in
     record { fits = omega (arith, e, r) }
 
-pub overflow_add-i : goal.overflow_add-i
-overflow_add-i c =
-    let at = c in
-    record { fits = omega (arith, c, at.requires.k_bound) }
-
-pub loop-i-smaller : goal.loop-i-smaller
-loop-i-smaller c = omega (arith, c)
-
 pub loop-i-preserved : goal.loop-i-preserved
 loop-i-preserved c =
     let at = c in

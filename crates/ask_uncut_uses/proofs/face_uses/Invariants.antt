@@ -10,6 +10,3 @@ use Rattle.ask_uncut_uses.proofs.face_uses.Given as goal
 
 abbrev pub invariant-loop-i : goal.invariant-loop-i
 invariant-loop-i l = (l.i ≤ l.k) × Facing l.e l.face l.cycles l.c0 l.k l.steps l.p0 l.initial.x l.x l.from l.i
-
-abbrev pub decreases-loop-i : goal.decreases-loop-i
-decreases-loop-i l = l.k - l.i

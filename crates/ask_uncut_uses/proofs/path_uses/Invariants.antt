@@ -9,6 +9,3 @@ use Rattle.ask_uncut_uses.proofs.path_uses.Given as goal
 
 abbrev pub invariant-loop-i : goal.invariant-loop-i
 invariant-loop-i l = (l.i ≤ l.m) × Pathing l.e l.face l.cycle l.steps l.from l.m l.initial.x l.x l.i
-
-abbrev pub decreases-loop-i : goal.decreases-loop-i
-decreases-loop-i l = l.m - l.i

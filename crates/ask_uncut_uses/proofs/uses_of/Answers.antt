@@ -32,14 +32,6 @@ overflow_add-c0 c =
     c.wide-k.result c.wide-k.ensures in
     record { fits = omega (arith, k) }
 
-pub overflow_add-i : goal.overflow_add-i
-overflow_add-i c =
-    let turn = c in
-    record { fits = omega (arith, turn.loop-i-test.true, turn.requires.few) }
-
-pub loop-i-smaller : goal.loop-i-smaller
-loop-i-smaller c = omega (arith, c.loop-i-test.true)
-
 pub loop-i-preserved : goal.loop-i-preserved
 loop-i-preserved c =
     let w = c in

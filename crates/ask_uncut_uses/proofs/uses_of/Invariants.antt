@@ -12,6 +12,3 @@ use Rattle.ask_uncut_uses.proofs.uses_of.Given as goal
 
 abbrev pub invariant-loop-i : goal.invariant-loop-i
 invariant-loop-i l = (l.i ≤ l.n) × Rowing l.e l.n l.ids l.counts l.pool l.steps l.x l.c0 l.from l.i
-
-abbrev pub decreases-loop-i : goal.decreases-loop-i
-decreases-loop-i l = l.n - l.i

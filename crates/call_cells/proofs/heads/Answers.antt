@@ -1,6 +1,5 @@
 -- `heads` meets its contract. The loop's invariant: the sum is that of the first i cells. Assumes nothing.
-use borrow.Author.Rules.{rules}
-use Prim.Native.Nat.{ℕ, ◌+◌, ◌-◌, ◌<◌, ◌≤◌}
+use Prim.Native.Nat.{ℕ, ◌+◌, ◌<◌}
 use mathlib.Core.Path.{◌≡◌, refl, ap, sym, ◌∙◌, subst}
 use mathlib.Core.List.{List}
 use native.Mathlib.Omega.{arith}
@@ -13,18 +12,20 @@ use Rattle.store.proofs.Lists.{sum_more}
 use Rattle.file_length.specs.Widths.{head_spells, head_width}
 use Rattle.file_parts.proofs.Laying.{all_get}
 use Rattle.file_length.proofs.Lengths.{total_most, head_most}
+use Rattle.lent.specs.Arrays.{held_by}
+use Rattle.lent.specs.Sheets.{seen}
 use Rattle.lent.proofs.Held.{cells_length}
-use Rattle.call_cells.specs.Rows.{cells_in, past_cell}
+use Rattle.call_cells.specs.Rows.{past_cell}
 use Rattle.call_cells.proofs.heads.Goals as goal
 
 abbrev cells : (s : goal.After-loop-i) → List Cell
-cells s = let a = s.args in cells_in a.ids.now a.kinds.now a.starts.now a.ends.now a.bends.now a.counts.now a.px.now a.py.now
+cells s = let a = s.args in (held_by (seen a.view.now)).cells
 
 abbrev cells_2 : (s : goal.After-head_length-sum) → List Cell
-cells_2 s = let a = s.args in cells_in a.ids.now a.kinds.now a.starts.now a.ends.now a.bends.now a.counts.now a.px.now a.py.now
+cells_2 s = let a = s.args in (held_by (seen a.view.now)).cells
 
 abbrev cells_3 : (s : goal.After-cell_at-c) → List Cell
-cells_3 s = let a = s.args in cells_in a.ids.now a.kinds.now a.starts.now a.ends.now a.bends.now a.counts.now a.px.now a.py.now
+cells_3 s = let a = s.args in (held_by (seen a.view.now)).cells
 
 inside : (w : goal.After-head_length-sum) → w.loop-i.i < length (cells_2 w)
 inside w =
@@ -42,7 +43,7 @@ cell_at-c-requires c =
     let f = s.requires.few in
     record {
       row_lt_cells_most = omega (arith, c.loop-i-test.true);
-      ids_len = sym (cells_length _ s.args.ids.now) ∙ s.requires.cells;
+      ids_len = sym (cells_length _ s.args.view.now.ids.now) ∙ s.requires.cells;
     }
 
 pub head_length-sum-requires : goal.head_length-sum-requires
@@ -67,9 +68,6 @@ overflow_add-sum c =
     let v = head_most c.cell_at-c.result in
     let e = c.head_length-sum.ensures in
     record { fits = omega arith }
-
-pub loop-i-smaller : goal.loop-i-smaller
-loop-i-smaller c = omega arith
 
 pub loop-i-preserved : goal.loop-i-preserved
 loop-i-preserved c =

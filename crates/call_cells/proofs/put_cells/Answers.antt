@@ -1,5 +1,4 @@
 -- `put_cells` meets its contract. The loop's invariant: the first i cells are written, and place is where the next one's parts begin. Assumes nothing.
-use borrow.Author.Rules.{rules}
 use Prim.Native.Nat.{ℕ, ◌+◌, ◌-◌, ◌<◌, ◌≤◌}
 use mathlib.Core.Path.{◌≡◌, refl, ap, sym, ◌∙◌, subst}
 use mathlib.Core.List.{List, []}
@@ -17,8 +16,10 @@ use Rattle.file_parts.specs.Parts.{BytesPut, positions_from}
 use Rattle.file_write.specs.Places.{cell_in, place_after, PlaceFits, CellReady, AllReady}
 use Rattle.file_parts.proofs.Laying.{put_none, put_size, put_as, put_turn, put_room, put_all, put_part}
 use Rattle.file_write.proofs.Cells.{place_of, cells_length, cell_is, place_next, ready, place_fits}
+use Rattle.lent.specs.Arrays.{held_by}
+use Rattle.lent.specs.Sheets.{seen}
 use Rattle.lent.proofs.Held.{cells_length as rows_length}
-use Rattle.call_cells.specs.Rows.{cells_in, past_cell}
+use Rattle.call_cells.specs.Rows.{past_cell}
 use Rattle.call_cells.proofs.put_cells.Goals as goal
 
 abbrev none : LiveCell
@@ -72,17 +73,17 @@ cell_at-c-requires c =
     let f = q.few in
     record {
       row_lt_cells_most = omega (arith, c.loop-i-test.true);
-      ids_len = sym (rows_length _ c.args.ids.now) ∙ q.cells;
+      ids_len = sym (rows_length _ c.args.view.now.ids.now) ∙ q.cells;
     }
 
 pub slice_bounds-put_cell-count : goal.slice_bounds-put_cell-count
 slice_bounds-put_cell-count c =
     let a = c.args in
-    let cs = cells_in a.ids.now a.kinds.now a.starts.now a.ends.now a.bends.now a.counts.now a.px.now a.py.now in
-    let xs = a.bx.now in
-    let ys = a.by.now in
-    let ns = a.cycles.now in
-    let st = a.steps.now in
+    let cs = (held_by (seen a.view.now)).cells in
+    let xs = a.view.now.bx.now in
+    let ys = a.view.now.by.now in
+    let ns = a.view.now.cycles.now in
+    let st = a.view.now.steps.now in
     let q = c.requires.all_ready in
     let l = c.loop-i in
     let h = c.loop-i-test.true in
@@ -93,11 +94,11 @@ slice_bounds-put_cell-count c =
 pub slice_bounds-put_cell-start : goal.slice_bounds-put_cell-start
 slice_bounds-put_cell-start c =
     let a = c.args in
-    let cs = cells_in a.ids.now a.kinds.now a.starts.now a.ends.now a.bends.now a.counts.now a.px.now a.py.now in
-    let xs = a.bx.now in
-    let ys = a.by.now in
-    let ns = a.cycles.now in
-    let st = a.steps.now in
+    let cs = (held_by (seen a.view.now)).cells in
+    let xs = a.view.now.bx.now in
+    let ys = a.view.now.by.now in
+    let ns = a.view.now.cycles.now in
+    let st = a.view.now.steps.now in
     let q = c.requires.all_ready in
     let l = c.loop-i in
     let h = c.loop-i-test.true in
@@ -108,11 +109,11 @@ slice_bounds-put_cell-start c =
 pub put_cell-at-requires : goal.put_cell-at-requires
 put_cell-at-requires c =
     let a = c.args in
-    let cs = cells_in a.ids.now a.kinds.now a.starts.now a.ends.now a.bends.now a.counts.now a.px.now a.py.now in
-    let xs = a.bx.now in
-    let ys = a.by.now in
-    let ns = a.cycles.now in
-    let st = a.steps.now in
+    let cs = (held_by (seen a.view.now)).cells in
+    let xs = a.view.now.bx.now in
+    let ys = a.view.now.by.now in
+    let ns = a.view.now.cycles.now in
+    let st = a.view.now.steps.now in
     let q = c.requires.all_ready in
     let l = c.loop-i in
     let h = c.loop-i-test.true in
@@ -126,11 +127,11 @@ put_cell-at-requires c =
 pub overflow_add-at : goal.overflow_add-at
 overflow_add-at c =
     let a = c.args in
-    let cs = cells_in a.ids.now a.kinds.now a.starts.now a.ends.now a.bends.now a.counts.now a.px.now a.py.now in
-    let xs = a.bx.now in
-    let ys = a.by.now in
-    let ns = a.cycles.now in
-    let st = a.steps.now in
+    let cs = (held_by (seen a.view.now)).cells in
+    let xs = a.view.now.bx.now in
+    let ys = a.view.now.by.now in
+    let ns = a.view.now.cycles.now in
+    let st = a.view.now.steps.now in
     let q = c.requires.all_ready in
     let l = c.loop-i in
     let h = c.loop-i-test.true in
@@ -144,11 +145,11 @@ overflow_add-at c =
 pub place_after-place-requires : goal.place_after-place-requires
 place_after-place-requires c =
     let a = c.args in
-    let cs = cells_in a.ids.now a.kinds.now a.starts.now a.ends.now a.bends.now a.counts.now a.px.now a.py.now in
-    let xs = a.bx.now in
-    let ys = a.by.now in
-    let ns = a.cycles.now in
-    let st = a.steps.now in
+    let cs = (held_by (seen a.view.now)).cells in
+    let xs = a.view.now.bx.now in
+    let ys = a.view.now.by.now in
+    let ns = a.view.now.cycles.now in
+    let st = a.view.now.steps.now in
     let q = c.requires.all_ready in
     let l = c.loop-i in
     let h = c.loop-i-test.true in
@@ -159,11 +160,11 @@ place_after-place-requires c =
 pub loop-i-preserved : goal.loop-i-preserved
 loop-i-preserved c =
     let a = c.args in
-    let cs = cells_in a.ids.now a.kinds.now a.starts.now a.ends.now a.bends.now a.counts.now a.px.now a.py.now in
-    let xs = a.bx.now in
-    let ys = a.by.now in
-    let ns = a.cycles.now in
-    let st = a.steps.now in
+    let cs = (held_by (seen a.view.now)).cells in
+    let xs = a.view.now.bx.now in
+    let ys = a.view.now.by.now in
+    let ns = a.view.now.cycles.now in
+    let st = a.view.now.steps.now in
     let q = c.requires.all_ready in
     let l = c.loop-i in
     let h = c.loop-i-test.true in
@@ -187,8 +188,8 @@ shape_of-buffer c = put_size c.loop-i.invariant.2
 pub returns : goal.returns
 returns c =
     let a = c.args in
-    let cs = cells_in a.ids.now a.kinds.now a.starts.now a.ends.now a.bends.now a.counts.now a.px.now a.py.now in
+    let cs = (held_by (seen a.view.now)).cells in
     let q = c.requires.all_ready in
     let l = c.loop-i in
-    let k = cells_length cs a.n a.bx.now a.by.now a.cycles.now a.steps.now q in
-    put_all cell_bytes (cells_of (take a.n cs) (cycles_from a.cycles.now a.steps.now) (positions_from a.bx.now a.by.now)) l.i (omega arith) l.invariant.2
+    let k = cells_length cs a.n a.view.now.bx.now a.view.now.by.now a.view.now.cycles.now a.view.now.steps.now q in
+    put_all cell_bytes (cells_of (take a.n cs) (cycles_from a.view.now.cycles.now a.view.now.steps.now) (positions_from a.view.now.bx.now a.view.now.by.now)) l.i (omega arith) l.invariant.2

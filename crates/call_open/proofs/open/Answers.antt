@@ -1,13 +1,14 @@
 -- `open` meets its contract: question 10 is question 1 of what was loaded. Assumes nothing.
-use borrow.Author.Rules.{rules}
+use mathlib.Core.Path.{subst}
+use Rattle.lent.specs.Arrays.{Arrays}
+use Rattle.call_asked.specs.Entries.{Asked}
 use Rattle.call_open.proofs.Judged.{loaded_some, loaded_none, no_file, opened_in}
 use Rattle.call_open.proofs.open.Goals as goal
 
-pub returns-in_default : goal.returns-in_default
-returns-in_default c = let l = c in no_file _ (loaded_none _ _ _ _ l.load.result l.load.ensures.rows_loaded c.in_default.is)
+pub returns-in_default-clause-opened_in : goal.returns-in_default-clause-opened_in
+returns-in_default-clause-opened_in c = no_file _ (loaded_none _ _ _ _ c.load.result c.load.ensures.rows_loaded c.in_default.is)
 
-pub returns : goal.returns
-returns c =
-    let i = c in
-    let l = i in
-    opened_in _ _ (loaded_some _ _ _ _ l.load.result l.load.ensures.rows_loaded _ _ _ i.in-Cells.is) c.asked.result c.asked.ensures
+pub returns-clause-opened_in : goal.returns-clause-opened_in
+returns-clause-opened_in c =
+    opened_in _ _ (loaded_some _ _ _ _ c.load.result c.load.ensures.rows_loaded _ _ _ c.in-Some.is) c.asked.result
+    (subst (λ (b : Arrays). Asked b c.asked.result) c.view-view.ensures c.asked.ensures)

@@ -1,6 +1,5 @@
 -- `tie_cycles` meets its contract. Assumes nothing.
-use borrow.Author.Rules.{rules}
-use Prim.Native.Nat.{ℕ, ◌+◌, ◌-◌, ◌<◌, ◌≤◌}
+use Prim.Native.Nat.{ℕ, ◌+◌, ◌<◌, ◌≤◌}
 use mathlib.Core.Path.{◌≡◌, sym, ◌∙◌}
 use mathlib.Core.List.{map}
 use native.Mathlib.Omega.{arith}
@@ -12,7 +11,7 @@ use Rattle.complex.specs.Sound.{steps_most}
 use Rattle.complex.proofs.Ties.{anchor}
 use Rattle.store.specs.View.{width, cycles_from}
 use Rattle.store.proofs.Lists.{places_one}
-use Rattle.call_pieces.proofs.Tying.{some_then, width_some, Tying, tying_none, tying_within, tying_turn, tying_named}
+use Rattle.call_pieces.proofs.Tying.{some_then, width_some, tying_none, tying_within, tying_turn, tying_named}
 use Rattle.call_pieces.proofs.tie_cycles.Goals as goal
 
 -- the cycles are there

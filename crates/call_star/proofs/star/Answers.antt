@@ -9,12 +9,12 @@ use Rattle.call_star.proofs.star.Goals as goal
 abbrev arrays : (c : goal.After-slice_known-2-1) → Arrays
 arrays c =
     let a = c.args in
-    of_lists a.next a.count a.ids.now a.kinds.now a.starts.now a.ends.now a.bends.now a.counts.now a.px.now a.py.now a.cycles.now a.steps.now a.bx.now a.by.now
+    of_lists a.view.now.next a.view.now.count a.view.now.ids.now a.view.now.kinds.now a.view.now.starts.now a.view.now.ends.now a.view.now.bends.now a.view.now.counts.now a.view.now.px.now a.view.now.py.now a.view.now.cycles.now a.view.now.steps.now a.view.now.bx.now a.view.now.by.now
 
 abbrev arrays_2 : (c : goal.After-star_rows-arg-1) → Arrays
 arrays_2 c =
     let a = c.args in
-    of_lists a.next a.count a.ids.now a.kinds.now a.starts.now a.ends.now a.bends.now a.counts.now a.px.now a.py.now a.cycles.now a.steps.now a.bx.now a.by.now
+    of_lists a.view.now.next a.view.now.count a.view.now.ids.now a.view.now.kinds.now a.view.now.starts.now a.view.now.ends.now a.view.now.bends.now a.view.now.counts.now a.view.now.px.now a.view.now.py.now a.view.now.cycles.now a.view.now.steps.now a.view.now.bx.now a.view.now.by.now
 
 pub star_rows-requires : goal.star_rows-requires
 star_rows-requires c =

@@ -12,9 +12,10 @@ use Rattle.store.specs.View.{cycles_from, cells_of, sheet_of}
 use Rattle.file_parts.specs.Parts.{positions_from}
 use Rattle.file_parts.proofs.Laying.{put_as, put_then, room_first, room_then}
 use Rattle.file_write.proofs.Filing.{next_spells, filled_put, filled_short}
-use Rattle.lent.specs.Arrays.{Arrays, held_by, of_lists}
+use Rattle.lent.specs.Arrays.{Arrays, held_by}
 use Rattle.answer.specs.declared.Totals.{Totals}
 use Rattle.lent.specs.Replies.{Ready}
+use Rattle.lent.specs.Sheets.{seen}
 use Rattle.lent.proofs.Sums.{ready_sizes}
 use Rattle.call_cells.proofs.Files.{ready_writable, ready_all, file_parts, call_is}
 use Rattle.call_write.proofs.write.Goals as goal
@@ -34,48 +35,48 @@ room_for a t r b n l h = let e = ap length (file_parts a t r) in omega arith
 pub returns-then-buffer-length : goal.returns-then-buffer-length
 returns-then-buffer-length c =
     let a = c.args in
-    let all = of_lists a.next a.count a.ids.now a.kinds.now a.starts.now a.ends.now a.bends.now a.counts.now a.px.now a.py.now a.cycles.now a.steps.now a.bx.now a.by.now in
+    let all = seen a.view.now in
     filled_short (file_of (sheet_of (held_by all))) a.buffer.now c.file_length-length.result c.file_length-length.ensures c.if-buffer-length.true
     ∙ call_is all a.t c.requires a.buffer.now
 
-pub overflow_cast-count : goal.overflow_cast-count
-overflow_cast-count c =
+pub overflow_cast-view : goal.overflow_cast-view
+overflow_cast-view c =
     let a = c.args in
-    let all = of_lists a.next a.count a.ids.now a.kinds.now a.starts.now a.ends.now a.bends.now a.counts.now a.px.now a.py.now a.cycles.now a.steps.now a.bx.now a.by.now in
+    let all = seen a.view.now in
     let f = (ready_writable all a.t c.requires).fits.cells in
     search rules
 
 pub put_two-at-requires : goal.put_two-at-requires
 put_two-at-requires c =
     let a = c.args in
-    let all = of_lists a.next a.count a.ids.now a.kinds.now a.starts.now a.ends.now a.bends.now a.counts.now a.px.now a.py.now a.cycles.now a.steps.now a.bx.now a.by.now in
-    let room : 0 + length (first a.next a.count ++ second all) ≤ length a.buffer.now =
+    let all = seen a.view.now in
+    let room : 0 + length (first a.view.now.next a.view.now.count ++ second all) ≤ length a.buffer.now =
     room_for all a.t c.requires a.buffer.now c.file_length-length.result c.file_length-length.ensures c.if-buffer-length.false in
     let w = ready_writable all a.t c.requires in
     let f = w.fits.cells in
     record {
       a_lt_numbers_end = next_spells (held_by all) (ready_sizes all a.t c.requires) w;
       b_lt_numbers_end = omega arith;
-      b_in_bounds = room_first a.buffer.now 0 (first a.next a.count) (second all) room;
+      b_in_bounds = room_first a.buffer.now 0 (first a.view.now.next a.view.now.count) (second all) room;
     }
 
 pub put_cells-end-requires : goal.put_cells-end-requires
 put_cells-end-requires c =
     let a = c.args in
-    let all = of_lists a.next a.count a.ids.now a.kinds.now a.starts.now a.ends.now a.bends.now a.counts.now a.px.now a.py.now a.cycles.now a.steps.now a.bx.now a.by.now in
-    let room : 0 + length (first a.next a.count ++ second all) ≤ length a.buffer.now =
+    let all = seen a.view.now in
+    let room : 0 + length (first a.view.now.next a.view.now.count ++ second all) ≤ length a.buffer.now =
     room_for all a.t c.requires a.buffer.now c.file_length-length.result c.file_length-length.ensures c.if-buffer-length.false in
     record {
       all_ready = ready_all all a.t c.requires;
-      by_in_bounds = room_then a.buffer.now 0 (first a.next a.count) (second all) c.put_two-at.ensures room;
+      by_in_bounds = room_then a.buffer.now 0 (first a.view.now.next a.view.now.count) (second all) c.put_two-at.ensures room;
     }
 
 pub returns : goal.returns
 returns c =
     let a = c.args in
-    let all = of_lists a.next a.count a.ids.now a.kinds.now a.starts.now a.ends.now a.bends.now a.counts.now a.px.now a.py.now a.cycles.now a.steps.now a.bx.now a.by.now in
+    let all = seen a.view.now in
     let l = c.file_length-length.ensures in
     let h = c.if-buffer-length.false in
     filled_put (file_of (sheet_of (held_by all))) (omega arith)
-    (put_as (sym (file_parts all a.t c.requires)) (put_then (first a.next a.count) (second all) c.put_two-at.ensures c.put_cells-end.ensures))
+    (put_as (sym (file_parts all a.t c.requires)) (put_then (first a.view.now.next a.view.now.count) (second all) c.put_two-at.ensures c.put_cells-end.ensures))
     ∙ call_is all a.t c.requires a.buffer.now

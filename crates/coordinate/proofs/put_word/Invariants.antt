@@ -14,6 +14,3 @@ use Rattle.coordinate.proofs.put_word.Given as goal
 abbrev pub invariant-loop-k : goal.invariant-loop-k
 invariant-loop-k l =
     (l.k ≤ 8) × (length l.out ≡ length l.initial.out) × (sets l.out (l.at + l.k) (bytes_of (8 - l.k) l.rest) ≡ sets l.initial.out l.at (bytes_of 8 l.n))
-
-abbrev pub decreases-loop-k : goal.decreases-loop-k
-decreases-loop-k l = 8 - l.k

@@ -1,5 +1,4 @@
 -- `dazolbei::dz_block_check` meets its contract: the verdict, in two numbers. Assumes nothing.
-use borrow.Author.Rules.{rules}
 use mathlib.Core.Path.{◌∙◌}
 use Rattle.dazolbei.proofs.dz_block_check.Goals as goal
 

@@ -2,7 +2,7 @@
 use borrow.Author.Rules.{rules}
 use mir.Syntax.{w32}
 use mir.ValLaws.{to_z-of_z}
-use mathlib.Core.Path.{◌≡◌, ◌∙◌}
+use mathlib.Core.Path.{◌∙◌}
 use Rattle.entry_files.specs.Calls.{euler_as}
 use Rattle.dazolbei.proofs.dz_block_euler.Goals as goal
 

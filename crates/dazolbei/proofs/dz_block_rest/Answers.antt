@@ -1,5 +1,4 @@
 -- `dazolbei::dz_block_rest` meets its contract: the length of the rest. Assumes nothing.
-use borrow.Author.Rules.{rules}
 use mathlib.Core.Path.{ap}
 use lib.ListN.{length}
 use Rattle.dazolbei.proofs.dz_block_rest.Goals as goal

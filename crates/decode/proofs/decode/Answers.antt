@@ -6,6 +6,8 @@ use borrow.Author.Rules.{rules}
 use native.Mathlib.Omega.{arith}
 use lib.ListN.{get_or}
 use Rattle.number.proofs.Laws.{lt_or_le}
+use Rattle.complex.specs.Decode as bytes
+use Rattle.decode_command.proofs.Decides.{alone}
 use Rattle.decode.proofs.Kind.{nothing, kind, no_field, unknown}
 use Rattle.decode.proofs.decode.Goals as goal
 
@@ -40,19 +42,19 @@ returns-in-4 c = let whole = kind 4 c.decode_face.ensures c.if-script-eq0.false 
 }
 
 pub returns-in-5 : goal.returns-in-5
-returns-in-5 c = let whole = kind 5 c.decode_place.ensures c.if-script-eq0.false c.in-5.is in record {
+returns-in-5 c = let whole = kind 5 (c.decode_place.ensures bytes.move (λ n p c e. alone e (λ s. refl) (λ s. tt))) c.if-script-eq0.false c.in-5.is in record {
   result_value = whole.0;
   decoded_end = whole.1;
 }
 
 pub returns-in-6 : goal.returns-in-6
-returns-in-6 c = let whole = kind 6 c.decode_delete.ensures c.if-script-eq0.false c.in-6.is in record {
+returns-in-6 c = let whole = kind 6 (c.decode_cell.ensures bytes.delete (λ n c e. alone e (λ s. refl) (λ s. tt))) c.if-script-eq0.false c.in-6.is in record {
   result_value = whole.0;
   decoded_end = whole.1;
 }
 
 pub returns-in-7 : goal.returns-in-7
-returns-in-7 c = let whole = kind 7 c.decode_glue_vertices.ensures c.if-script-eq0.false c.in-7.is in record {
+returns-in-7 c = let whole = kind 7 (c.decode_two.ensures bytes.glue_vertices (λ a b c e. alone e (λ s. refl) (λ s. tt))) c.if-script-eq0.false c.in-7.is in record {
   result_value = whole.0;
   decoded_end = whole.1;
 }
@@ -64,19 +66,19 @@ returns-in-8 c = let whole = kind 8 c.decode_glue_edges.ensures c.if-script-eq0.
 }
 
 pub returns-in-9 : goal.returns-in-9
-returns-in-9 c = let whole = kind 9 c.decode_unglue.ensures c.if-script-eq0.false c.in-9.is in record {
+returns-in-9 c = let whole = kind 9 (c.decode_cell-in-9.ensures bytes.unglue (λ n c e. alone e (λ s. refl) (λ s. tt))) c.if-script-eq0.false c.in-9.is in record {
   result_value = whole.0;
   decoded_end = whole.1;
 }
 
 pub returns-in-10 : goal.returns-in-10
-returns-in-10 c = let whole = kind 10 c.decode_cut_edge.ensures c.if-script-eq0.false c.in-10.is in record {
+returns-in-10 c = let whole = kind 10 (c.decode_two-in-10.ensures bytes.cut_edge (λ a b c e. alone e (λ s. refl) (λ s. tt))) c.if-script-eq0.false c.in-10.is in record {
   result_value = whole.0;
   decoded_end = whole.1;
 }
 
 pub returns-in-11 : goal.returns-in-11
-returns-in-11 c = let whole = kind 11 c.decode_place-in-11.ensures c.if-script-eq0.false c.in-11.is in record {
+returns-in-11 c = let whole = kind 11 (c.decode_place-in-11.ensures bytes.cut_face_vertex (λ n p c e. alone e (λ s. refl) (λ s. tt))) c.if-script-eq0.false c.in-11.is in record {
   result_value = whole.0;
   decoded_end = whole.1;
 }
@@ -94,7 +96,7 @@ returns-in-13 c = let whole = kind 13 c.decode_cut_face_closed.ensures c.if-scri
 }
 
 pub returns-in-14 : goal.returns-in-14
-returns-in-14 c = let whole = kind 14 c.decode_uncut.ensures c.if-script-eq0.false c.in-14.is in record {
+returns-in-14 c = let whole = kind 14 (c.decode_cell-in-14.ensures bytes.uncut (λ n c e. alone e (λ s. refl) (λ s. tt))) c.if-script-eq0.false c.in-14.is in record {
   result_value = whole.0;
   decoded_end = whole.1;
 }

@@ -13,5 +13,5 @@ returns-in_default c = of_create read_bends closed_edge (unread _ (no_list c.ben
 pub returns : goal.returns
 returns c =
     let h = c.bends_at.ensures in
-    let e = c.in-Listed.is in
+    let e = c.in-Some.is in
     of_create read_bends closed_edge (whole _ (list_found h e) _ refl (list_at_lem h e).lies)

@@ -16,18 +16,18 @@ returns-in_default c =
 pub returns-in_default-two_numbers : goal.returns-in_default-two_numbers
 returns-in_default-two_numbers c =
     let h = heard two_says c.two_numbers.ensures c.in_default-two_numbers.is in
-    of_cut_open (unread _ (pair_none read_cut_lists (pair_half (heard three_says c.three_numbers.ensures c.in-Numbers.is) h)))
+    of_cut_open (unread _ (pair_none read_cut_lists (pair_half (heard three_says c.three_numbers.ensures c.in-Some.is) h)))
 
 pub cut_lists-requires : goal.cut_lists-requires
-cut_lists-requires c = (pair_both (heard three_says c.three_numbers.ensures c.in-Numbers.is)
-    (heard two_says c.two_numbers.ensures c.in-Numbers-two_numbers.is)).is.fits
+cut_lists-requires c = (pair_both (heard three_says c.three_numbers.ensures c.in-Some.is)
+    (heard two_says c.two_numbers.ensures c.in-Some-two_numbers.is)).is.fits
 
 pub returns-in_default-cut_lists : goal.returns-in_default-cut_lists
-returns-in_default-cut_lists c = of_cut_open (unread _ (lists_none (pair_both (heard three_says c.three_numbers.ensures c.in-Numbers.is)
-    (heard two_says c.two_numbers.ensures c.in-Numbers-two_numbers.is)) (c.cut_lists.ensures.found, c.cut_lists.ensures.cut_lie) c.in_default-cut_lists.is))
+returns-in_default-cut_lists c = of_cut_open (unread _ (lists_none (pair_both (heard three_says c.three_numbers.ensures c.in-Some.is)
+    (heard two_says c.two_numbers.ensures c.in-Some-two_numbers.is)) (c.cut_lists.ensures.found, c.cut_lists.ensures.cut_lie) c.in_default-cut_lists.is))
 
 pub returns : goal.returns
 returns c =
-    let l = lists_both (pair_both (heard three_says c.three_numbers.ensures c.in-Numbers.is)
-    (heard two_says c.two_numbers.ensures c.in-Numbers-two_numbers.is)) (c.cut_lists.ensures.found, c.cut_lists.ensures.cut_lie) c.in-Listed.is in
+    let l = lists_both (pair_both (heard three_says c.three_numbers.ensures c.in-Some.is)
+    (heard two_says c.two_numbers.ensures c.in-Some-two_numbers.is)) (c.cut_lists.ensures.found, c.cut_lists.ensures.cut_lie) c.in-Some-cut_lists.is in
     of_cut_open (whole _ l.0 _ refl l.1)

@@ -13,14 +13,14 @@ pub returns-in_default : goal.returns-in_default
 returns-in_default c = of_open (unread _ (pair_none read_bends (heard two_says c.two_numbers.ensures c.in_default.is)))
 
 pub bends_at-requires : goal.bends_at-requires
-bends_at-requires c = (heard two_says c.two_numbers.ensures c.in-Numbers.is).is.fits
+bends_at-requires c = (heard two_says c.two_numbers.ensures c.in-Some.is).is.fits
 
 pub returns-in_default-bends_at : goal.returns-in_default-bends_at
 returns-in_default-bends_at c =
-    of_open (unread _ (pair_half (heard two_says c.two_numbers.ensures c.in-Numbers.is) (no_list c.bends_at.ensures c.in_default-bends_at.is)))
+    of_open (unread _ (pair_half (heard two_says c.two_numbers.ensures c.in-Some.is) (no_list c.bends_at.ensures c.in_default-bends_at.is)))
 
 pub returns : goal.returns
 returns c =
     let h = c.bends_at.ensures in
-    let e = c.in-Listed.is in
-    of_open (whole _ (pair_both (heard two_says c.two_numbers.ensures c.in-Numbers.is) (list_found h e)) _ refl (list_at_lem h e).lies)
+    let e = c.in-Some-bends_at.is in
+    of_open (whole _ (pair_both (heard two_says c.two_numbers.ensures c.in-Some.is) (list_found h e)) _ refl (list_at_lem h e).lies)

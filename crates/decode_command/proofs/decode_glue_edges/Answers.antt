@@ -10,4 +10,4 @@ pub returns-in_default : goal.returns-in_default
 returns-in_default c = of_three (unread _ (heard three_says c.three_numbers.ensures c.in_default.is))
 
 pub returns : goal.returns
-returns c = of_three (whole _ (heard three_says c.three_numbers.ensures c.in-Numbers.is) _ refl tt)
+returns c = of_three (whole _ (heard three_says c.three_numbers.ensures c.in-Some.is) _ refl tt)

@@ -11,4 +11,4 @@ pub returns-in_default : goal.returns-in_default
 returns-in_default c = of_create read_position vertex (unread _ (position_heard c.read_position.ensures c.in_default.is))
 
 pub returns : goal.returns
-returns c = of_create read_position vertex (whole _ (position_heard c.read_position.ensures c.in-At.is) _ refl tt)
+returns c = of_create read_position vertex (whole _ (position_heard c.read_position.ensures c.in-Some.is) _ refl tt)

@@ -15,20 +15,20 @@ returns-in_default c = record {
 
 pub returns-in_default-read_number : goal.returns-in_default-read_number
 returns-in_default-read_number c = record {
-  found = pair_half (list_found c.bends_at.ensures c.in-Listed.is)
+  found = pair_half (list_found c.bends_at.ensures c.in-Some.is)
       (counted_none read_number (number_heard c.read_number.ensures c.in_default-read_number.is));
   cut_lie = tt;
 }
 
 pub skip_numbers-requires : goal.skip_numbers-requires
-skip_numbers-requires c = (number_heard c.read_number.ensures c.in-Value.is).is.fits
+skip_numbers-requires c = (number_heard c.read_number.ensures c.in-Some-read_number.is).is.fits
 
 pub returns-in_default-skip_numbers : goal.returns-in_default-skip_numbers
 returns-in_default-skip_numbers c =
-    let n = c.in-Value in
+    let n = c.in-Some-read_number in
     let e = things_none read_number c.args.script.now n.place n.moved c.skip_numbers.ensures c.in_default-skip_numbers.is in
     record {
-      found = pair_half (list_found c.bends_at.ensures c.in-Listed.is)
+      found = pair_half (list_found c.bends_at.ensures c.in-Some.is)
           (counted_half read_number (number_heard c.read_number.ensures n.is) e);
       cut_lie = tt;
     }
@@ -37,12 +37,12 @@ returns-in_default-skip_numbers c =
 pub returns : goal.returns
 returns c =
     let s = c.args.script.now in
-    let n = c.in-Value in
+    let n = c.in-Some-read_number in
     let fits = (number_heard c.read_number.ensures n.is).is.fits in
-    let moved : Reaches read_number s n.place n.moved c.in-To.next =
-    things_at read_number s n.place n.moved c.skip_numbers.ensures leaves_number fits c.in-To.is in
+    let moved : Reaches read_number s n.place n.moved c.in-Some-skip_numbers.next =
+    things_at read_number s n.place n.moved c.skip_numbers.ensures leaves_number fits c.in-Some-skip_numbers.is in
     record {
-      found = pair_both (list_found c.bends_at.ensures c.in-Listed.is)
+      found = pair_both (list_found c.bends_at.ensures c.in-Some.is)
           (counted_both read_number (number_heard c.read_number.ensures n.is) moved);
-      cut_lie = ((list_at_lem c.bends_at.ensures c.in-Listed.is).lies, stands moved);
+      cut_lie = ((list_at_lem c.bends_at.ensures c.in-Some.is).lies, stands moved);
     }

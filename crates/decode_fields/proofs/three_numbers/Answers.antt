@@ -12,11 +12,11 @@ returns-in_default c = pair_none read_number (heard two_says c.two_numbers.ensur
 pub returns-in_default-read_number : goal.returns-in_default-read_number
 returns-in_default-read_number c =
     let d = c in
-    pair_half (heard two_says d.two_numbers.ensures d.in-Numbers.is)
+    pair_half (heard two_says d.two_numbers.ensures d.in-Some.is)
     (number_heard c.read_number.ensures c.in_default-read_number.is)
 
 pub returns : goal.returns
 returns c =
     let d = c in
-    pair_both (heard two_says d.two_numbers.ensures d.in-Numbers.is)
-    (number_heard c.read_number.ensures c.in-Value.is)
+    pair_both (heard two_says d.two_numbers.ensures d.in-Some.is)
+    (number_heard c.read_number.ensures c.in-Some-read_number.is)

@@ -11,11 +11,11 @@ returns-in_default c = pair_none read_number (number_heard c.read_number.ensures
 pub returns-in_default-read_number : goal.returns-in_default-read_number
 returns-in_default-read_number c =
     let d = c in
-    pair_half (number_heard d.read_number.ensures d.in-Value.is)
+    pair_half (number_heard d.read_number.ensures d.in-Some.is)
     (number_heard c.read_number-2.ensures c.in_default-read_number.is)
 
 pub returns : goal.returns
 returns c =
     let d = c in
-    pair_both (number_heard d.read_number.ensures d.in-Value.is)
-    (number_heard c.read_number-2.ensures c.in-Value-read_number.is)
+    pair_both (number_heard d.read_number.ensures d.in-Some.is)
+    (number_heard c.read_number-2.ensures c.in-Some-read_number.is)

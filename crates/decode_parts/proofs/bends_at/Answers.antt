@@ -8,13 +8,13 @@ use Rattle.decode_parts.proofs.bends_at.Goals as goal
 
 -- the list's places lie in the script
 fits :
-    (c : goal.In-Listed) →
+    (c : goal.In-Some) →
     let a = c.args in
-    let b = c.in-Listed in
+    let b = c.in-Some in
     (a.at + b.first ≤ length a.script.now) × (a.at + b.end ≤ length a.script.now)
 fits c =
     let a = c in
-    part_fits a.args.script.now a.args.at a.requires _ c.read_bends.ensures c.in-Listed.is
+    part_fits a.args.script.now a.args.at a.requires _ c.read_bends.ensures c.in-Some.is
 
 pub returns-in_default : goal.returns-in_default
 returns-in_default c =
@@ -30,4 +30,4 @@ overflow_add-result-2 c = let l = fits c in omega arith
 pub returns : goal.returns
 returns c =
     let a = c in
-    part_listed a.args.script.now a.args.at a.requires _ c.read_bends.ensures c.in-Listed.is
+    part_listed a.args.script.now a.args.at a.requires _ c.read_bends.ensures c.in-Some.is

@@ -13,13 +13,13 @@ returns-in_default c =
     cycle_stop a.script.now a.at (number_heard c.read_number.ensures c.in_default.is)
 
 pub skip_numbers-requires : goal.skip_numbers-requires
-skip_numbers-requires c = (number_at_lem _ _ c.read_number.ensures c.in-Value.is).fits
+skip_numbers-requires c = (number_at_lem _ _ c.read_number.ensures c.in-Some.is).fits
 
 pub returns-then-m-eq0 : goal.returns-then-m-eq0
-returns-then-m-eq0 c = c.skip_numbers.ensures ∙ cycle_vertex (number_at_lem _ _ c.read_number.ensures c.in-Value.is) c.if-m-eq0.true
+returns-then-m-eq0 c = c.skip_numbers.ensures ∙ cycle_vertex (number_at_lem _ _ c.read_number.ensures c.in-Some.is) c.if-m-eq0.true
 
 pub skip_numbers-requires-2 : goal.skip_numbers-requires-2
-skip_numbers-requires-2 c = (number_at_lem _ _ c.read_number.ensures c.in-Value.is).fits
+skip_numbers-requires-2 c = (number_at_lem _ _ c.read_number.ensures c.in-Some.is).fits
 
 pub returns : goal.returns
-returns c = c.skip_numbers-2.ensures ∙ cycle_steps (number_at_lem _ _ c.read_number.ensures c.in-Value.is) c.if-m-eq0.false
+returns c = c.skip_numbers-2.ensures ∙ cycle_steps (number_at_lem _ _ c.read_number.ensures c.in-Some.is) c.if-m-eq0.false

@@ -1,16 +1,8 @@
--- `decode_parts::skip_cycles` meets its contract. The loop's invariant: the cycles that are left, from where the loop is, end where all of them end.
--- The measure is how many are left. Assumes nothing.
-use mathlib.Core.Path.{refl}
-use borrow.Author.Rules.{rules}
-use native.Mathlib.Omega.{arith}
+-- `decode_parts::skip_cycles` meets its contract. The loop's invariant: the cycles after those that were passed end where all of them end.
+-- Assumes nothing.
 use Rattle.complex.specs.Decode.{read_cycle}
-use Rattle.decode_parts.proofs.Rest.{leaves_cycle}
-use Rattle.decode_parts.proofs.Skips.{Skipping, skipping_stop, skipping_turn, skipping_end}
-use Rattle.decode_parts.proofs.Fields.{skip_heard, no_skip}
+use Rattle.decode_parts.proofs.Skips.{Skipping}
 use Rattle.decode_parts.proofs.skip_cycles.Given as goal
 
-abbrev pub invariant-loop-left : goal.invariant-loop-left
-invariant-loop-left l = Skipping read_cycle l.script l.at l.count l.place l.left
-
-abbrev pub decreases-loop-left : goal.decreases-loop-left
-decreases-loop-left l = l.left
+abbrev pub invariant-loop : goal.invariant-loop
+invariant-loop l = Skipping read_cycle l.script l.at l.count l.place l.counter

@@ -13,6 +13,3 @@ use Rattle.door.proofs.bends_of.Given as goal
 
 abbrev pub invariant-loop-i : goal.invariant-loop-i
 invariant-loop-i l = (l.i ≤ 2048) × (length l.out ≡ 2048) × (take l.i l.out ≡ take l.i (positions_in l.bx l.by))
-
-abbrev pub decreases-loop-i : goal.decreases-loop-i
-decreases-loop-i l = 2048 - l.i

@@ -1,11 +1,11 @@
 -- `cells_of` meets its contract: a cell more at each turn. Assumes nothing.
-use borrow.Author.Rules.{rules}
-use Prim.Native.Nat.{◌≤◌, ◌-◌}
 use mathlib.Core.Path.{◌≡◌, refl, sym, ◌∙◌}
 use native.Mathlib.Omega.{arith}
-use lib.ListN.{length, take, length-set}
+use lib.ListN.{length, length-set}
+use Rattle.lent.specs.Arrays.{held_by}
+use Rattle.lent.specs.Sheets.{seen}
 use Rattle.lent.proofs.Held.{cells_length}
-use Rattle.call_cells.specs.Rows.{cells_in, past_cell}
+use Rattle.call_cells.specs.Rows.{past_cell}
 use Rattle.door.proofs.Fronts.{front_turn, front_all}
 use Rattle.door.proofs.cells_of.Goals as goal
 
@@ -18,8 +18,8 @@ loop-i-preserved c =
     let lp = t.loop-i in
     let s = t in
     let a = s.args in
-    let l = cells_in a.ids.now a.kinds.now a.starts.now a.ends.now a.bends.now a.counts.now a.px.now a.py.now in
-    let h : length l ≡ length a.ids.now = cells_length _ a.ids.now in
+    let l = (held_by (seen a.view.now)).cells in
+    let h : length l ≡ length a.view.now.ids.now = cells_length _ a.view.now.ids.now in
     let k = t.loop-i-test.true in (
       omega (arith, k),
       length-set lp.out _ _ ∙ lp.invariant.1,
@@ -33,5 +33,5 @@ returns c =
     let s = c in
     let a = s.args in
     let e : lp.i ≡ 256 = omega (arith, c.loop-i-test.false, lp.invariant.0) in
-    let l = cells_in a.ids.now a.kinds.now a.starts.now a.ends.now a.bends.now a.counts.now a.px.now a.py.now in
-    front_all l lp.out lp.i (cells_length _ a.ids.now ∙ s.requires ∙ sym e) (lp.invariant.1 ∙ sym e) lp.invariant.2
+    let l = (held_by (seen a.view.now)).cells in
+    front_all l lp.out lp.i (cells_length _ a.view.now.ids.now ∙ s.requires ∙ sym e) (lp.invariant.1 ∙ sym e) lp.invariant.2

@@ -9,6 +9,3 @@ use Rattle.door.proofs.put_bends.Given as goal
 
 abbrev pub invariant-loop-i : goal.invariant-loop-i
 invariant-loop-i l = (l.i ≤ 2048) × Bends l.bends 2048 l.i l.bx l.by
-
-abbrev pub decreases-loop-i : goal.decreases-loop-i
-decreases-loop-i l = 2048 - l.i

@@ -1,31 +1,38 @@
 -- `put_cells` meets its contract: a row more at each turn. Assumes nothing.
 use borrow.Author.Rules.{rules}
 use Prim.Native.Nat.{◌+◌}
-use mathlib.Core.Path.{refl}
+use mathlib.Core.Path.{refl, ap}
 use native.Mathlib.Omega.{arith}
-use Rattle.lent.specs.Arrays.{of_lists}
-use Rattle.door.proofs.Rows.{put_turn, put_all}
+use Rattle.lent.specs.Arrays.{Arrays}
+use Rattle.lent.specs.Sheets.{arrays}
+use Rattle.lent.proofs.Held.{numbered, numbered_long}
+use Rattle.door.proofs.Rows.{rest_kept, put_turn, put_all}
 use Rattle.door.proofs.put_cells.Goals as goal
 
 pub loop-i-init : goal.loop-i-init
-loop-i-init c = (omega arith, record { long = c.requires; front = refl; rows = refl })
+loop-i-init c =
+    record {
+      inside = omega arith;
+      rows = record { long = numbered_long _ 0 0 c.requires; front = refl; rows = refl };
+      same = search rules;
+      kept = refl;
+    }
 
 pub loop-i-preserved : goal.loop-i-preserved
 loop-i-preserved c =
-    let w = c.put_cell.ensures in
     let l = c.loop-i in
-    let g = c.args in
-    let a = of_lists g.next l.i l.ids l.kinds l.starts l.ends l.bends l.counts l.px l.py g.cycles.now g.steps.now g.bx.now g.by.now in (
-      omega arith,
-      put_turn g.cells (search rules) a l.invariant.1 _ _ (omega arith) refl _
-          (λ j. of_lists g.next (l.i + 1) (w.ids j) (w.kinds j) (w.starts j) (w.ends j) (w.bends j) (w.counts j) (w.px j) (w.py j)
-          g.cycles.now g.steps.now g.bx.now g.by.now),
-    )
+    let e = c.put_cell.ensures.put in
+    record {
+      inside = omega arith;
+      rows =
+          put_turn c.args.cells (search rules) (numbered (arrays l.sheet) 0 l.i) l.invariant.rows _ _ (omega arith) refl _
+          (ap (λ (b : Arrays). numbered b 0 (l.i + 1)) e);
+      same = search rules;
+      kept = rest_kept (arrays c.args.sheet.now) (arrays l.sheet) (arrays c.put_cell.new.sheet) l.i _ _ l.invariant.kept e;
+    }
 
-pub returns : goal.returns
-returns c =
+pub returns-clause-all_rows : goal.returns-clause-all_rows
+returns-clause-all_rows c =
     let l = c.loop-i in
-    let g = c.args in
-    let a = of_lists g.next l.i l.ids l.kinds l.starts l.ends l.bends l.counts l.px l.py g.cycles.now g.steps.now g.bx.now g.by.now in
-    let r = put_all g.cells (search rules) a l.invariant.1 (omega arith) in
+    let r = put_all c.args.cells (search rules) (numbered (arrays l.sheet) 0 l.i) l.invariant.rows (omega arith) in
     record { cells = r.cells; rows = r.rows }

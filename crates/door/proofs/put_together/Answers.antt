@@ -7,4 +7,4 @@ returns c =
     let a = c.args in
     let e = c.cells_of-rows.ensures in
     let g = c.bends_of-places.ensures in
-    λ j. record { next = a.next; count = a.count; cells = e j; cycles = a.cycles.now; steps = a.steps.now; bends = g j }
+    λ j. record { next = a.view.now.next; count = a.view.now.count; cells = e j; cycles = a.view.now.cycles.now; steps = a.view.now.steps.now; bends = g j }

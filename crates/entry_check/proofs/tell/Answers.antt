@@ -1,5 +1,4 @@
 -- `tell` meets its contract. Assumes nothing.
-use borrow.Author.Rules.{rules}
 use native.Mathlib.Omega.{arith}
 use Rattle.entry_check.proofs.Verdicts.{as_yes, as_no}
 use Rattle.entry_check.proofs.tell.Goals as goal

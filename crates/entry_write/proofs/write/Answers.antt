@@ -1,16 +1,16 @@
 -- `write` meets its contract: 1, or the file of sound arrays. Assumes nothing.
-use borrow.Author.Rules.{rules}
 use mathlib.Core.Path.{◌∙◌}
+use Rattle.lent.specs.Sheets.{seen}
 use Rattle.call_asked.proofs.Questions.{asked_sums, after_yes, after_no}
 use Rattle.entry_write.proofs.write.Goals as goal
 
 pub returns-in_default : goal.returns-in_default
-returns-in_default c = after_no _ _ _ _ c.asked.ensures
+returns-in_default c = after_no (seen c.args.view.now) _ _ _ c.asked.ensures
     c.in_default.is
 
 pub write-requires : goal.write-requires
-write-requires c = asked_sums _ _ _ c.asked.ensures c.in-Sound.is
+write-requires c = asked_sums (seen c.args.view.now) _ _ c.asked.ensures c.in-Some.is
 
 pub returns : goal.returns
 returns c = let t = c in
-    c.write.ensures ∙ after_yes _ _ _ _ _ t.asked.ensures t.in-Sound.is
+    c.write.ensures ∙ after_yes (seen c.args.view.now) _ _ _ _ t.asked.ensures t.in-Some.is

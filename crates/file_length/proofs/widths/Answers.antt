@@ -47,9 +47,6 @@ overflow_add-sum c =
     let e = c.number_width-sum.ensures in
     record { fits = omega (arith, s.requires.n_bound) }
 
-pub loop-i-smaller : goal.loop-i-smaller
-loop-i-smaller c = omega arith
-
 pub loop-i-preserved : goal.loop-i-preserved
 loop-i-preserved c =
     let w = c in

@@ -39,9 +39,6 @@ put_number-place-requires c =
           (ap spell e) s.requires.src_in_bounds;
     }
 
-pub loop-i-smaller : goal.loop-i-smaller
-loop-i-smaller c = omega arith
-
 pub loop-i-preserved : goal.loop-i-preserved
 loop-i-preserved c =
     let f = c.put_number-place in

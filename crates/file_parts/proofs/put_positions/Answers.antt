@@ -48,9 +48,6 @@ put_position-place-requires c =
       at_in_bounds = omega arith;
     }
 
-pub loop-i-smaller : goal.loop-i-smaller
-loop-i-smaller c = omega arith
-
 pub loop-i-preserved : goal.loop-i-preserved
 loop-i-preserved c =
     let f = c.put_position-place in

@@ -19,6 +19,3 @@ use Rattle.file_parts.proofs.put_positions.Given as goal
 
 abbrev pub invariant-loop-i : goal.invariant-loop-i
 invariant-loop-i l = (l.i ≤ l.n) × BytesPut l.initial.out l.at (spread position_bytes (take l.i (run_of l.from l.n (positions_from l.xs l.ys)))) l.out l.place
-
-abbrev pub decreases-loop-i : goal.decreases-loop-i
-decreases-loop-i l = l.n - l.i

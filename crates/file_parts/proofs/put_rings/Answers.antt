@@ -53,9 +53,6 @@ overflow_add-step c =
     let g = told.within in
     record { fits = omega arith }
 
-pub loop-i-smaller : goal.loop-i-smaller
-loop-i-smaller c = omega arith
-
 pub loop-i-preserved : goal.loop-i-preserved
 loop-i-preserved c =
     let w = c in

@@ -19,6 +19,3 @@ abbrev pub invariant-loop-i : goal.invariant-loop-i
 invariant-loop-i l =
     (l.i ≤ l.n) × (l.step ≡ l.first + width_sum (take l.i (run_of l.from l.n l.cycles)))
     × BytesPut l.initial.out l.at (spread cycle_bytes (take l.i (cycles_from (run_of l.from l.n l.cycles) (drop l.first l.steps)))) l.out l.place
-
-abbrev pub decreases-loop-i : goal.decreases-loop-i
-decreases-loop-i l = l.n - l.i

@@ -18,11 +18,11 @@ returns-then-face c =
     let k = c in
     let r = k in
     let a = r.args in
-    face_found a.s.now a.at _ _ (sym r.read_number.ensures ∙ ap number_says k.in-Value.is) a.face c.if-face.true
+    face_found a.s.now a.at _ _ (sym r.read_number.ensures ∙ ap number_says k.in-Some.is) a.face c.if-face.true
 
 pub returns : goal.returns
 returns c =
     let k = c in
     let r = k in
     let a = r.args in
-    closed_found a.s.now a.at _ _ (sym r.read_number.ensures ∙ ap number_says k.in-Value.is) a.face c.if-face.false
+    closed_found a.s.now a.at _ _ (sym r.read_number.ensures ∙ ap number_says k.in-Some.is) a.face c.if-face.false

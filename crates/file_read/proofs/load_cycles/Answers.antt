@@ -58,7 +58,7 @@ loop-i-preserved c =
       omega arith,
       loading_turn _ _ _ _ _ _ _ _ _ _ _ L _ _ _ _ l.loop-i-test.true
           (subst (CyclesLoaded (times read_cycle 1 (drop at.loop-i.p a.s.now)) a.s.now at.loop-i.cycles at.loop-i.steps at.loop-i.u _ _)
-          c.in-Next.is l.load_cycle.ensures),
+          c.in-Some.is l.load_cycle.ensures),
     )
 
 pub shape_of-cycles : goal.shape_of-cycles

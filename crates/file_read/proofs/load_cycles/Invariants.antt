@@ -12,6 +12,3 @@ use Rattle.file_read.proofs.load_cycles.Given as goal
 
 abbrev pub invariant-loop-i : goal.invariant-loop-i
 invariant-loop-i l = (l.i ≤ l.n) × Loading l.s l.at l.n l.initial.cycles l.initial.steps l.initial.u l.i l.p l.cycles l.steps l.u
-
-abbrev pub decreases-loop-i : goal.decreases-loop-i
-decreases-loop-i l = l.n - l.i

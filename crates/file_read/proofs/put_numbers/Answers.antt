@@ -38,7 +38,7 @@ loop-i-preserved c =
     let st = at in
     let a = st.args in
     let P = at.loop-i.invariant.1 in
-    let v = value_at_lem a.s.now at.loop-i.p _ _ (sym r.read_number.ensures ∙ ap number_says c.in-Value.is) in (
+    let v = value_at_lem a.s.now at.loop-i.p _ _ (sym r.read_number.ensures ∙ ap number_says c.in-Some.is) in (
       omega arith,
       putting_turn a.s.now a.at a.m a.out.now a.used at.loop-i.i at.loop-i.p at.loop-i.out P _ _ r.loop-i-test.true
           (omega (arith, st.requires.m_in_bounds)) v.0 v.2,

@@ -1,16 +1,17 @@
 -- `file_read::shape_at` meets its contract. Assumes nothing.
+use Rattle.std.specs.Prelude.{Option, Some, None}
 use Prim.Native.Nat.{ℕ, zero, suc}
 use mathlib.Core.Path.{◌≡◌, refl, sym, subst}
 use mathlib.Core.List.{List}
 use native.Mathlib.Omega.{arith}
 use borrow.Author.Rules.{rules}
 use Rattle.number.specs.Readers.{bad}
-use Rattle.file_read.specs.declared.ShapeFound.{ShapeFound}
+use Rattle.store.specs.declared.Shape.{Shape}
 use Rattle.file_read.specs.Heads.{read_shape, ShapeRead}
 use Rattle.file_read.proofs.shape_at.Goals as goal
 
 -- what the reader of a kind says, where the kind is that
-of_kind : (s : List ℕ) (at kind k : ℕ) (r : ShapeFound) → kind ≡ k → ShapeRead (read_shape k) s at r → ShapeRead (read_shape kind) s at r
+of_kind : (s : List ℕ) (at kind k : ℕ) (r : Option (Shape × ℕ)) → kind ≡ k → ShapeRead (read_shape k) s at r → ShapeRead (read_shape kind) s at r
 of_kind s at kind k r e h = subst (λ (m : ℕ). ShapeRead (read_shape m) s at r) (sym e) h
 
 no_kind : (n : ℕ) (s : List ℕ) → (n ≡ 0 → ⊥) → (n ≡ 1 → ⊥) → (n ≡ 2 → ⊥) → (n ≡ 3 → ⊥) → read_shape n s ≡ bad

@@ -25,5 +25,5 @@ pub returns : goal.returns
 returns c =
     let r = c in
     let a = r.args in
-    let l = located_at_lem a.s.now a.at _ _ (sym r.read_position.ensures ∙ ap located_says c.in-At.is) in
+    let l = located_at_lem a.s.now a.at _ _ (sym r.read_position.ensures ∙ ap located_says c.in-Some.is) in
     last_found placed (record { read = l.0; inside = l.2 }) refl

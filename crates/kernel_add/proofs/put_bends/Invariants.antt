@@ -12,6 +12,3 @@ use Rattle.kernel_add.proofs.put_bends.Given as goal
 
 abbrev pub invariant-loop-i : goal.invariant-loop-i
 invariant-loop-i l = (l.i ≤ l.n) × BendsPut l.initial.bx l.initial.by l.at (positions_at l.script l.first l.k) l.i l.bx l.by
-
-abbrev pub decreases-loop-i : goal.decreases-loop-i
-decreases-loop-i l = l.n - l.i

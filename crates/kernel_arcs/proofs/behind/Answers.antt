@@ -1,15 +1,19 @@
 -- `behind` meets its contract. Assumes nothing.
 use borrow.Author.Rules.{rules}
+use Prim.Native.Nat.{ℕ, ◌+◌}
+use mathlib.Core.Path.{ap, ◌∙◌}
 use native.Mathlib.Omega.{arith}
+use Rattle.store.proofs.Lists.{places_one}
 use Rattle.kernel_arcs.proofs.Lists.{end_asks, behind_asks, behind_built}
 use Rattle.kernel_arcs.proofs.behind.Goals as goal
 
-pub after-end-requires : goal.after-end-requires
-after-end-requires c =
-    let st = c in
-    let a = st.args in
-    let p = st.requires in
-    end_asks p.within a.flags.now p.count_in_bounds a.c p.c_lt_count a.p p.p_value
+pub overflow_add-end : goal.overflow_add-end
+overflow_add-end c =
+    let a = c.args in
+    let p = c.requires in
+    let e = end_asks p.within a.flags.now p.count_in_bounds a.c p.c_lt_count a.p p.p_value in
+    let w = c.places.ensures ∙ places_one a.p.m in
+    record { fits = omega arith }
 
 pub overflow_add-t : goal.overflow_add-t
 overflow_add-t c =
@@ -43,7 +47,7 @@ copy_cycles-requires c =
     let st = f in
     let a = st.args in
     let p = st.requires in
-    let whole = behind_asks p.within a.flags.now p.count_in_bounds a.c p.c_lt_count a.p p.p_value f.after-end.result f.after-end.ensures p.building
+    let whole = behind_asks p.within a.flags.now p.count_in_bounds a.c p.c_lt_count a.p p.p_value _ (ap (λ (n : ℕ). a.p.at + n) (f.places.ensures ∙ places_one a.p.m)) p.building
     p.t_in_bounds p.t_in_bounds_2 in record {
       building = whole.0;
       k_in_bounds = whole.1.0;
@@ -59,5 +63,5 @@ returns c =
     let st = f in
     let a = st.args in
     let p = st.requires in
-    behind_built p.within a.flags.now p.count_in_bounds a.c p.c_lt_count a.p p.p_value f.after-end.result f.after-end.ensures a.numbers.now a.u
+    behind_built p.within a.flags.now p.count_in_bounds a.c p.c_lt_count a.p p.p_value _ (ap (λ (n : ℕ). a.p.at + n) (f.places.ensures ∙ places_one a.p.m)) a.numbers.now a.u
     a.places.now c.copy_cycles.ensures.built

@@ -46,9 +46,6 @@ put_bend-requires c = let t = c in omega (arith, t.loop-j-test.true, t.requires.
 pub around-i-requires : goal.around-i-requires
 around-i-requires c = place c.args.n c.args.k c.loop-j.i c.loop-j.j c.loop-j-test.true c.loop-j.invariant.1
 
-pub overflow_add-j : goal.overflow_add-j
-overflow_add-j c = let t = c in omega (arith, t.loop-j-test.true, t.requires.k_bound_2)
-
 pub loop-j-preserved : goal.loop-j-preserved
 loop-j-preserved c =
     let w = c.put_bend in

@@ -17,6 +17,3 @@ abbrev pub invariant-loop-j : goal.invariant-loop-j
 invariant-loop-j l =
     (l.j ≤ l.t) × (l.i ≡ l.j % l.k) × (length l.bx ≡ 2048) × (length l.by ≡ 2048)
     × (positions_in l.bx l.by ≡ paste (positions_in l.initial.bx l.initial.by) l.base (repeated l.n (run_at l.first l.k (positions_in l.initial.bx l.initial.by))) l.j)
-
-abbrev pub decreases-loop-j : goal.decreases-loop-j
-decreases-loop-j l = l.t - l.j

@@ -1,16 +1,19 @@
 -- `put_rows` meets its contract: a row more at each turn. Assumes nothing.
-use borrow.Author.Rules.{rules}
-use Prim.Native.Nat.{◌≤◌, ◌<◌, ◌-◌, ◌+◌}
-use mathlib.Core.Path.{◌≡◌, refl}
-use native.Mathlib.Omega.{arith}
+use Prim.Native.Nat.{◌≤◌, ◌-◌, ◌+◌}
+use mathlib.Core.Path.{◌≡◌}
+use Rattle.lent.specs.Sheets.{arrays, Same}
 use Rattle.kernel_copies.specs.Copies.{RowsPut}
-use Rattle.kernel_copies.proofs.Coming.{rows_turn}
+use Rattle.kernel_copies.proofs.Coming.{rows_only}
 use Rattle.kernel_copies.proofs.put_rows.Given as goal
 
 abbrev pub invariant-loop-i : goal.invariant-loop-i
 invariant-loop-i l =
-    (l.i ≤ l.n) × (l.id ≡ l.next + l.i)
-    × RowsPut l.next l.count l.row l.i l.initial.ids l.initial.kinds l.initial.starts l.initial.ends l.initial.bends l.initial.counts l.initial.px l.initial.py l.ids l.kinds l.starts l.ends l.bends l.counts l.px l.py
-
-abbrev pub decreases-loop-i : goal.decreases-loop-i
-decreases-loop-i l = l.n - l.i
+    let a = arrays l.initial.sheet in
+    let b = arrays l.sheet in
+    record {
+      within : l.i ≤ l.n;
+      id : l.id ≡ a.next + l.i;
+      rows : RowsPut a.next a.count l.row l.i a.ids a.kinds a.starts a.ends a.bends a.counts a.px a.py b.ids b.kinds b.starts b.ends b.bends b.counts b.px b.py;
+      same : Same l.initial.sheet l.sheet;
+      kept : b ≡ rows_only a b;
+    }

@@ -1,5 +1,4 @@
 -- `replace_cycles` meets its contract. Assumes nothing.
-use borrow.Author.Rules.{rules}
 use mathlib.Core.Path.{◌∙◌}
 use native.Mathlib.Omega.{arith}
 use Rattle.kernel_cycles.proofs.Held.{in_cycles_lem, in_steps_lem, in_rows, replaced_in}
@@ -25,25 +24,22 @@ splice-requires-2 c =
       rest_in_bounds_2 = omega (arith, k.1, p.long.steps);
     }
 
-pub overflow_cast-counts : goal.overflow_cast-counts
-overflow_cast-counts c =
+pub overflow_cast-sheet : goal.overflow_cast-sheet
+overflow_cast-sheet c =
     let p = c.requires in
     omega (arith, (in_cycles_lem _ _ _ _ _ _ _ p).1)
 
-pub offset_bounds-counts-row : goal.offset_bounds-counts-row
-offset_bounds-counts-row c =
+pub offset_bounds-sheet-row : goal.offset_bounds-sheet-row
+offset_bounds-sheet-row c =
     let p = c.requires in
     omega (arith, in_rows _ _ _ _ _ _ _ p)
 
-pub bounds-counts-row : goal.bounds-counts-row
-bounds-counts-row c =
+pub bounds-sheet-row : goal.bounds-sheet-row
+bounds-sheet-row c =
     let p = c.requires in
     omega (arith, in_rows _ _ _ _ _ _ _ p)
 
-pub returns : goal.returns
-returns c =
-    let x = c in
-    let p = x.requires in
-    let one = x.splice in
-    let two = c.splice-2 in
-    replaced_in _ _ _ _ _ _ _ p _ _ (one.auto.l ∙ p.long.cycles) (two.auto.l ∙ p.long.steps) one.ensures two.ensures
+pub returns-clause-replaced_in : goal.returns-clause-replaced_in
+returns-clause-replaced_in c =
+    let p = c.requires in
+    replaced_in _ _ _ _ _ _ _ p _ _ (c.splice.auto.l ∙ p.long.cycles) (c.splice-2.auto.l ∙ p.long.steps) c.splice.ensures c.splice-2.ensures

@@ -8,6 +8,3 @@ use Rattle.kernel_cycles.proofs.shift_forth.Given as goal
 
 abbrev pub invariant-loop-i : goal.invariant-loop-i
 invariant-loop-i l = GoingForth l.initial.l l.from l.n l.to l.i l.l
-
-abbrev pub decreases-loop-i : goal.decreases-loop-i
-decreases-loop-i l = l.n - l.i

@@ -1,7 +1,7 @@
 -- `pack_rows` meets its contract: every array is packed alike. Assumes nothing.
 use borrow.Author.Rules.{rules}
-use Prim.Native.Nat.{◌+◌, ◌-◌, ◌≤◌, ◌<◌}
-use mathlib.Core.Path.{◌≡◌}
+use Prim.Native.Nat.{◌+◌, ◌-◌, ◌<◌}
+use mathlib.Core.Path.{◌≡◌, refl}
 use mathlib.Core.List.{List}
 use native.Mathlib.Omega.{arith}
 use lib.ListN.{length, take}
@@ -13,43 +13,42 @@ use Rattle.kernel_keep.proofs.Rows.{packing_count}
 use Rattle.kernel_keep.proofs.pack_rows.Goals as goal
 
 -- one array
-turn : {A : Type 0} (c : goal.After-slide_rows) → let v = c in let w = v.loop-i in
-    let dead = v.args.dead.now in
-    let j = v.dead_until-j.result in let e = v.living_until-e.result in (l₀ l l' : List A) → length l₀ ≡ 256
+turn : {A : Type 0} (c : goal.After-slide_rows) → let w = c.loop-i in
+    let dead = c.args.dead.now in
+    let j = c.dead_until-j.result in let e = c.living_until-e.result in (l₀ l l' : List A) → length l₀ ≡ 256
     → Packing dead l₀ w.i w.k l → Slid l j (e - j) w.k l' → Packing dead l₀ e (w.k + (e - j)) l'
 turn c l₀ l l' h =
-    let v = c in
-    let s = v in
-    packing_turn s.args.dead.now l₀ l l' _ _ s.args.n _ _ s.requires.n_in_bounds (omega (arith, s.requires.n_le_cells_most)) v.dead_until-j.ensures
-    v.living_until-e.ensures
+    packing_turn c.args.dead.now l₀ l l' _ _ c.args.sheet.now.count.now _ _ c.requires.n_in_bounds (omega (arith, c.requires.n_le_cells_most)) c.dead_until-j.ensures
+    c.living_until-e.ensures
 
-end : {A : Type 0} (c : goal.After-loop-i) → let s = c in (l₀ l : List A) → length l₀ ≡ 256
-    → Packing s.args.dead.now l₀ c.loop-i.i c.loop-i.k l → Compacted (take s.args.n s.args.dead.now) (take s.args.n l₀) l
+end : {A : Type 0} (c : goal.After-loop-i) → let n = c.args.sheet.now.count.now in (l₀ l : List A) → length l₀ ≡ 256
+    → Packing c.args.dead.now l₀ c.loop-i.i c.loop-i.k l → Compacted (take n c.args.dead.now) (take n l₀) l
 end c l₀ l h p =
-    let s = c in
-    let e : c.loop-i.i ≡ s.args.n = omega (arith, c.loop-i.invariant.0) in
-    packing_end (omega (arith, s.requires.n_le_cells_most)) (rw e at p)
+    let e : c.loop-i.i ≡ c.args.sheet.now.count.now = omega (arith, c.loop-i.invariant.in_bounds) in
+    packing_end (omega (arith, c.requires.n_le_cells_most)) (rw e at p)
 
 pub loop-i-init : goal.loop-i-init
-loop-i-init c = (
-  omega arith,
-  packing_start _ _,
-  packing_start _ _,
-  packing_start _ _,
-  packing_start _ _,
-  packing_start _ _,
-  packing_start _ _,
-  packing_start _ _,
-  packing_start _ _,
-)
+loop-i-init c =
+    record {
+      in_bounds = omega arith;
+      ids = packing_start _ _;
+      kinds = packing_start _ _;
+      starts = packing_start _ _;
+      ends = packing_start _ _;
+      bends = packing_start _ _;
+      counts = packing_start _ _;
+      px = packing_start _ _;
+      py = packing_start _ _;
+      same = search rules;
+      kept = refl;
+    }
 
 pub slide_rows-requires : goal.slide_rows-requires
 slide_rows-requires c =
-    let v = c in
-    let d = v.dead_until-j.ensures in
-    let q = v.living_until-e.ensures in
-    let p = v.loop-i.invariant.1.le in
-    let n = v.requires.n_le_cells_most in
+    let d = c.dead_until-j.ensures in
+    let q = c.living_until-e.ensures in
+    let p = c.loop-i.invariant.ids.le in
+    let n = c.requires.n_le_cells_most in
     let f = q.from in
     record {
       to_le_from = omega (arith, p, d.from);
@@ -58,51 +57,64 @@ slide_rows-requires c =
 
 pub overflow_add-k : goal.overflow_add-k
 overflow_add-k c =
-    let v = c in
-    let d = v.dead_until-j.ensures in
-    let q = v.living_until-e.ensures in
-    let p = v.loop-i.invariant.1.le in
-    let n = v.requires.n_le_cells_most in
+    let d = c.dead_until-j.ensures in
+    let q = c.living_until-e.ensures in
+    let p = c.loop-i.invariant.ids.le in
+    let n = c.requires.n_le_cells_most in
     omega (arith, p, d.from, q.from, q.within, n)
 
 pub loop-i-smaller : goal.loop-i-smaller
 loop-i-smaller c =
-    let v = c in
-    let d = v.dead_until-j.ensures in
-    let q = v.living_until-e.ensures in
-    let t : v.loop-i.i < v.args.n = omega arith in
+    let d = c.dead_until-j.ensures in
+    let q = c.living_until-e.ensures in
+    let t : c.loop-i.i < c.args.sheet.now.count.now = omega arith in
     omega (arith, q.within, alike_goes t d q)
 
 pub loop-i-preserved : goal.loop-i-preserved
 loop-i-preserved c =
-    let v = c in
-    let p = v.loop-i.invariant in
-    let n = v.requires in
-    let s = c.slide_rows.ensures in (
-      v.living_until-e.ensures.within,
-      turn c _ _ _ n.ids_len.0 p.1 s.0,
-      turn c _ _ _ n.ids_len.1 p.2 s.1,
-      turn c _ _ _ n.ids_len.2 p.3 s.2,
-      turn c _ _ _ n.ids_len.3 p.4 s.3,
-      turn c _ _ _ n.ids_len.4 p.5 s.4,
-      turn c _ _ _ n.ids_len.5 p.6 s.5,
-      turn c _ _ _ n.ids_len.6 p.7 s.6,
-      turn c _ _ _ n.ids_len.7 p.8 s.7,
-    )
-
-pub returns : goal.returns
-returns c =
-    let s = c in
     let p = c.loop-i.invariant in
-    let n = s.requires in
-    let e : c.loop-i.i ≡ s.args.n = omega (arith, p.0) in record {
-      value = packing_count (omega (arith, s.requires.n_le_cells_most, n.ids_len.7)) (rw e at p.8);
-      compacted = end c _ _ n.ids_len.0 p.1;
-      compacted_2 = end c _ _ n.ids_len.1 p.2;
-      compacted_3 = end c _ _ n.ids_len.2 p.3;
-      compacted_4 = end c _ _ n.ids_len.3 p.4;
-      compacted_5 = end c _ _ n.ids_len.4 p.5;
-      compacted_6 = end c _ _ n.ids_len.5 p.6;
-      compacted_7 = end c _ _ n.ids_len.6 p.7;
-      compacted_8 = end c _ _ n.ids_len.7 p.8;
+    let n = c.requires.ids_len in
+    let s = c.slide_rows.ensures.slid in
+    record {
+      in_bounds = c.living_until-e.ensures.within;
+      ids = turn c _ _ _ n.0 p.ids s.0;
+      kinds = turn c _ _ _ n.1 p.kinds s.1;
+      starts = turn c _ _ _ n.2 p.starts s.2;
+      ends = turn c _ _ _ n.3 p.ends s.3;
+      bends = turn c _ _ _ n.4 p.bends s.4;
+      counts = turn c _ _ _ n.5 p.counts s.5;
+      px = turn c _ _ _ n.6 p.px s.6;
+      py = turn c _ _ _ n.7 p.py s.7;
+      same = search rules;
+      kept = search rules;
     }
+
+pub returns-clause-value : goal.returns-clause-value
+returns-clause-value c =
+    let p = c.loop-i.invariant in
+    let e : c.loop-i.i ≡ c.args.sheet.now.count.now = omega (arith, p.in_bounds) in
+    packing_count (omega (arith, c.requires.n_le_cells_most, c.requires.ids_len.7)) (rw e at p.py)
+
+pub returns-clause-compacted : goal.returns-clause-compacted
+returns-clause-compacted c = end c _ _ c.requires.ids_len.0 c.loop-i.invariant.ids
+
+pub returns-clause-compacted_2 : goal.returns-clause-compacted_2
+returns-clause-compacted_2 c = end c _ _ c.requires.ids_len.1 c.loop-i.invariant.kinds
+
+pub returns-clause-compacted_3 : goal.returns-clause-compacted_3
+returns-clause-compacted_3 c = end c _ _ c.requires.ids_len.2 c.loop-i.invariant.starts
+
+pub returns-clause-compacted_4 : goal.returns-clause-compacted_4
+returns-clause-compacted_4 c = end c _ _ c.requires.ids_len.3 c.loop-i.invariant.ends
+
+pub returns-clause-compacted_5 : goal.returns-clause-compacted_5
+returns-clause-compacted_5 c = end c _ _ c.requires.ids_len.4 c.loop-i.invariant.bends
+
+pub returns-clause-compacted_6 : goal.returns-clause-compacted_6
+returns-clause-compacted_6 c = end c _ _ c.requires.ids_len.5 c.loop-i.invariant.counts
+
+pub returns-clause-compacted_7 : goal.returns-clause-compacted_7
+returns-clause-compacted_7 c = end c _ _ c.requires.ids_len.6 c.loop-i.invariant.px
+
+pub returns-clause-compacted_8 : goal.returns-clause-compacted_8
+returns-clause-compacted_8 c = end c _ _ c.requires.ids_len.7 c.loop-i.invariant.py

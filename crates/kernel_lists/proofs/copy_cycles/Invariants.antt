@@ -13,6 +13,3 @@ use Rattle.kernel_lists.proofs.copy_cycles.Given as goal
 abbrev pub invariant-loop-i : goal.invariant-loop-i
 invariant-loop-i l =
     (l.i ≤ l.k) × Copying (drop l.from l.cycles) l.src l.step l.skip l.initial.counts l.initial.out l.initial.steps l.i l.at l.counts l.out l.steps
-
-abbrev pub decreases-loop-i : goal.decreases-loop-i
-decreases-loop-i l = l.k - l.i

@@ -1,69 +1,34 @@
 -- `reface` meets its contract: two rows go, and the face that stays gets the cycles. Assumes nothing.
-use borrow.Author.Rules.{rules}
 use native.Mathlib.Omega.{arith}
 use Rattle.sound.proofs.Meaning.{sound_fits}
-use Rattle.lent.specs.Arrays.{Arrays, held_by, of_lists}
+use Rattle.lent.specs.Arrays.{held_by}
+use Rattle.lent.specs.Sheets.{arrays}
 use Rattle.kernel_reface.proofs.Refaced.{dead_length, find_asks, spans_ask, replaces, holds}
 use Rattle.kernel_reface.proofs.reface.Goals as goal
 
-abbrev arrays : (c : goal.After-replace_cycles) → Arrays
-arrays c =
-    let a = c.args in
-    of_lists a.next a.count a.ids.now a.kinds.now a.starts.now a.ends.now a.bends.now a.counts.now a.px.now a.py.now a.cycles.now a.steps.now a.bx.now a.by.now
-
-abbrev arrays_2 : (c : goal.After-replace_cycles-arg-3-1) → Arrays
-arrays_2 c =
-    let a = c.args in
-    of_lists a.next a.count a.ids.now a.kinds.now a.starts.now a.ends.now a.bends.now a.counts.now a.px.now a.py.now a.cycles.now a.steps.now a.bx.now a.by.now
-
-abbrev arrays_3 : (c : goal.After-spans_of-arg-4-1) → Arrays
-arrays_3 c =
-    let a = c.args in
-    of_lists a.next a.count a.ids.now a.kinds.now a.starts.now a.ends.now a.bends.now a.counts.now a.px.now a.py.now a.cycles.now a.steps.now a.bx.now a.by.now
-
-abbrev arrays_4 : (c : goal.After-known) → Arrays
-arrays_4 c =
-    let a = c.args in
-    of_lists a.next a.count a.ids.now a.kinds.now a.starts.now a.ends.now a.bends.now a.counts.now a.px.now a.py.now a.cycles.now a.steps.now a.bx.now a.by.now
-
-abbrev arrays_5 : (c : goal.After-dead-1) → Arrays
-arrays_5 c =
-    let a = c.args in
-    of_lists a.next a.count a.ids.now a.kinds.now a.starts.now a.ends.now a.bends.now a.counts.now a.px.now a.py.now a.cycles.now a.steps.now a.bx.now a.by.now
-
-abbrev arrays_6 : (c : goal.After-shared_slice_known-2-1) → Arrays
-arrays_6 c =
-    let a = c.args in
-    of_lists a.next a.count a.ids.now a.kinds.now a.starts.now a.ends.now a.bends.now a.counts.now a.px.now a.py.now a.cycles.now a.steps.now a.bx.now a.by.now
-
 pub dead_rows-dead-requires : goal.dead_rows-dead-requires
 dead_rows-dead-requires c =
-    let s = c in
-    let p = s.requires.refaced.pair in
-    let f = (sound_fits (held_by (arrays_6 s)) p.sound).cells in
+    let p = c.requires.refaced.pair in
+    let f = (sound_fits (held_by (arrays c.args.sheet.now)) p.sound).cells in
     record {
       a_bound = omega (arith, f, p.first_in);
       b_bound = omega (arith, f, p.second_in);
     }
 
-pub keep_rows-k-requires : goal.keep_rows-k-requires
-keep_rows-k-requires c =
-    let d = c in
-    let s = d in
+pub keep_rows-requires : goal.keep_rows-requires
+keep_rows-requires c =
     record {
-      fits = sound_fits (held_by (arrays_5 s)) s.requires.refaced.pair.sound;
-      lengths = s.requires.lengths;
-      by_value = s.requires.by_value;
-      dead_len = dead_length s.args.a s.args.b _ d.dead_rows-dead.ensures;
+      fits = sound_fits (held_by (arrays c.args.sheet.now)) c.requires.refaced.pair.sound;
+      lengths = c.requires.lengths;
+      by_value = c.requires.by_value;
+      dead_len = dead_length c.args.a c.args.b _ c.dead_rows-dead.ensures;
     }
 
 pub find-row-requires : goal.find-row-requires
 find-row-requires c =
-    let k = c in
-    let s = k in
-    let a = s.args in
-    let whole = find_asks (arrays_4 s) s.requires.lengths a.i a.a a.j a.b a.f a.numbers.now a.u a.places.now
-    s.requires.refaced _ k.dead_rows-dead.ensures _ k.known.ensures k.keep_rows-k.ensures in record {
+    let a = c.args in
+    let whole = find_asks (arrays a.sheet.now) c.requires.lengths a.i a.a a.j a.b a.f a.numbers.now a.u a.places.now
+    c.requires.refaced _ c.dead_rows-dead.ensures (arrays c.keep_rows.new.sheet) c.known.ensures c.keep_rows.ensures.keeps in record {
       n_bound = whole.0;
       ids_len = whole.1.0;
       rising = whole.1.1;
@@ -71,13 +36,10 @@ find-row-requires c =
 
 pub spans_of-s-requires : goal.spans_of-s-requires
 spans_of-s-requires c =
-    let x = c in
-    let k = x in
-    let s = k in
-    let a = s.args in
-    let whole = spans_ask (arrays_3 s) s.requires.lengths a.i a.a a.j a.b a.f a.numbers.now a.u a.places.now
-    s.requires.refaced _ k.dead_rows-dead.ensures _ k.known.ensures k.keep_rows-k.ensures
-    x.find-row.result x.find-row.ensures in record {
+    let a = c.args in
+    let whole = spans_ask (arrays a.sheet.now) c.requires.lengths a.i a.a a.j a.b a.f a.numbers.now a.u a.places.now
+    c.requires.refaced _ c.dead_rows-dead.ensures (arrays c.keep_rows.new.sheet) c.known.ensures c.keep_rows.ensures.keeps
+    c.find-row.result c.find-row.ensures in record {
       n_in_bounds = whole.0;
       row_lt_n = whole.1.0;
       at_in_bounds = whole.1.1.0;
@@ -87,22 +49,14 @@ spans_of-s-requires c =
 
 pub replace_cycles-requires : goal.replace_cycles-requires
 replace_cycles-requires c =
-    let y = c in
-    let x = y in
-    let k = x in
-    let s = k in
-    let a = s.args in
-    replaces (arrays_2 s) s.requires.lengths a.i a.a a.j a.b a.f a.numbers.now a.u a.places.now
-    s.requires.refaced _ k.dead_rows-dead.ensures _ k.known.ensures k.keep_rows-k.ensures
-    x.find-row.result x.find-row.ensures y.spans_of-s.result y.spans_of-s.ensures
+    let a = c.args in
+    replaces (arrays a.sheet.now) c.requires.lengths a.i a.a a.j a.b a.f a.numbers.now a.u a.places.now
+    c.requires.refaced _ c.dead_rows-dead.ensures (arrays c.keep_rows.new.sheet) c.known.ensures c.keep_rows.ensures.keeps
+    c.find-row.result c.find-row.ensures c.spans_of-s.result c.spans_of-s.ensures
 
-pub returns : goal.returns
-returns c =
-    let y = c in
-    let x = y in
-    let k = x in
-    let s = k in
-    let a = s.args in
-    holds (arrays s) s.requires.lengths a.i a.a a.j a.b a.f a.numbers.now a.u a.places.now
-    s.requires.refaced _ k.dead_rows-dead.ensures _ k.known.ensures k.keep_rows-k.ensures
-    x.find-row.result x.find-row.ensures y.spans_of-s.result y.spans_of-s.ensures _ c.replace_cycles.ensures
+pub returns-clause-holds : goal.returns-clause-holds
+returns-clause-holds c =
+    let a = c.args in
+    holds (arrays a.sheet.now) c.requires.lengths a.i a.a a.j a.b a.f a.numbers.now a.u a.places.now
+    c.requires.refaced _ c.dead_rows-dead.ensures (arrays c.keep_rows.new.sheet) c.known.ensures c.keep_rows.ensures.keeps
+    c.find-row.result c.find-row.ensures c.spans_of-s.result c.spans_of-s.ensures (arrays c.replace_cycles.new.sheet) c.replace_cycles.ensures.replaced_in

@@ -11,6 +11,3 @@ use Rattle.kernel_rename.proofs.rename_ends.Given as goal
 
 abbrev pub invariant-loop-i : goal.invariant-loop-i
 invariant-loop-i l = (l.i ≤ l.n) × Renaming (renamed l.a l.b) l.kinds l.initial.starts l.i l.starts × Renaming (renamed l.a l.b) l.kinds l.initial.ends l.i l.ends
-
-abbrev pub decreases-loop-i : goal.decreases-loop-i
-decreases-loop-i l = l.n - l.i

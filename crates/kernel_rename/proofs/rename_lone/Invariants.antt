@@ -13,6 +13,3 @@ use Rattle.kernel_rename.proofs.rename_lone.Given as goal
 
 abbrev pub invariant-loop-i : goal.invariant-loop-i
 invariant-loop-i l = (l.i ≤ l.n) × Walking (rename_place (renamed l.a l.b)) l.cycles l.initial.steps l.i l.at l.steps
-
-abbrev pub decreases-loop-i : goal.decreases-loop-i
-decreases-loop-i l = l.n - l.i

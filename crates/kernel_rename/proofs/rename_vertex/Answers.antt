@@ -17,8 +17,8 @@ rename_lone-requires c =
       cycles_len = (l.cycles, l.steps);
     }
 
-pub returns : goal.returns
-returns c =
+pub returns-clause-renamed_in : goal.returns-clause-renamed_in
+returns-clause-renamed_in c =
     let s = c in
     let r = c.rename_ends.ensures in
     let w = c.rename_lone.ensures in

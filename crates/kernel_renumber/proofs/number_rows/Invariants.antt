@@ -9,6 +9,3 @@ use Rattle.kernel_renumber.proofs.number_rows.Given as goal
 
 abbrev pub invariant-loop-i : goal.invariant-loop-i
 invariant-loop-i l = (l.i ≤ l.n) × RowsNumbered l.i l.initial.ids l.ids
-
-abbrev pub decreases-loop-i : goal.decreases-loop-i
-decreases-loop-i l = l.n - l.i

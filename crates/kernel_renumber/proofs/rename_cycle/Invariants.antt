@@ -13,6 +13,3 @@ use Rattle.kernel_renumber.proofs.rename_cycle.Given as goal
 
 abbrev pub invariant-loop-j : goal.invariant-loop-j
 invariant-loop-j l = (l.j ≤ l.k) × Wrote l.initial.steps l.at (map (new_place (new_id (take l.n l.ids)) l.lone) (take l.j (drop l.at l.initial.steps))) l.steps
-
-abbrev pub decreases-loop-j : goal.decreases-loop-j
-decreases-loop-j l = l.k - l.j

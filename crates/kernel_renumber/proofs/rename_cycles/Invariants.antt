@@ -12,6 +12,3 @@ use Rattle.kernel_renumber.proofs.rename_cycles.Given as goal
 
 abbrev pub invariant-loop-i : goal.invariant-loop-i
 invariant-loop-i l = (l.i ≤ l.k) × Walking (new_place (new_id (take l.n l.ids))) l.cycles l.initial.steps l.i l.at l.steps
-
-abbrev pub decreases-loop-i : goal.decreases-loop-i
-decreases-loop-i l = l.k - l.i

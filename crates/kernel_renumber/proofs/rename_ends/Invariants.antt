@@ -12,6 +12,3 @@ use Rattle.kernel_renumber.proofs.rename_ends.Given as goal
 abbrev pub invariant-loop-i : goal.invariant-loop-i
 invariant-loop-i l =
     (l.i ≤ l.n) × Renaming (new_id (take l.n l.ids)) l.kinds l.initial.starts l.i l.starts × Renaming (new_id (take l.n l.ids)) l.kinds l.initial.ends l.i l.ends
-
-abbrev pub decreases-loop-i : goal.decreases-loop-i
-decreases-loop-i l = l.n - l.i

@@ -11,7 +11,7 @@ rename_cycles-requires c =
     let f = c in
     let s = f in
     let a = s.args in
-    let b = of_lists a.next.now a.count a.ids.now a.kinds.now a.starts.now a.ends.now a.bends.now a.counts.now a.px.now a.py.now a.cycles.now a.steps.now a.bx.now a.by.now in
+    let b = of_lists a.sheet.now.next.now a.sheet.now.count.now a.sheet.now.ids.now a.sheet.now.kinds.now a.sheet.now.starts.now a.sheet.now.ends.now a.sheet.now.bends.now a.sheet.now.counts.now a.sheet.now.px.now a.sheet.now.py.now a.sheet.now.cycles.now a.sheet.now.steps.now a.sheet.now.bx.now a.sheet.now.by.now in
     let l = s.requires.lengths in
     let e = s.requires in
     record {
@@ -21,8 +21,8 @@ rename_cycles-requires c =
       cycles_len = (l.cycles, l.steps);
     }
 
-pub returns : goal.returns
-returns c =
+pub returns-clause-renumbered_in : goal.returns-clause-renumbered_in
+returns-clause-renumbered_in c =
     let w = c.rename_cycles in
     let m = c in
     let s = m in
@@ -30,6 +30,6 @@ returns c =
     let es = m.rename_ends.new.ends in
     let st = w.new.steps in
     let a = s.args in
-    let b = of_lists a.next.now a.count a.ids.now a.kinds.now a.starts.now a.ends.now a.bends.now a.counts.now a.px.now a.py.now a.cycles.now a.steps.now a.bx.now a.by.now in
+    let b = of_lists a.sheet.now.next.now a.sheet.now.count.now a.sheet.now.ids.now a.sheet.now.kinds.now a.sheet.now.starts.now a.sheet.now.ends.now a.sheet.now.bends.now a.sheet.now.counts.now a.sheet.now.px.now a.sheet.now.py.now a.sheet.now.cycles.now a.sheet.now.steps.now a.sheet.now.bx.now a.sheet.now.by.now in
     renumbered_in b s.requires.lengths s.requires.fits s.requires.by_value ss es st c.number_rows.new.ids m.rename_ends.ensures.ends_renamed
     m.rename_ends.ensures.ends_renamed_2 w.ensures.steps_len (rw s.requires.k_value at w.ensures.places_rewritten) c.number_rows.ensures _ (omega arith)

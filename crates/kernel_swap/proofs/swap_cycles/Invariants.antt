@@ -16,6 +16,3 @@ use Rattle.kernel_swap.proofs.swap_cycles.Given as goal
 abbrev pub invariant-loop-i : goal.invariant-loop-i
 invariant-loop-i l =
     (l.i ≤ l.n) × Swapping l.t l.initial.cycles (drop l.g l.initial.steps) l.initial.steps l.i l.from l.at l.cycles l.steps × (drop (l.g + l.from) l.steps ≡ drop (l.g + l.from) l.initial.steps)
-
-abbrev pub decreases-loop-i : goal.decreases-loop-i
-decreases-loop-i l = l.n - l.i

@@ -14,6 +14,3 @@ use Rattle.kernel_swap.proofs.swap_run.Given as goal
 abbrev pub invariant-loop-i : goal.invariant-loop-i
 invariant-loop-i l =
     (l.i ≤ l.n) × (l.w ≡ length (spread (swap_word l.t) (take l.i (drop l.from l.initial.steps)))) × Wrote l.initial.steps l.at (spread (swap_word l.t) (take l.i (drop l.from l.initial.steps))) l.steps
-
-abbrev pub decreases-loop-i : goal.decreases-loop-i
-decreases-loop-i l = l.n - l.i

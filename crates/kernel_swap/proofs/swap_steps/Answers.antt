@@ -16,13 +16,13 @@ swap_pools-requires c =
     record {
       n_bound = p.n_bound;
       n_le_cycles_most = r;
-      m_value = p.m_value ∙ ap (λ (x : ℕ). width_sum (take x a.cycles.now)) (sym p.k_value);
+      m_value = p.m_value ∙ ap (λ (x : ℕ). width_sum (take x a.sheet.now.cycles.now)) (sym p.k_value);
       m_bound = y.0;
       enough = rw p.k_value y.1;
     }
 
-pub returns : goal.returns
-returns c =
+pub returns-clause-swapped_in : goal.returns-clause-swapped_in
+returns-clause-swapped_in c =
     let s = c in
     let a = s.args in
     let p = s.requires in

@@ -1,6 +1,6 @@
 -- `add_closed` meets its contract: questions 3 and 5, then the edge. Assumes nothing.
 use Prim.Native.Nat.{ℕ}
-use mathlib.Core.Path.{◌≡◌, sym, ◌∙◌}
+use mathlib.Core.Path.{◌≡◌, refl, sym, ◌∙◌}
 use mathlib.Core.Bool.{true}
 use mathlib.Core.List.{List}
 use Rattle.coordinate.specs.Bounds.{within}
@@ -32,20 +32,17 @@ module _ {a : Arrays} {t : Totals} (y : Ready a t) (script : List ℕ) (first k 
   passed : (k ≡ 0 → ⊥) → Passed (sheet_of (held_by a)) (create (closed_edge (positions_at script first k)))
   passed z = closed_passed (held_by a) (positions_at script first k) b (λ n. z (sym (positions_length script first k) ∙ n))
 
-pub bends_within-requires : goal.bends_within-requires
-bends_within-requires c = c.requires.k_in_bounds
-
-pub returns-then-not-bends_within : goal.returns-then-not-bends_within
-returns-then-not-bends_within c =
+pub returns-then-not-bends_within-clause-obeyed : goal.returns-then-not-bends_within-clause-obeyed
+returns-then-not-bends_within-clause-obeyed c =
     let a = c.args in
     bends_out _ a.t c.requires.ready (create (closed_edge (positions_at a.script.now a.first a.k))) _ c.bends_within.ensures
-    c.if-not-bends_within.true _ c.line_of.ensures
+    c.if-not-bends_within.true _ refl
 
-pub returns-then-k-eq0 : goal.returns-then-k-eq0
-returns-then-k-eq0 c =
+pub returns-then-k-eq0-clause-obeyed : goal.returns-then-k-eq0-clause-obeyed
+returns-then-k-eq0-clause-obeyed c =
     let a = c.args in
     no_bend c.requires.ready a.script.now a.first a.k (sym c.bends_within.ensures ∙ c.if-not-bends_within.false) c.if-k-eq0.true _
-    c.line_of-then-k-eq0.ensures
+    refl
 
 pub add_edge-requires : goal.add_edge-requires
 add_edge-requires c =
@@ -56,6 +53,3 @@ add_edge-requires c =
       row = closed_row;
       passed = passed c.requires.ready a.script.now a.first a.k (sym c.bends_within.ensures ∙ c.if-not-bends_within.false) c.if-k-eq0.false;
     }
-
-pub returns : goal.returns
-returns c = c.add_edge.ensures

@@ -1,7 +1,7 @@
 -- `add_open` meets its contract: questions 3 and 4, then the edge. Assumes nothing.
 use borrow.Author.Tests.{eq-eqb, ne_eqb}
 use Prim.Native.Nat.{ℕ}
-use mathlib.Core.Path.{◌≡◌, sym, ◌∙◌}
+use mathlib.Core.Path.{◌≡◌, refl, sym, ◌∙◌}
 use mathlib.Core.Bool.{true, false}
 use mathlib.Core.List.{List}
 use lib.Dec.{eqb}
@@ -20,7 +20,7 @@ use Rattle.ask_create.proofs.Create.{open_four_start, open_four_end, open_passed
 use Rattle.lent.specs.Arrays.{Arrays, held_by, rows_by}
 use Rattle.lent.specs.declared.Line.{Line}
 use Rattle.lent.specs.Replies.{line_of, Ready, Obeyed}
-use Rattle.lent.proofs.Sums.{ready_drawing, ready_sizes, ready_fits, ready_indexes, ready_looks, ready_no}
+use Rattle.lent.proofs.Sums.{ready_drawing, ready_sizes, ready_indexes, ready_looks, ready_no}
 use Rattle.kind_create.specs.Edges.{open_row}
 use Rattle.kind_create.proofs.Edges.{bends_out}
 use Rattle.kind_create.proofs.add_open.Goals as goal
@@ -52,48 +52,31 @@ module _ {a : Arrays} {t : Totals} (y : Ready a t) where
       passed : is_vertex (cell_at (sheet_of (held_by a)) w) ≡ true → Passed (sheet_of (held_by a)) (create (open_edge v w bs))
       passed n = open_passed (held_by a) v w bs b m n
 
-pub bends_within-requires : goal.bends_within-requires
-bends_within-requires c = c.requires.k_in_bounds
-
-pub returns-then-not-bends_within : goal.returns-then-not-bends_within
-returns-then-not-bends_within c =
+pub returns-then-not-bends_within-clause-obeyed : goal.returns-then-not-bends_within-clause-obeyed
+returns-then-not-bends_within-clause-obeyed c =
     let a = c.args in
     bends_out _ a.t c.requires.ready (create (open_edge a.start a.end (positions_at a.script.now a.first a.k))) _ c.bends_within.ensures
-    c.if-not-bends_within.true _ c.line_of.ensures
+    c.if-not-bends_within.true _ refl
 
-pub value_at-a-requires : goal.value_at-a-requires
-value_at-a-requires c =
-    let r = c.requires.ready in
-    record {
-      n_bound = (ready_fits _ _ r).cells;
-      ids_len = r.long.ids;
-      values_len = r.long.kinds;
-      rising = (ready_looks _ _ r).rising;
-    }
+pub value_at-a-requires-clause-rising : goal.value_at-a-requires-clause-rising
+value_at-a-requires-clause-rising c = (ready_looks _ _ c.requires.ready).rising
 
-pub returns-then-a-ne0 : goal.returns-then-a-ne0
-returns-then-a-ne0 c =
+pub returns-then-a-ne0-clause-obeyed : goal.returns-then-a-ne0-clause-obeyed
+returns-then-a-ne0-clause-obeyed c =
     let a = c.args in
     let r = c.requires.ready in
     no_start r a.start a.end (positions_at a.script.now a.first a.k) (sym c.bends_within.ensures ∙ c.if-not-bends_within.false)
-    (missing r a.start c.value_at-a.ensures c.if-a-ne0.true) _ c.line_of-then-a-ne0.ensures
+    (missing r a.start c.value_at-a.ensures c.if-a-ne0.true) _ refl
 
-pub value_at-b-requires : goal.value_at-b-requires
-value_at-b-requires c =
-    let r = c.requires.ready in
-    record {
-      n_bound = (ready_fits _ _ r).cells;
-      ids_len = r.long.ids;
-      values_len = r.long.kinds;
-      rising = (ready_looks _ _ r).rising;
-    }
+pub value_at-b-requires-clause-rising : goal.value_at-b-requires-clause-rising
+value_at-b-requires-clause-rising c = (ready_looks _ _ c.requires.ready).rising
 
-pub returns-then-b-ne0 : goal.returns-then-b-ne0
-returns-then-b-ne0 c =
+pub returns-then-b-ne0-clause-obeyed : goal.returns-then-b-ne0-clause-obeyed
+returns-then-b-ne0-clause-obeyed c =
     let a = c.args in
     let r = c.requires.ready in
     no_end r a.start a.end (positions_at a.script.now a.first a.k) (sym c.bends_within.ensures ∙ c.if-not-bends_within.false)
-    (there r a.start c.value_at-a.ensures c.if-a-ne0.false) (missing r a.end c.value_at-b.ensures c.if-b-ne0.true) _ c.line_of-then-b-ne0.ensures
+    (there r a.start c.value_at-a.ensures c.if-a-ne0.false) (missing r a.end c.value_at-b.ensures c.if-b-ne0.true) _ refl
 
 pub add_edge-requires : goal.add_edge-requires
 add_edge-requires c =
@@ -106,6 +89,3 @@ add_edge-requires c =
       passed = passed r a.start a.end (positions_at a.script.now a.first a.k) (sym c.bends_within.ensures ∙ c.if-not-bends_within.false)
           (there r a.start c.value_at-a.ensures c.if-a-ne0.false) (there r a.end c.value_at-b.ensures c.if-b-ne0.false);
     }
-
-pub returns : goal.returns
-returns c = c.add_edge.ensures

@@ -1,8 +1,7 @@
 -- `add_vertex` meets its contract: question 3, then 7 and 8, then the vertex in the next row. Assumes nothing.
 use Prim.Native.Nat.{ℕ, ◌≤◌}
-use mathlib.Core.Path.{◌≡◌, refl, sym, ap₂, ◌∙◌}
+use mathlib.Core.Path.{◌≡◌, refl, sym, ap, ap₂, ◌∙◌}
 use mathlib.Core.Bool.{Bool, true}
-use lib.Dec.{lit≤}
 use Rattle.coordinate.specs.declared.Position.{Position}
 use Rattle.coordinate.specs.Bounds.{within}
 use Rattle.complex.specs.Cells.{vertex}
@@ -13,16 +12,21 @@ use Rattle.rows_new.specs.Appends.{CellRoom}
 use Rattle.answer.specs.declared.Totals.{Totals}
 use Rattle.answer.specs.Sizes.{sized, nothing, more_less, changed_by}
 use Rattle.answer.specs.Late.{sizes_by, late_no}
+use Rattle.answer.proofs.Questions.{all_yes, some_no}
 use Rattle.answer.proofs.Asked.{next_in_lem}
 use Rattle.ask_create.proofs.Create.{vertex_passed}
-use Rattle.lent.specs.Arrays.{Arrays, held_by, of_lists}
+use Rattle.lent.specs.Arrays.{Arrays, held_by}
 use Rattle.lent.specs.declared.Line.{Line}
+use Rattle.lent.specs.declared.Change.{Change}
+use Rattle.std.specs.Prelude.{Ok}
 use Rattle.lent.specs.Growing.{with_row, with_vertex}
-use Rattle.lent.specs.Replies.{line_of, Ready, Obeyed}
+use Rattle.lent.specs.Sheets.{arrays}
+use Rattle.lent.specs.Replies.{line_of, line_says, Ready, Obeyed}
+use Rattle.lent.proofs.Refusals.{handed_on}
 use Rattle.lent.proofs.Grown.{vertex_long, vertex_normal, vertex_comes}
 use Rattle.lent.proofs.Sums.{ready_rows, ready_drawing, ready_small, ready_no}
 use Rattle.kernel_add.specs.Comes.{one_new}
-use Rattle.kernel_add.proofs.Comes.{row_added, obeyed_full, came_room, obeyed_came}
+use Rattle.kernel_add.proofs.Comes.{obeyed_full, came_room, obeyed_came}
 use Rattle.kind_create.proofs.add_vertex.Goals as goal
 
 next_most : {a : Arrays} {t : Totals} → Ready a t → a.next ≤ 65536
@@ -47,45 +51,24 @@ module _ {a : Arrays} {t : Totals} (y : Ready a t) {p : Position} {b : Bool} (eb
         obeyed_came a t y (vertex p) passed n en z (with_vertex a p) (vertex_long a y.long p) refl refl
         (vertex_normal a y.long p room.cells (ready_rows a t y)) (vertex_comes a y.long p room)
 
-pub returns-then-not-in_bounds : goal.returns-then-not-in_bounds
-returns-then-not-in_bounds c =
+pub returns-then-not-in_bounds-clause-obeyed : goal.returns-then-not-in_bounds-clause-obeyed
+returns-then-not-in_bounds-clause-obeyed c =
     let q = create (vertex c.args.p) in
-    ready_no _ c.args.t c.requires q 3 _ c.line_of.ensures (no_3 _ q (out_one q c.args.p refl (sym c.in_bounds.ensures ∙ c.if-not-in_bounds.true)))
+    ready_no _ c.args.t c.requires q 3 _ refl (no_3 _ q (out_one q c.args.p refl (sym c.in_bounds.ensures ∙ c.if-not-in_bounds.true)))
 
-pub cell_no-no-requires : goal.cell_no-no-requires
-cell_no-no-requires c =
-    record {
-      next_le_ids_end = next_most c.requires;
-      small = ready_small _ _ c.requires;
-      cycles_bound = lit≤ tt;
-      steps_bound = lit≤ tt;
-      bends_bound = lit≤ tt;
-    }
+pub cell_asked-requires-clause-next_le_ids_end : goal.cell_asked-requires-clause-next_le_ids_end
+cell_asked-requires-clause-next_le_ids_end c = next_most c.requires
 
-pub returns-then-no-ne0 : goal.returns-then-no-ne0
-returns-then-no-ne0 c =
-    refused c.requires c.in_bounds.ensures c.if-not-in_bounds.false c.cell_no-no.ensures c.if-no-ne0.true _ c.line_of-then-no-ne0.ensures
+pub cell_asked-requires-clause-small : goal.cell_asked-requires-clause-small
+cell_asked-requires-clause-small c = ready_small _ _ c.requires
 
-pub put_position-requires : goal.put_position-requires
-put_position-requires c = (room c.requires c.in_bounds.ensures c.if-not-in_bounds.false c.cell_no-no.ensures c.if-no-ne0.false).cells
+pub returns-in_err-cell_asked-clause-obeyed : goal.returns-in_err-cell_asked-clause-obeyed
+returns-in_err-cell_asked-clause-obeyed c =
+    refused c.requires c.in_bounds.ensures c.if-not-in_bounds.false c.cell_asked.ensures (some_no c.in_err-cell_asked.was) _
+    (handed_on _ c.in_err-cell_asked.was c.from_residual.ensures)
 
-pub add_row-requires : goal.add_row-requires
-add_row-requires c =
-    let m = room c.requires c.in_bounds.ensures c.if-not-in_bounds.false c.cell_no-no.ensures c.if-no-ne0.false in record {
-      count_lt_cells_most = m.cells;
-      next_lt_ids_end = m.ids;
-    }
-
-pub returns : goal.returns
-returns c =
-    let a = c.args in
-    let start = of_lists a.next.now a.count.now a.ids.now a.kinds.now a.starts.now a.ends.now a.bends.now a.counts.now a.px.now a.py.now a.cycles.now a.steps.now
-    a.bx.now a.by.now in
+pub returns-clause-obeyed : goal.returns-clause-obeyed
+returns-clause-obeyed c =
     let x = c.put_position.ensures in
-    let w = c.add_row.ensures in
-    obeyed c.requires c.in_bounds.ensures c.if-not-in_bounds.false c.cell_no-no.ensures c.if-no-ne0.false _
-    (row_added _ start 0 0 0 0 0
-    (w.next_after, (w.count_after, (w.ids_after, (w.kinds_after, (w.starts_after, (w.ends_after, (w.bends_after, w.counts_after)))))))
-    refl refl refl refl
-    ∙ ap₂ (with_row start 0 0 0 0 0) x.px_after x.py_after)
-    _ w.value
+    obeyed c.requires c.in_bounds.ensures c.if-not-in_bounds.false c.cell_asked.ensures (all_yes c.in_ok-cell_asked.was) _
+    (c.add_row.ensures.added ∙ ap₂ (with_row (arrays c.args.sheet.now) 0 0 0 0 0) x.px_after x.py_after) _ (ap (λ (u : Change). line_says (Ok u)) c.add_row.ensures.value)

@@ -1,6 +1,6 @@
 -- `cut_face_open` meets its contract: questions 3 to 5, 7 and 8, and then the cut, with small lists or large ones. Assumes nothing.
 use Prim.Native.Nat.{◌≤◌}
-use mathlib.Core.Path.{sym, ◌∙◌}
+use mathlib.Core.Path.{refl, sym, ◌∙◌}
 use Rattle.answer.specs.declared.Totals.{Totals}
 use Rattle.answer.proofs.Asked.{next_in_lem}
 use Rattle.lent.specs.Arrays.{Arrays, held_by}
@@ -9,6 +9,8 @@ use Rattle.lent.proofs.Finds.{ready_finds}
 use Rattle.lent.proofs.Sums.{ready_fits, ready_looks, ready_drawing, ready_small}
 use Rattle.kind_cut_along.proofs.Opening.{bends_no, face_no_lem, counted, corners_ask, five}
 use Rattle.kind_cut_along.proofs.Cutting.{in_array, late_no_lem, goes_small, goes_large}
+use Rattle.answer.proofs.Questions.{all_yes, some_no}
+use Rattle.lent.proofs.Refusals.{handed_on}
 use Rattle.kind_cut_along.proofs.cut_face_open.Goals as goal
 
 next_most : {a : Arrays} {t : Totals} → Ready a t → a.next ≤ 65536
@@ -17,11 +19,11 @@ next_most {a} {t} y = next_in_lem (held_by a) (ready_drawing a t y)
 pub bends_within-requires : goal.bends_within-requires
 bends_within-requires c = c.requires.in_script.0
 
-pub returns-then-not-bends_within : goal.returns-then-not-bends_within
-returns-then-not-bends_within c =
+pub returns-then-not-bends_within-clause-obeyed : goal.returns-then-not-bends_within-clause-obeyed
+returns-then-not-bends_within-clause-obeyed c =
     let a = c.args in
     bends_no _ a.t c.requires.ready a.script.now a.f a.c1 a.s1 a.c2 a.s2 a.k a.first a.moved a.place
-    (sym c.bends_within.ensures ∙ c.if-not-bends_within.true) _ c.line_of.ensures
+    (sym c.bends_within.ensures ∙ c.if-not-bends_within.true) _ refl
 
 pub value_at-kind-requires : goal.value_at-kind-requires
 value_at-kind-requires c =
@@ -33,11 +35,11 @@ value_at-kind-requires c =
       rising = (ready_looks _ _ y).rising;
     }
 
-pub returns-then-kind-ne3 : goal.returns-then-kind-ne3
-returns-then-kind-ne3 c =
+pub returns-then-kind-ne3-clause-obeyed : goal.returns-then-kind-ne3-clause-obeyed
+returns-then-kind-ne3-clause-obeyed c =
     let a = c.args in
     face_no_lem _ a.t c.requires.ready a.script.now a.f a.c1 a.s1 a.c2 a.s2 a.k a.first a.moved a.place
-    (sym c.bends_within.ensures ∙ c.if-not-bends_within.false) c.value_at-kind.result c.value_at-kind.ensures c.if-kind-ne3.true _ c.line_of-then-kind-ne3.ensures
+    (sym c.bends_within.ensures ∙ c.if-not-bends_within.false) c.value_at-kind.result c.value_at-kind.ensures c.if-kind-ne3.true _ refl
 
 pub find-row-requires : goal.find-row-requires
 find-row-requires c = let whole = ready_finds _ _ c.requires.ready in record {
@@ -64,17 +66,17 @@ corners_exist-requires c =
       stand = whole.1.1;
     }
 
-pub returns-then-not-corners_exist : goal.returns-then-not-corners_exist
-returns-then-not-corners_exist c =
+pub returns-then-not-corners_exist-clause-obeyed : goal.returns-then-not-corners_exist-clause-obeyed
+returns-then-not-corners_exist-clause-obeyed c =
     let a = c.args in
     let said =
     five _ a.t c.requires.ready a.script.now a.f a.c1 a.s1 a.c2 a.s2 a.k a.first a.moved a.place
     (sym c.bends_within.ensures ∙ c.if-not-bends_within.false) c.value_at-kind.result c.value_at-kind.ensures c.if-kind-ne3.false c.find-row.result c.find-row.ensures
     c.spans_at-spans.result c.spans_at-spans.ensures c.corners_exist.result c.corners_exist.ensures c.requires.in_script.0 c.requires.in_script.1 in
-    said.refused c.if-not-corners_exist.true _ c.line_of-then-not-corners_exist.ensures
+    said.refused c.if-not-corners_exist.true _ refl
 
-pub cut_no-no-requires : goal.cut_no-no-requires
-cut_no-no-requires c =
+pub cut_asked-requires : goal.cut_asked-requires
+cut_asked-requires c =
     let a = c.args in
     let said =
     five _ a.t c.requires.ready a.script.now a.f a.c1 a.s1 a.c2 a.s2 a.k a.first a.moved a.place
@@ -87,15 +89,15 @@ cut_no-no-requires c =
       c2_bound = inside.1;
     }
 
-pub returns-then-no-ne0 : goal.returns-then-no-ne0
-returns-then-no-ne0 c =
+pub returns-in_err-cut_asked-clause-obeyed : goal.returns-in_err-cut_asked-clause-obeyed
+returns-in_err-cut_asked-clause-obeyed c =
     let a = c.args in
     let said =
     five _ a.t c.requires.ready a.script.now a.f a.c1 a.s1 a.c2 a.s2 a.k a.first a.moved a.place
     (sym c.bends_within.ensures ∙ c.if-not-bends_within.false) c.value_at-kind.result c.value_at-kind.ensures c.if-kind-ne3.false c.find-row.result c.find-row.ensures
     c.spans_at-spans.result c.spans_at-spans.ensures c.corners_exist.result c.corners_exist.ensures c.requires.in_script.0 c.requires.in_script.1 in
     late_no_lem _ a.t a.script.now a.f c.spans_at-spans.result a.c1 a.s1 a.c2 a.s2 a.k a.first a.moved a.place (said.passes c.if-not-corners_exist.false)
-    c.cut_no-no.result c.cut_no-no.ensures c.if-no-ne0.true _ c.line_of-then-no-ne0.ensures
+    _ c.cut_asked.ensures (some_no c.in_err-cut_asked.was) _ (handed_on _ c.in_err-cut_asked.was c.from_residual.ensures)
 
 pub cut_in-requires : goal.cut_in-requires
 cut_in-requires c =
@@ -105,10 +107,10 @@ cut_in-requires c =
     (sym c.bends_within.ensures ∙ c.if-not-bends_within.false) c.value_at-kind.result c.value_at-kind.ensures c.if-kind-ne3.false c.find-row.result c.find-row.ensures
     c.spans_at-spans.result c.spans_at-spans.ensures c.corners_exist.result c.corners_exist.ensures c.requires.in_script.0 c.requires.in_script.1 in
     goes_small _ a.t a.script.now a.f c.spans_at-spans.result a.c1 a.s1 a.c2 a.s2 a.k a.first a.moved a.place (said.passes c.if-not-corners_exist.false)
-    (sym c.cut_no-no.ensures ∙ c.if-no-ne0.false) c.find-row.result c.find-row.ensures c.few.result c.few.ensures c.if-few.true
+    (sym c.cut_asked.ensures ∙ (all_yes c.in_ok-cut_asked.was)) c.find-row.result c.find-row.ensures c.few.result c.few.ensures c.if-few.true
 
-pub returns-then-few : goal.returns-then-few
-returns-then-few c = c.cut_in.ensures
+pub returns-then-few-clause-obeyed : goal.returns-then-few-clause-obeyed
+returns-then-few-clause-obeyed c = c.cut_in.ensures.obeyed
 
 pub cut_in-requires-2 : goal.cut_in-requires-2
 cut_in-requires-2 c =
@@ -118,7 +120,7 @@ cut_in-requires-2 c =
     (sym c.bends_within.ensures ∙ c.if-not-bends_within.false) c.value_at-kind.result c.value_at-kind.ensures c.if-kind-ne3.false c.find-row.result c.find-row.ensures
     c.spans_at-spans.result c.spans_at-spans.ensures c.corners_exist.result c.corners_exist.ensures c.requires.in_script.0 c.requires.in_script.1 in
     goes_large _ a.t a.script.now a.f c.spans_at-spans.result a.c1 a.s1 a.c2 a.s2 a.k a.first a.moved a.place (said.passes c.if-not-corners_exist.false)
-    (sym c.cut_no-no.ensures ∙ c.if-no-ne0.false) c.find-row.result c.find-row.ensures
+    (sym c.cut_asked.ensures ∙ (all_yes c.in_ok-cut_asked.was)) c.find-row.result c.find-row.ensures
 
-pub returns : goal.returns
-returns c = c.cut_in-2.ensures
+pub returns-clause-obeyed : goal.returns-clause-obeyed
+returns-clause-obeyed c = c.cut_in-2.ensures.obeyed

@@ -1,9 +1,12 @@
 -- `cut_in` meets its contract: the plan, the face's cycles, the edge, and the new face, where one comes. Assumes nothing.
 use native.Mathlib.Omega.{arith}
 use Prim.Native.Nat.{ℕ, ◌+◌}
-use mathlib.Core.Path.{◌≡◌, refl}
+use mathlib.Core.Path.{◌≡◌, refl, ap, ◌∙◌}
 use mathlib.Core.List.{List}
 use lib.Ieee.{Float}
+use Rattle.std.specs.Prelude.{Ok}
+use Rattle.lent.specs.Replies.{line_says}
+use Rattle.lent.specs.declared.Change.{Change}
 use Rattle.bends.specs.Bends.{positions_at}
 use Rattle.complex.specs.Cells.{open_edge, face}
 use Rattle.store.specs.Edits.{appended}
@@ -17,9 +20,9 @@ use Rattle.decode_parts.specs.Lists.{numbers_read}
 use Rattle.rows_corners.specs.Faces.{cycles_at}
 use Rattle.rows_split.specs.Along.{old_side}
 use Rattle.rows_split.specs.Parts.{place_of}
-use Rattle.lent.specs.Arrays.{Arrays, held_by, of_lists}
+use Rattle.lent.specs.Arrays.{Arrays, held_by}
 use Rattle.lent.specs.Growing.{with_open}
-use Rattle.kernel_add.specs.Comes.{BendsPut}
+use Rattle.kernel_add.specs.Comes.{one_new, BendsPut}
 use Rattle.kernel_add.proofs.Put.{with_placed}
 use Rattle.kernel_cycles.specs.Replacing.{ReplacedIn}
 use Rattle.kernel_part.specs.Rounds.{HoldsIn}
@@ -41,15 +44,10 @@ module _ {a : Arrays} {t : Totals} {script : List ℕ} {f row : ℕ} {s : Spans}
 
   -- r have the face's cycles, us and vs the bends, and o the edge too
   module _ {r : Arrays} (q : ReplacedIn a row s u.cycles u.steps (built numbers u places) r) {us vs : List Float}
-      (p : BendsPut r.bx r.by t.bends (positions_at script first k) k us vs) (o : Arrays) where
-    abbrev chorded : Arrays
-    chorded = with_open (with_placed r us vs) v w k
-
-    came : o.next ≡ chorded.next → o.count ≡ chorded.count → o.ids ≡ chorded.ids → o.kinds ≡ chorded.kinds → o.starts ≡ chorded.starts → o.ends ≡ chorded.ends
-        → o.bends ≡ chorded.bends → o.counts ≡ chorded.counts → o.px ≡ r.px → o.py ≡ r.py → o.cycles ≡ r.cycles → o.steps ≡ r.steps → o.bx ≡ us → o.by ≡ vs
-        → HoldsIn (appended (sheet_with_row (sheet_of (held_by a)) row (face (built numbers u places))) (open_edge v w (positions_at script first k)))
+      (p : BendsPut r.bx r.by t.bends (positions_at script first k) k us vs) {o : Arrays} (e : o ≡ with_open (with_placed r us vs) v w k) where
+    came : HoldsIn (appended (sheet_with_row (sheet_of (held_by a)) row (face (built numbers u places))) (open_edge v w (positions_at script first k)))
         (s.cycles.first + u.cycles + s.cycles.rest) (s.steps.first + u.steps + s.steps.rest) o
-    came = chord_holds a row s numbers u places t.bends script v w k first laid.asks r q us vs p o
+    came = chord_holds a row s numbers u places t.bends script v w k first laid.asks r q us vs p o e
 
 pub plan-g-requires : goal.plan-g-requires
 plan-g-requires c =
@@ -65,7 +63,7 @@ pub put_bends-requires : goal.put_bends-requires
 put_bends-requires c =
     let e = c.plan-g.ensures in
     let x = (laid c.requires e.v_value e.w_value e.built).asks in
-    let q = c.replace_cycles.ensures in record {
+    let q = c.replace_cycles.ensures.replaced_in in record {
       k_in_bounds = x.bytes;
       k_bound = chord_bends _ _ _ _ _ _ _ _ _ _ _ _ x _ q;
       bx_len = q.long.bx;
@@ -76,76 +74,54 @@ pub add_row-line-requires : goal.add_row-line-requires
 add_row-line-requires c =
     let e = c.plan-g.ensures in
     let x = (laid c.requires e.v_value e.w_value e.built).asks in
-    let m = chord_comes _ _ _ _ _ _ _ _ _ _ _ _ x _ c.replace_cycles.ensures in
+    let m = chord_comes _ _ _ _ _ _ _ _ _ _ _ _ x _ c.replace_cycles.ensures.replaced_in in
     record {
       count_lt_cells_most = m.cells;
       next_lt_ids_end = m.ids;
     }
 
-pub returns-then-c1-c2 : goal.returns-then-c1-c2
-returns-then-c1-c2 c =
+pub returns-then-c1-c2-clause-obeyed : goal.returns-then-c1-c2-clause-obeyed
+returns-then-c1-c2-clause-obeyed c =
     let e = c.plan-g.ensures in
     let w = c.add_row-line.ensures in
-    let m = c.add_row-line.new in
-    let edged = of_lists m.next m.count m.ids m.kinds m.starts m.ends m.bends m.counts c.args.px.now c.args.py.now c.replace_cycles.new.cycles
-    c.replace_cycles.new.steps c.put_bends.new.bx c.put_bends.new.by in
-    let h =
-    came c.requires e.v_value e.w_value e.built c.replace_cycles.ensures c.put_bends.ensures edged w.next_after w.count_after w.ids_after w.kinds_after
-    w.starts_after w.ends_after w.bends_after w.counts_after refl refl refl refl refl refl in
-    two_obeyed _ _ _ _ _ _ _ _ _ _ _ _ _ _ _ _ c.requires _ _ e.v_value e.w_value _ _ _ e.built _ _ edged h c.if-c1-c2.true
-    w.next_after w.count_after _ w.value
+    let h = came c.requires e.v_value e.w_value e.built c.replace_cycles.ensures.replaced_in c.put_bends.ensures w.added in
+    let n = c.replace_cycles.ensures.kept in
+    two_obeyed _ _ _ _ _ _ _ _ _ _ _ _ _ _ _ _ c.requires _ _ e.v_value e.w_value _ _ _ e.built _ _ _ h c.if-c1-c2.true
+    (ap (λ (x : Arrays). x.next) w.added ∙ ap (λ (x : Arrays). x.next + 1) n)
+    (ap (λ (x : Arrays). x.count) w.added ∙ ap (λ (x : Arrays). x.count + 1) n)
+    _ (ap (λ (u : Change). line_says (Ok u)) w.value ∙ ap (λ (x : Arrays). one_new x.next) n)
 
 -- ---- the new face
 pub overflow_add-y : goal.overflow_add-y
 overflow_add-y c =
     let e = c.plan-g.ensures in
     let w = c.add_row-line.ensures in
-    let m = c.add_row-line.new in
-    let edged = of_lists m.next m.count m.ids m.kinds m.starts m.ends m.bends m.counts c.args.px.now c.args.py.now c.replace_cycles.new.cycles
-    c.replace_cycles.new.steps c.put_bends.new.bx c.put_bends.new.by in
-    let h =
-    came c.requires e.v_value e.w_value e.built c.replace_cycles.ensures c.put_bends.ensures edged w.next_after w.count_after w.ids_after w.kinds_after
-    w.starts_after w.ends_after w.bends_after w.counts_after refl refl refl refl refl refl in
-    let k = sums_fit_lem _ _ _ _ _ _ _ _ _ _ _ _ _ _ _ _ c.requires _ _ e.v_value e.w_value _ _ _ e.built _ _ edged h in
+    let h = came c.requires e.v_value e.w_value e.built c.replace_cycles.ensures.replaced_in c.put_bends.ensures w.added in
+    let k = sums_fit_lem _ _ _ _ _ _ _ _ _ _ _ _ _ _ _ _ c.requires _ _ e.v_value e.w_value _ _ _ e.built _ _ _ h in
     omega (arith, k.0)
 
 pub overflow_add-y-2 : goal.overflow_add-y-2
 overflow_add-y-2 c =
     let e = c.plan-g.ensures in
     let w = c.add_row-line.ensures in
-    let m = c.add_row-line.new in
-    let edged = of_lists m.next m.count m.ids m.kinds m.starts m.ends m.bends m.counts c.args.px.now c.args.py.now c.replace_cycles.new.cycles
-    c.replace_cycles.new.steps c.put_bends.new.bx c.put_bends.new.by in
-    let h =
-    came c.requires e.v_value e.w_value e.built c.replace_cycles.ensures c.put_bends.ensures edged w.next_after w.count_after w.ids_after w.kinds_after
-    w.starts_after w.ends_after w.bends_after w.counts_after refl refl refl refl refl refl in
-    let k = sums_fit_lem _ _ _ _ _ _ _ _ _ _ _ _ _ _ _ _ c.requires _ _ e.v_value e.w_value _ _ _ e.built _ _ edged h in
+    let h = came c.requires e.v_value e.w_value e.built c.replace_cycles.ensures.replaced_in c.put_bends.ensures w.added in
+    let k = sums_fit_lem _ _ _ _ _ _ _ _ _ _ _ _ _ _ _ _ c.requires _ _ e.v_value e.w_value _ _ _ e.built _ _ _ h in
     omega (arith, k.0)
 
 pub overflow_add-z : goal.overflow_add-z
 overflow_add-z c =
     let e = c.plan-g.ensures in
     let w = c.add_row-line.ensures in
-    let m = c.add_row-line.new in
-    let edged = of_lists m.next m.count m.ids m.kinds m.starts m.ends m.bends m.counts c.args.px.now c.args.py.now c.replace_cycles.new.cycles
-    c.replace_cycles.new.steps c.put_bends.new.bx c.put_bends.new.by in
-    let h =
-    came c.requires e.v_value e.w_value e.built c.replace_cycles.ensures c.put_bends.ensures edged w.next_after w.count_after w.ids_after w.kinds_after
-    w.starts_after w.ends_after w.bends_after w.counts_after refl refl refl refl refl refl in
-    let k = sums_fit_lem _ _ _ _ _ _ _ _ _ _ _ _ _ _ _ _ c.requires _ _ e.v_value e.w_value _ _ _ e.built _ _ edged h in
+    let h = came c.requires e.v_value e.w_value e.built c.replace_cycles.ensures.replaced_in c.put_bends.ensures w.added in
+    let k = sums_fit_lem _ _ _ _ _ _ _ _ _ _ _ _ _ _ _ _ c.requires _ _ e.v_value e.w_value _ _ _ e.built _ _ _ h in
     omega (arith, k.1)
 
 pub overflow_add-z-2 : goal.overflow_add-z-2
 overflow_add-z-2 c =
     let e = c.plan-g.ensures in
     let w = c.add_row-line.ensures in
-    let m = c.add_row-line.new in
-    let edged = of_lists m.next m.count m.ids m.kinds m.starts m.ends m.bends m.counts c.args.px.now c.args.py.now c.replace_cycles.new.cycles
-    c.replace_cycles.new.steps c.put_bends.new.bx c.put_bends.new.by in
-    let h =
-    came c.requires e.v_value e.w_value e.built c.replace_cycles.ensures c.put_bends.ensures edged w.next_after w.count_after w.ids_after w.kinds_after
-    w.starts_after w.ends_after w.bends_after w.counts_after refl refl refl refl refl refl in
-    let k = sums_fit_lem _ _ _ _ _ _ _ _ _ _ _ _ _ _ _ _ c.requires _ _ e.v_value e.w_value _ _ _ e.built _ _ edged h in
+    let h = came c.requires e.v_value e.w_value e.built c.replace_cycles.ensures.replaced_in c.put_bends.ensures w.added in
+    let k = sums_fit_lem _ _ _ _ _ _ _ _ _ _ _ _ _ _ _ _ c.requires _ _ e.v_value e.w_value _ _ _ e.built _ _ _ h in
     omega (arith, k.1)
 
 pub offset_bounds-numbers-i : goal.offset_bounds-numbers-i
@@ -170,28 +146,21 @@ pub add_part-requires : goal.add_part-requires
 add_part-requires c =
     let e = c.plan-g.ensures in
     let w = c.add_row-line.ensures in
-    let m = c.add_row-line.new in
-    let edged = of_lists m.next m.count m.ids m.kinds m.starts m.ends m.bends m.counts c.args.px.now c.args.py.now c.replace_cycles.new.cycles
-    c.replace_cycles.new.steps c.put_bends.new.bx c.put_bends.new.by in
-    let h =
-    came c.requires e.v_value e.w_value e.built c.replace_cycles.ensures c.put_bends.ensures edged w.next_after w.count_after w.ids_after w.kinds_after
-    w.starts_after w.ends_after w.bends_after w.counts_after refl refl refl refl refl refl in
+    let h = came c.requires e.v_value e.w_value e.built c.replace_cycles.ensures.replaced_in c.put_bends.ensures w.added in
     let g = c.plan-g.result in
-    part_asks _ _ _ _ _ _ _ _ _ _ _ _ _ _ _ _ c.requires _ _ e.v_value e.w_value _ _ _ e.built _ _ edged h c.if-c1-c2.false
+    part_asks _ _ _ _ _ _ _ _ _ _ _ _ _ _ _ _ c.requires _ _ e.v_value e.w_value _ _ _ e.built _ _ _ h c.if-c1-c2.false
     _ g.new _ (built_tail c.plan-g.new.numbers g.old.cycles g.new c.plan-g.new.places g.old.steps e.built_2)
 
-pub returns : goal.returns
-returns c =
+pub returns-clause-obeyed : goal.returns-clause-obeyed
+returns-clause-obeyed c =
     let e = c.plan-g.ensures in
     let w = c.add_row-line.ensures in
-    let m = c.add_row-line.new in
-    let edged = of_lists m.next m.count m.ids m.kinds m.starts m.ends m.bends m.counts c.args.px.now c.args.py.now c.replace_cycles.new.cycles
-    c.replace_cycles.new.steps c.put_bends.new.bx c.put_bends.new.by in
-    let h =
-    came c.requires e.v_value e.w_value e.built c.replace_cycles.ensures c.put_bends.ensures edged w.next_after w.count_after w.ids_after w.kinds_after
-    w.starts_after w.ends_after w.bends_after w.counts_after refl refl refl refl refl refl in
+    let h = came c.requires e.v_value e.w_value e.built c.replace_cycles.ensures.replaced_in c.put_bends.ensures w.added in
     let g = c.plan-g.result in
     let d = c.add_part.ensures in
-    one_obeyed _ _ _ _ _ _ _ _ _ _ _ _ _ _ _ _ c.requires _ _ e.v_value e.w_value _ _ _ e.built _ _ edged h c.if-c1-c2.false
+    let n = c.replace_cycles.ensures.kept in
+    one_obeyed _ _ _ _ _ _ _ _ _ _ _ _ _ _ _ _ c.requires _ _ e.v_value e.w_value _ _ _ e.built _ _ _ h c.if-c1-c2.false
     _ g.new _ (built_tail c.plan-g.new.numbers g.old.cycles g.new c.plan-g.new.places g.old.steps e.built_2)
-    w.next_after w.count_after _ d.next_after d.count_after d.holds _ refl
+    (ap (λ (x : Arrays). x.next) w.added ∙ ap (λ (x : Arrays). x.next + 1) n)
+    (ap (λ (x : Arrays). x.count) w.added ∙ ap (λ (x : Arrays). x.count + 1) n)
+    _ d.next_after d.count_after d.holds _ refl

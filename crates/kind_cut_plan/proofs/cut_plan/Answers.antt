@@ -1,9 +1,8 @@
 -- `cut_plan` meets its contract. Assumes nothing.
 use native.Mathlib.Omega.{arith}
-use Prim.Native.Nat.{ℕ, ◌-◌, ◌%◌, ◌<◌}
+use Prim.Native.Nat.{ℕ, ◌-◌, ◌%◌}
 use mathlib.Core.Path.{◌≡◌, refl, sym, ◌∙◌}
 use mathlib.Core.Bool.{true}
-use mathlib.Core.List.{List}
 use lib.Dec.{eqb}
 use lib.ListN.{take, get_or}
 use Rattle.complex.specs.Cells.{cell_at}
@@ -18,7 +17,9 @@ use Rattle.lent.specs.Replies.{Ready}
 use Rattle.lent.proofs.Sums.{ready_fits, ready_looks}
 use Rattle.lent.proofs.Finds.{ready_finds}
 use Rattle.kind_cut_plan.specs.Kinds.{new_by, new_on, edge_on, exists_on, uses_on}
-use Rattle.kind_cut_plan.proofs.Plans.{Found, counts_in, late_asks, new_most, kind_no, kind_yes, row_in, base_in, place_no, late_no_lem, place_asks, planned}
+use Rattle.kind_cut_plan.proofs.Late.{planned_no}
+use Rattle.kind_cut_plan.proofs.Plans.{Found, counts_in, late_asks, kind_no, kind_yes, base_in, place_no, late_no_lem, place_asks, planned}
+use Rattle.answer.proofs.Questions.{all_yes, some_no}
 use Rattle.kind_cut_plan.proofs.cut_plan.Goals as goal
 
 -- what is found of a cell e of this kind, of which some come
@@ -28,9 +29,6 @@ module _ {a : Arrays} {t : Totals} (y : Ready a t) (e q : ℕ) {kind new : ℕ} 
   edge = let h = kind_yes a t y e q kind ek (λ z. nz (en ∙ z)) in (h.0, en ∙ h.1)
 
   module _ {row : ℕ} (er : row ≡ row_of e (take a.count a.ids)) where
-    row_at : row < 256
-    row_at = row_in a t y e q row er (eqb kind 1) edge.0
-
     late : {m uses r : ℕ} → m ≡ get_or a.bends row 0 → exists_on (eqb kind 1) m q ≡ true → uses ≡ uses_on (eqb kind 1) e (take t.cycles a.cycles) a.steps
         → r ≡ late_no a.next new (changed_by (sizes_by t) (more_less (sized (new - 1) 0 uses 0) (sized 0 0 0 (q % 2))))
         → Found a t e q (eqb kind 1) row m uses r
@@ -56,7 +54,7 @@ value_at-kind-requires c =
 
 pub returns-then-new-eq0 : goal.returns-then-new-eq0
 returns-then-new-eq0 c =
-    kind_no _ _ c.requires c.args.e c.args.q _ c.value_at-kind.ensures (sym c.new_cells-new.ensures ∙ c.if-new-eq0.true) _ c.refused.ensures
+    kind_no _ _ c.requires c.args.e c.args.q _ c.value_at-kind.ensures (sym c.new_cells-new.ensures ∙ c.if-new-eq0.true)
 
 pub find-row-requires : goal.find-row-requires
 find-row-requires c = let whole = ready_finds _ _ c.requires in record {
@@ -65,18 +63,11 @@ find-row-requires c = let whole = ready_finds _ _ c.requires in record {
   rising = whole.1.1;
 }
 
-pub offset_bounds-bends-row : goal.offset_bounds-bends-row
-offset_bounds-bends-row c =
-    omega (arith, row_at c.requires c.args.e c.args.q c.value_at-kind.ensures c.new_cells-new.ensures c.if-new-eq0.false c.find-row.ensures)
-
-pub bounds-bends-row : goal.bounds-bends-row
-bounds-bends-row c = row_at c.requires c.args.e c.args.q c.value_at-kind.ensures c.new_cells-new.ensures c.if-new-eq0.false c.find-row.ensures
-
 pub returns-then-not-place_exists : goal.returns-then-not-place_exists
 returns-then-not-place_exists c =
     let g = edge c.requires c.args.e c.args.q c.value_at-kind.ensures c.new_cells-new.ensures c.if-new-eq0.false in
     place_no _ _ c.requires c.args.e c.args.q c.find-row.result c.find-row.ensures (eqb c.value_at-kind.result 1) g.0
-    c.wide-m.result c.wide-m.ensures (sym c.place_exists.ensures ∙ c.if-not-place_exists.true) _ c.refused-then-not-place_exists.ensures
+    c.wide-m.result c.wide-m.ensures (sym c.place_exists.ensures ∙ c.if-not-place_exists.true)
 
 pub uses_of-uses-requires : goal.uses_of-uses-requires
 uses_of-uses-requires c =
@@ -86,26 +77,24 @@ uses_of-uses-requires c =
       cycles_in_bounds = omega (arith, k.steps_in, k.step_room);
     }
 
-pub overflow_sub-more : goal.overflow_sub-more
-overflow_sub-more c =
-    let g = edge c.requires c.args.e c.args.q c.value_at-kind.ensures c.new_cells-new.ensures c.if-new-eq0.false in
-    omega (arith, g.1, (new_most (eqb c.value_at-kind.result 1)).0)
-
-pub late_no-no-requires : goal.late_no-no-requires
-late_no-no-requires c =
+pub cut_asked-requires : goal.cut_asked-requires
+cut_asked-requires c =
     let g = edge c.requires c.args.e c.args.q c.value_at-kind.ensures c.new_cells-new.ensures c.if-new-eq0.false in
     let whole = late_asks _ _ c.requires c.args.e c.args.q (eqb c.value_at-kind.result 1) _ _ g.1 c.uses_of-uses.ensures in record {
       next_le_ids_end = whole.0;
-      le_ids_end = whole.1.0;
-      small = whole.1.1;
+      some_new = whole.1.0;
+      le_ids_end = whole.1.1.0;
+      small = whole.1.1.1.0;
+      uses_bound = whole.1.1.1.1;
     }
 
-pub returns-then-no-ne0 : goal.returns-then-no-ne0
-returns-then-no-ne0 c =
-    late_no_lem _ _ c.args.e c.args.q _ _ _ _ (eqb c.value_at-kind.result 1)
+pub returns-in_err-cut_asked : goal.returns-in_err-cut_asked
+returns-in_err-cut_asked c =
+    planned_no _ c.args.e c.args.q _ c.in_err-cut_asked.was c.from_residual.ensures
+    (late_no_lem _ _ c.args.e c.args.q _ _ _ _ (eqb c.value_at-kind.result 1)
     (late c.requires c.args.e c.args.q c.value_at-kind.ensures c.new_cells-new.ensures c.if-new-eq0.false c.find-row.ensures c.wide-m.ensures
-    (sym c.place_exists.ensures ∙ c.if-not-place_exists.false) c.uses_of-uses.ensures c.late_no-no.ensures)
-    c.if-no-ne0.true _ c.refused-then-no-ne0.ensures
+    (sym c.place_exists.ensures ∙ c.if-not-place_exists.false) c.uses_of-uses.ensures c.cut_asked.ensures)
+    (some_no c.in_err-cut_asked.was))
 
 pub bend_start-base-requires : goal.bend_start-base-requires
 bend_start-base-requires c =
@@ -115,26 +104,12 @@ bend_start-base-requires c =
       counts_bound = whole.1;
     }
 
-pub offset_bounds-starts-row : goal.offset_bounds-starts-row
-offset_bounds-starts-row c =
-    omega (arith, row_at c.requires c.args.e c.args.q c.value_at-kind.ensures c.new_cells-new.ensures c.if-new-eq0.false c.find-row.ensures)
-
-pub bounds-starts-row : goal.bounds-starts-row
-bounds-starts-row c = row_at c.requires c.args.e c.args.q c.value_at-kind.ensures c.new_cells-new.ensures c.if-new-eq0.false c.find-row.ensures
-
-pub offset_bounds-ends-row : goal.offset_bounds-ends-row
-offset_bounds-ends-row c =
-    omega (arith, row_at c.requires c.args.e c.args.q c.value_at-kind.ensures c.new_cells-new.ensures c.if-new-eq0.false c.find-row.ensures)
-
-pub bounds-ends-row : goal.bounds-ends-row
-bounds-ends-row c = row_at c.requires c.args.e c.args.q c.value_at-kind.ensures c.new_cells-new.ensures c.if-new-eq0.false c.find-row.ensures
-
 pub place_at-p-requires : goal.place_at-p-requires
 place_at-p-requires c =
     let k =
     late c.requires c.args.e c.args.q c.value_at-kind.ensures c.new_cells-new.ensures c.if-new-eq0.false c.find-row.ensures c.wide-m.ensures
-    (sym c.place_exists.ensures ∙ c.if-not-place_exists.false) c.uses_of-uses.ensures c.late_no-no.ensures in
-    let whole = place_asks _ _ c.args.e c.args.q _ _ _ _ c.if-no-ne0.false _ c.bend_start-base.ensures _ _ refl refl (eqb c.value_at-kind.result 1) k in record {
+    (sym c.place_exists.ensures ∙ c.if-not-place_exists.false) c.uses_of-uses.ensures c.cut_asked.ensures in
+    let whole = place_asks _ _ c.args.e c.args.q _ _ _ _ (all_yes c.in_ok-cut_asked.was) _ c.bend_start-base.ensures _ _ refl refl (eqb c.value_at-kind.result 1) k in record {
       n_le_cells_most = whole.0;
       ids_len = whole.1.0;
       rising = whole.1.1.0;
@@ -145,7 +120,7 @@ place_at-p-requires c =
 
 pub returns : goal.returns
 returns c =
-    planned _ _ c.args.e c.args.q _ _ _ _ c.if-no-ne0.false _ c.bend_start-base.ensures _ _ refl refl (eqb c.value_at-kind.result 1)
+    planned _ _ c.args.e c.args.q _ _ _ _ (all_yes c.in_ok-cut_asked.was) _ c.bend_start-base.ensures _ _ refl refl (eqb c.value_at-kind.result 1)
     (late c.requires c.args.e c.args.q c.value_at-kind.ensures c.new_cells-new.ensures c.if-new-eq0.false c.find-row.ensures c.wide-m.ensures
-    (sym c.place_exists.ensures ∙ c.if-not-place_exists.false) c.uses_of-uses.ensures c.late_no-no.ensures)
+    (sym c.place_exists.ensures ∙ c.if-not-place_exists.false) c.uses_of-uses.ensures c.cut_asked.ensures)
     _ c.place_at-p.ensures

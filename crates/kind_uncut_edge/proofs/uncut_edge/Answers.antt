@@ -1,7 +1,8 @@
 -- `uncut_edge` meets its contract: questions 7 and 8, and then the cells go. Assumes nothing.
 use Prim.Native.Nat.{ℕ, ◌-◌, ◌≤◌}
 use lib.Dec.{lit≤}
-use mathlib.Core.Path.{◌≡◌, refl}
+use mathlib.Core.Path.{◌≡◌, ap}
+use Rattle.std.specs.Prelude.{Ok}
 use Rattle.complex.specs.Cells.{Sheet}
 use Rattle.complex.specs.Decode.{uncut}
 use Rattle.complex.specs.Sound.{ids_end}
@@ -17,12 +18,15 @@ use Rattle.ask_uncut_uses.specs.declared.Between.{Between}
 use Rattle.ask_uncut_uses.specs.Uses.{use_at, case_of}
 use Rattle.law_uncut_edge.specs.Needs.{more_cycles, Takes}
 use Rattle.lent.specs.Arrays.{Arrays, held_by}
+use Rattle.lent.specs.declared.Change.{Change}
 use Rattle.lent.specs.declared.Line.{Line}
-use Rattle.lent.specs.Replies.{Ready, Obeyed, Holds}
+use Rattle.lent.specs.Replies.{line_says, Ready, Obeyed, Holds}
 use Rattle.lent.proofs.Sums.{ready_fits, ready_drawing, ready_small}
 use Rattle.kernel_reface.proofs.Left.{less_line}
 use Rattle.kind_uncut_edge.specs.Left.{Leaves}
 use Rattle.kind_uncut_edge.proofs.Leads.{small, large, room_by, edge_no, case_is, fewer, edge_obeyed, few_more}
+use Rattle.answer.proofs.Questions.{all_yes, some_no}
+use Rattle.lent.proofs.Refusals.{handed_on}
 use Rattle.kind_uncut_edge.proofs.uncut_edge.Goals as goal
 
 abbrev result : Arrays → ℕ → Between → Use → Use → Sheet
@@ -48,8 +52,8 @@ module _ {a : Arrays} {t : Totals} (y : Ready a t) (e : ℕ) (k : Between) (u w 
 next_in : {a : Arrays} {t : Totals} → Ready a t → a.next ≤ ids_end
 next_in {a} {t} y = next_in_lem (held_by a) (ready_drawing a t y)
 
-pub late_no-no-requires : goal.late_no-no-requires
-late_no-no-requires c =
+pub late_asked-requires : goal.late_asked-requires
+late_asked-requires c =
     record {
       next_le_ids_end = next_in c.requires.ready;
       le_ids_end = lit≤ tt;
@@ -60,42 +64,43 @@ late_no-no-requires c =
       );
     }
 
-pub returns-then-no-ne0 : goal.returns-then-no-ne0
-returns-then-no-ne0 c =
+pub returns-in_err-late_asked-clause-obeyed : goal.returns-in_err-late_asked-clause-obeyed
+returns-in_err-late_asked-clause-obeyed c =
     edge_no _ _ c.requires.ready c.args.e c.args.k c.args.u c.args.w c.requires.e_value _ c.more_cycles.ensures
-    c.late_no-no.result c.late_no-no.ensures c.if-no-ne0.true _ c.line_of.ensures
+    _ c.late_asked.ensures (some_no c.in_err-late_asked.was) _ (handed_on _ c.in_err-late_asked.was c.from_residual.ensures)
 
-pub take_out-left-requires : goal.take_out-left-requires
-take_out-left-requires c =
+pub take_out-requires : goal.take_out-requires
+take_out-requires c =
     leaves c.requires.ready c.args.e c.args.k c.args.u c.args.w c.requires.e_value
-    c.more_cycles.ensures c.late_no-no.ensures c.if-no-ne0.false _ _
+    c.more_cycles.ensures c.late_asked.ensures (all_yes c.in_ok-late_asked.was) _ _
     (λ q. small (room_by _ _ c.requires.ready c.args.e c.args.k c.args.u c.args.w c.requires.e_value) (c.few.ensures c.if-few.true))
 
 pub gone-requires : goal.gone-requires
 gone-requires c =
     let whole = gone_asks c.requires.ready c.args.e c.args.k c.args.u c.args.w c.requires.e_value
-    c.more_cycles.ensures c.late_no-no.ensures c.if-no-ne0.false _ refl c.take_out-left.ensures in
+    c.more_cycles.ensures c.late_asked.ensures (all_yes c.in_ok-late_asked.was) _ (ap (λ (b : Arrays). b.next) c.take_out.ensures.kept) c.take_out.ensures.holds in
     record { k_le_n = whole.0; n_le_cells_most = whole.1 }
 
-pub returns-then-few : goal.returns-then-few
-returns-then-few c =
+pub returns-then-few-clause-obeyed : goal.returns-then-few-clause-obeyed
+returns-then-few-clause-obeyed c =
     answered c.requires.ready c.args.e c.args.k c.args.u c.args.w c.requires.e_value
-    c.more_cycles.ensures c.late_no-no.ensures c.if-no-ne0.false _ refl c.take_out-left.ensures _ c.gone.ensures
+    c.more_cycles.ensures c.late_asked.ensures (all_yes c.in_ok-late_asked.was) _ (ap (λ (b : Arrays). b.next) c.take_out.ensures.kept) c.take_out.ensures.holds _
+    (ap (λ (u : Change). line_says (Ok u)) c.gone.ensures)
 
-pub take_out-left-requires-2 : goal.take_out-left-requires-2
-take_out-left-requires-2 c =
+pub take_out-requires-2 : goal.take_out-requires-2
+take_out-requires-2 c =
     leaves c.requires.ready c.args.e c.args.k c.args.u c.args.w c.requires.e_value
-    c.more_cycles.ensures c.late_no-no.ensures c.if-no-ne0.false _ _ large
+    c.more_cycles.ensures c.late_asked.ensures (all_yes c.in_ok-late_asked.was) _ _ large
 
 pub gone-requires-2 : goal.gone-requires-2
 gone-requires-2 c =
     let whole = gone_asks c.requires.ready c.args.e c.args.k c.args.u c.args.w c.requires.e_value
-    c.more_cycles.ensures c.late_no-no.ensures c.if-no-ne0.false _ refl
-    c.take_out-left-2.ensures in
+    c.more_cycles.ensures c.late_asked.ensures (all_yes c.in_ok-late_asked.was) _ (ap (λ (b : Arrays). b.next) c.take_out-2.ensures.kept)
+    c.take_out-2.ensures.holds in
     record { k_le_n = whole.0; n_le_cells_most = whole.1 }
 
-pub returns : goal.returns
-returns c =
+pub returns-clause-obeyed : goal.returns-clause-obeyed
+returns-clause-obeyed c =
     answered c.requires.ready c.args.e c.args.k c.args.u c.args.w c.requires.e_value
-    c.more_cycles.ensures c.late_no-no.ensures c.if-no-ne0.false _ refl c.take_out-left-2.ensures _
-    c.gone-2.ensures
+    c.more_cycles.ensures c.late_asked.ensures (all_yes c.in_ok-late_asked.was) _ (ap (λ (b : Arrays). b.next) c.take_out-2.ensures.kept) c.take_out-2.ensures.holds _
+    (ap (λ (u : Change). line_says (Ok u)) c.gone-2.ensures)

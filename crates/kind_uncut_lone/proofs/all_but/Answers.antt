@@ -1,5 +1,4 @@
 -- `all_but` meets its contract: the cycles of a span are copied, but for the flagged one. Assumes nothing.
-use borrow.Author.Rules.{rules}
 use native.Mathlib.Omega.{arith}
 use mathlib.Core.Bool.{true, false}
 use lib.ListN.{set, replicate, length-set, length-replicate}

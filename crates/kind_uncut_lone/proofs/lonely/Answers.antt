@@ -1,8 +1,9 @@
 -- `lonely` meets its contract: the lone cycle is found, and its face gets the others as the vertex goes. Assumes nothing.
 use native.Mathlib.Omega.{arith}
 use Prim.Native.Nat.{ℕ}
-use mathlib.Core.Path.{refl}
+use mathlib.Core.Path.{refl, ap}
 use lib.ListN.{length-replicate}
+use Rattle.lent.specs.Arrays.{Arrays}
 use Rattle.lent.proofs.Sums.{ready_fits, ready_rows}
 use Rattle.lent.proofs.Finds.{ready_finds}
 use Rattle.kind_uncut_lone.proofs.Going.{place_asks, row_few, counted, list_asks, refaces, fewer, obeyed}
@@ -23,14 +24,14 @@ row_holding-h-requires c =
       n_bound = (ready_fits _ _ c.requires.ready).cells;
     }
 
-pub offset_bounds-ids-row : goal.offset_bounds-ids-row
-offset_bounds-ids-row c =
+pub offset_bounds-sheet-row : goal.offset_bounds-sheet-row
+offset_bounds-sheet-row c =
     let h = row_few _ _ c.requires.ready c.args.v c.requires.is c.lone_place-j.result c.lone_place-j.ensures
     c.row_holding-h.result c.row_holding-h.ensures in
     omega (arith, h)
 
-pub bounds-ids-row : goal.bounds-ids-row
-bounds-ids-row c =
+pub bounds-sheet-row : goal.bounds-sheet-row
+bounds-sheet-row c =
     row_few _ _ c.requires.ready c.args.v c.requires.is c.lone_place-j.result c.lone_place-j.ensures
     c.row_holding-h.result c.row_holding-h.ensures
 
@@ -60,8 +61,8 @@ find-a-requires c =
       rising = whole.1.1;
     }
 
-pub reface-k-requires : goal.reface-k-requires
-reface-k-requires c =
+pub reface-requires : goal.reface-requires
+reface-requires c =
     record {
       refaced = refaces _ _ c.requires.ready c.args.v c.requires.is c.lone_place-j.result c.lone_place-j.ensures
           c.row_holding-h.result c.row_holding-h.ensures
@@ -76,15 +77,15 @@ overflow_sub-removed c =
     let h = fewer _ _ c.requires.ready c.args.v c.requires.is c.lone_place-j.result c.lone_place-j.ensures
     c.row_holding-h.result c.row_holding-h.ensures
     _ refl c.spans_at-s.result c.spans_at-s.ensures _ c.all_but-u.result _ c.all_but-u.ensures
-    c.find-a.result c.find-a.ensures _ c.reface-k.ensures refl in
+    c.find-a.result c.find-a.ensures _ c.reface.ensures.holds (ap (λ (a : Arrays). a.next) c.reface.ensures.kept) in
     omega (arith, h)
 
 pub overflow_cast-removed : goal.overflow_cast-removed
 overflow_cast-removed c = omega (arith, (ready_fits _ _ c.requires.ready).cells)
 
-pub returns : goal.returns
-returns c =
+pub returns-clause-obeyed : goal.returns-clause-obeyed
+returns-clause-obeyed c =
     obeyed _ _ c.requires.ready c.args.v c.requires.is c.lone_place-j.result c.lone_place-j.ensures
     c.row_holding-h.result c.row_holding-h.ensures
     _ refl c.spans_at-s.result c.spans_at-s.ensures _ c.all_but-u.result _ c.all_but-u.ensures
-    c.find-a.result c.find-a.ensures _ c.reface-k.ensures refl _ refl
+    c.find-a.result c.find-a.ensures _ c.reface.ensures.holds (ap (λ (a : Arrays). a.next) c.reface.ensures.kept) _ refl

@@ -2,39 +2,42 @@
 use Prim.Native.Nat.{◌≤◌}
 use native.Mathlib.Omega.{arith}
 use mathlib.Core.Bool.{false}
-use mathlib.Core.Path.{refl}
+use mathlib.Core.Path.{refl, ap}
 use lib.Dec.{lit≤}
 use Rattle.complex.specs.Sound.{ids_end}
 use Rattle.complex.specs.Decode.{uncut}
 use Rattle.answer.specs.declared.Totals.{Totals}
 use Rattle.answer.proofs.Asked.{next_in_lem}
 use Rattle.ask_cut_edge.proofs.Found.{base_asks}
-use Rattle.lent.specs.Arrays.{Arrays, held_by, rows_by, of_lists}
+use Rattle.lent.specs.Arrays.{Arrays, held_by, rows_by}
+use Rattle.lent.specs.Sheets.{arrays}
 use Rattle.lent.specs.Replies.{Ready}
-use Rattle.lent.proofs.Sums.{ready_rows, ready_drawing, ready_sizes, ready_indexes, ready_small, ready_fits, ready_cycles, ready_steps, ready_no}
+use Rattle.lent.proofs.Sums.{ready_drawing, ready_sizes, ready_indexes, ready_small, ready_fits, ready_cycles, ready_steps, ready_no}
 use Rattle.lent.proofs.Finds.{ready_finds}
 use Rattle.kernel_swap.proofs.Asking.{one_asks}
 use Rattle.kind_uncut_loop.proofs.Plans.{live_row, told, refuses, goes_by}
-use Rattle.kind_uncut_loop.proofs.Uncutting.{bends_in_lem, mid_edge, mid_bare, row_in, obeyed_loop}
+use Rattle.kind_uncut_loop.proofs.Uncutting.{bends_in_lem, mid_edge, mid_bare, mid_rows, row_in, obeyed_loop}
+use Rattle.answer.proofs.Questions.{all_yes, some_no}
+use Rattle.lent.proofs.Refusals.{handed_on}
 use Rattle.kind_uncut_loop.proofs.looped.Goals as goal
 
 next_in : {a : Arrays} {t : Totals} → Ready a t → a.next ≤ ids_end
 next_in {a} {t} y = next_in_lem (held_by a) (ready_drawing a t y)
 
-pub bend_no-no-requires : goal.bend_no-no-requires
-bend_no-no-requires c =
+pub bend_asked-requires : goal.bend_asked-requires
+bend_asked-requires c =
     record {
       next_le_ids_end = next_in c.requires.ready;
       small = ready_small _ _ c.requires.ready;
       cells_bound = lit≤ tt;
     }
 
-pub returns-then-no-ne0 : goal.returns-then-no-ne0
-returns-then-no-ne0 c =
+pub returns-in_err-bend_asked-clause-obeyed : goal.returns-in_err-bend_asked-clause-obeyed
+returns-in_err-bend_asked-clause-obeyed c =
     let s = c.args in
     let y = c.requires.ready in
-    ready_no _ _ y (uncut s.v) c.bend_no-no.result _ c.line_of.ensures
-    (refuses _ _ y s.v s.e c.requires.v_value c.bend_no-no.result c.bend_no-no.ensures c.if-no-ne0.true)
+    ready_no _ _ y (uncut s.v) _ _ (handed_on _ c.in_err-bend_asked.was c.from_residual.ensures)
+    (refuses _ _ y s.v s.e c.requires.v_value _ c.bend_asked.ensures (some_no c.in_err-bend_asked.was))
 
 pub find-vertex-requires : goal.find-vertex-requires
 find-vertex-requires c = let whole = ready_finds _ _ c.requires.ready in record {
@@ -59,8 +62,7 @@ vertex_at-p-requires c =
 pub bend_start-base-requires : goal.bend_start-base-requires
 bend_start-base-requires c =
     let s = c.args in
-    let a = of_lists s.next.now s.count.now s.ids.now s.kinds.now s.starts.now s.ends.now s.bends.now s.counts.now s.px.now s.py.now s.cycles.now
-    s.steps.now s.bx.now s.by.now in
+    let a = arrays s.sheet.now in
     let y = c.requires.ready in
     let whole = base_asks (held_by a) (ready_sizes a s.t y) (ready_drawing a s.t y) (rows_by a) (ready_indexes a s.t y) s.e c.find-row.result
     c.find-row.ensures
@@ -69,15 +71,15 @@ bend_start-base-requires c =
       counts_bound = whole.1;
     }
 
-pub offset_bounds-bends-row : goal.offset_bounds-bends-row
-offset_bounds-bends-row c =
+pub offset_bounds-sheet-row : goal.offset_bounds-sheet-row
+offset_bounds-sheet-row c =
     let s = c.args in
     let y = c.requires.ready in
     let h = live_row _ _ y s.e _ c.find-row.ensures (told _ _ y s.v s.e c.requires.v_value).edge_live in
     omega (arith, h)
 
-pub bounds-bends-row : goal.bounds-bends-row
-bounds-bends-row c =
+pub bounds-sheet-row : goal.bounds-sheet-row
+bounds-sheet-row c =
     let s = c.args in
     let y = c.requires.ready in
     live_row _ _ y s.e _ c.find-row.ensures (told _ _ y s.v s.e c.requires.v_value).edge_live
@@ -86,7 +88,7 @@ pub one_for-w-requires : goal.one_for-w-requires
 one_for-w-requires c =
     let s = c.args in
     let y = c.requires.ready in
-    let g = goes_by _ _ y s.v s.e c.requires.v_value c.bend_no-no.result c.bend_no-no.ensures c.if-no-ne0.false
+    let g = goes_by _ _ y s.v s.e c.requires.v_value _ c.bend_asked.ensures (all_yes c.in_ok-bend_asked.was)
     _ _ c.find-vertex.ensures c.find-row.ensures _ c.vertex_at-p.ensures _ c.bend_start-base.ensures _ c.wide-m.ensures in
     record {
       e_bound = g.looped.small;
@@ -96,7 +98,7 @@ one_for-w-requires c =
 pub swap_steps-requires : goal.swap_steps-requires
 swap_steps-requires c =
     let y = c.requires.ready in
-    let whole = one_asks _ c.args.e c.args.next.now false c.one_for-w.result c.one_for-w.ensures c.args.t.cycles c.args.t.steps y.long (ready_fits _ _ y)
+    let whole = one_asks _ c.args.e c.args.sheet.now.next.now false c.one_for-w.result c.one_for-w.ensures c.args.t.cycles c.args.t.steps y.long (ready_fits _ _ y)
     (ready_cycles _ _ y) (ready_steps _ _ y) in record {
       fits = whole.0;
       lengths = whole.1.0;
@@ -108,19 +110,19 @@ swap_steps-requires c =
       fact = whole.1.1.1.1.1.1.1;
     }
 
-pub drop_pair-k-requires : goal.drop_pair-k-requires
-drop_pair-k-requires c =
+pub drop_pair-requires : goal.drop_pair-requires
+drop_pair-requires c =
     let s = c.args in
     let y = c.requires.ready in
-    let g = goes_by _ _ y s.v s.e c.requires.v_value c.bend_no-no.result c.bend_no-no.ensures c.if-no-ne0.false
+    let g = goes_by _ _ y s.v s.e c.requires.v_value _ c.bend_asked.ensures (all_yes c.in_ok-bend_asked.was)
     _ _ c.find-vertex.ensures c.find-row.ensures _ c.vertex_at-p.ensures _ c.bend_start-base.ensures _ c.wide-m.ensures in
-    let sw = c.swap_steps.ensures in
+    let sw = c.swap_steps.ensures.swapped_in in
     record {
       fits = sw.fits;
       lengths = sw.long;
-      by_value = ready_rows _ _ y;
-      bare_row = mid_bare _ _ y s.v s.e c.requires.v_value _ g c.one_for-w.result c.one_for-w.ensures _ _ sw;
-      edge_row = mid_edge _ _ y s.v s.e c.requires.v_value _ g c.one_for-w.result c.one_for-w.ensures _ _ sw;
+      by_value = mid_rows _ _ y s.v s.e c.requires.v_value _ g c.one_for-w.result c.one_for-w.ensures _ c.swap_steps.ensures.kept sw;
+      bare_row = mid_bare _ _ y s.v s.e c.requires.v_value _ g c.one_for-w.result c.one_for-w.ensures _ c.swap_steps.ensures.kept sw;
+      edge_row = mid_edge _ _ y s.v s.e c.requires.v_value _ g c.one_for-w.result c.one_for-w.ensures _ c.swap_steps.ensures.kept sw;
       t_lt_bends_most = g.room;
     }
 
@@ -128,7 +130,7 @@ pub overflow_add-m : goal.overflow_add-m
 overflow_add-m c =
     let s = c.args in
     let y = c.requires.ready in
-    let g = goes_by _ _ y s.v s.e c.requires.v_value c.bend_no-no.result c.bend_no-no.ensures c.if-no-ne0.false
+    let g = goes_by _ _ y s.v s.e c.requires.v_value _ c.bend_asked.ensures (all_yes c.in_ok-bend_asked.was)
     _ _ c.find-vertex.ensures c.find-row.ensures _ c.vertex_at-p.ensures _ c.bend_start-base.ensures _ c.wide-m.ensures in
     let h = bends_in_lem _ _ y s.v s.e c.requires.v_value _ g in
     omega (arith, h.0, h.1)
@@ -137,7 +139,7 @@ pub overflow_cast-m : goal.overflow_cast-m
 overflow_cast-m c =
     let s = c.args in
     let y = c.requires.ready in
-    let g = goes_by _ _ y s.v s.e c.requires.v_value c.bend_no-no.result c.bend_no-no.ensures c.if-no-ne0.false
+    let g = goes_by _ _ y s.v s.e c.requires.v_value _ c.bend_asked.ensures (all_yes c.in_ok-bend_asked.was)
     _ _ c.find-vertex.ensures c.find-row.ensures _ c.vertex_at-p.ensures _ c.bend_start-base.ensures _ c.wide-m.ensures in
     let h = bends_in_lem _ _ y s.v s.e c.requires.v_value _ g in
     omega (arith, h.0, h.1)
@@ -146,30 +148,29 @@ pub put_row-requires : goal.put_row-requires
 put_row-requires c =
     let s = c.args in
     let y = c.requires.ready in
-    let g = goes_by _ _ y s.v s.e c.requires.v_value c.bend_no-no.result c.bend_no-no.ensures c.if-no-ne0.false
+    let g = goes_by _ _ y s.v s.e c.requires.v_value _ c.bend_asked.ensures (all_yes c.in_ok-bend_asked.was)
     _ _ c.find-vertex.ensures c.find-row.ensures _ c.vertex_at-p.ensures _ c.bend_start-base.ensures _ c.wide-m.ensures in
-    row_in _ _ y s.v s.e c.requires.v_value _ g c.one_for-w.result c.one_for-w.ensures _ _
-    c.swap_steps.ensures _ refl c.drop_pair-k.ensures
+    row_in _ _ y s.v s.e c.requires.v_value _ g c.one_for-w.result c.one_for-w.ensures _ c.swap_steps.ensures.kept
+    c.swap_steps.ensures.swapped_in _ (ap (λ (b : Arrays). b.next) c.drop_pair.ensures.kept) c.drop_pair.ensures.pair_gone
 
-pub overflow_add-count : goal.overflow_add-count
-overflow_add-count c = omega (arith, c.drop_pair-k.ensures.keeps.few, (ready_fits _ _ c.requires.ready).cells)
+pub overflow_add-sheet : goal.overflow_add-sheet
+overflow_add-sheet c = omega (arith, c.drop_pair.ensures.pair_gone.keeps.few, ap (λ (b : Arrays). b.count) c.swap_steps.ensures.kept, (ready_fits _ _ c.requires.ready).cells)
 
-pub overflow_add-next : goal.overflow_add-next
-overflow_add-next c = omega (arith, next_in c.requires.ready)
+pub overflow_add-sheet-2 : goal.overflow_add-sheet-2
+overflow_add-sheet-2 c = omega (arith, next_in c.requires.ready)
 
 pub overflow_sub-removed : goal.overflow_sub-removed
-overflow_sub-removed c = omega (arith, c.drop_pair-k.ensures.keeps.few)
+overflow_sub-removed c = omega (arith, c.drop_pair.ensures.pair_gone.keeps.few, ap (λ (b : Arrays). b.count) c.swap_steps.ensures.kept)
 
 pub overflow_cast-removed : goal.overflow_cast-removed
 overflow_cast-removed c = omega (arith, (ready_fits _ _ c.requires.ready).cells)
 
-pub returns : goal.returns
-returns c =
+pub returns-clause-obeyed : goal.returns-clause-obeyed
+returns-clause-obeyed c =
     let s = c.args in
     let y = c.requires.ready in
-    let g = goes_by _ _ y s.v s.e c.requires.v_value c.bend_no-no.result c.bend_no-no.ensures c.if-no-ne0.false
+    let g = goes_by _ _ y s.v s.e c.requires.v_value _ c.bend_asked.ensures (all_yes c.in_ok-bend_asked.was)
     _ _ c.find-vertex.ensures c.find-row.ensures _ c.vertex_at-p.ensures _ c.bend_start-base.ensures _ c.wide-m.ensures in
-    let q = c.put_row.ensures in
-    obeyed_loop _ _ y s.v s.e c.requires.v_value _ g c.one_for-w.result c.one_for-w.ensures _ _
-    c.swap_steps.ensures _ refl c.drop_pair-k.ensures _
-    refl refl q.ids_after q.kinds_after q.starts_after q.ends_after q.bends_after q.counts_after refl refl refl refl refl refl _ refl
+    obeyed_loop _ _ y s.v s.e c.requires.v_value _ g c.one_for-w.result c.one_for-w.ensures _ c.swap_steps.ensures.kept
+    c.swap_steps.ensures.swapped_in _ (ap (λ (b : Arrays). b.next) c.drop_pair.ensures.kept) c.drop_pair.ensures.pair_gone _
+    c.put_row.ensures.put _ refl

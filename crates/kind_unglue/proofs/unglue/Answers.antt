@@ -1,13 +1,13 @@
 -- `unglue` meets its contract: question 4, then a vertex, or of an edge question 6, then 7 and 8, then the copies. Assumes nothing.
-use Prim.Native.Nat.{ℕ, ◌-◌, ◌*◌, ◌≤◌}
+use Prim.Native.Nat.{ℕ, ◌+◌, ◌-◌, ◌*◌, ◌≤◌}
 use native.Mathlib.Omega.{arith}
-use mathlib.Core.Path.{◌≡◌, refl}
+use mathlib.Core.Path.{◌≡◌, refl, sym, ap, ◌∙◌}
 use mathlib.Core.Bool.{cond}
 use lib.Dec.{eqb, lit≤}
 use lib.ListN.{take, get_or}
 use Rattle.complex.specs.Lists.{total}
 use Rattle.store.specs.Index.{row_of}
-use Rattle.store.specs.View.{cycles_from}
+use Rattle.store.specs.View.{cycles_from, bend_total}
 use Rattle.sound.specs.Looks.{index_value}
 use Rattle.answer.specs.Sizes.{sized, nothing, more_less, changed_by}
 use Rattle.answer.specs.declared.Totals.{Totals}
@@ -17,11 +17,14 @@ use Rattle.ask_unglue.proofs.Copies.{count_asks, sizes_small}
 use Rattle.rows_uses.specs.declared.Use.{Use}
 use Rattle.rows_uses.specs.declared.Use.TheVariants.{Step, Ring}
 use Rattle.rows_uses.specs.Uses.{uses_in}
-use Rattle.lent.specs.Arrays.{Arrays, held_by, rows_by, of_lists}
+use Rattle.lent.specs.Arrays.{Arrays, held_by, rows_by, normal}
+use Rattle.lent.specs.Sheets.{arrays}
 use Rattle.lent.specs.Replies.{Ready}
 use Rattle.lent.proofs.Sums.{ready_rows, ready_drawing, ready_sizes, ready_indexes, ready_looks, ready_cycles, ready_bends, ready_fits}
 use Rattle.lent.proofs.Finds.{ready_finds}
 use Rattle.kind_unglue.proofs.Unglued.{Counted, Asked, vertex_by, neither, has_uses_lem, few_parts, few, row_in, bends_small, late, room, obeyed_unglued}
+use Rattle.answer.proofs.Questions.{all_yes, some_no}
+use Rattle.lent.proofs.Refusals.{handed_on}
 use Rattle.kind_unglue.proofs.unglue.Goals as goal
 
 -- what is known of the edge's uses
@@ -51,27 +54,26 @@ unglue_vertex-requires c =
       vertex = vertex_by _ _ c.requires c.args.i c.value_at-k.result c.value_at-k.ensures c.if-k-eq0.true;
     }
 
-pub returns-then-k-eq0 : goal.returns-then-k-eq0
-returns-then-k-eq0 c = c.unglue_vertex.ensures
+pub returns-then-k-eq0-clause-obeyed : goal.returns-then-k-eq0-clause-obeyed
+returns-then-k-eq0-clause-obeyed c = c.unglue_vertex.ensures.obeyed
 
-pub returns-then-k-gt2 : goal.returns-then-k-gt2
-returns-then-k-gt2 c = neither _ _ c.requires c.args.i c.value_at-k.result c.value_at-k.ensures c.if-k-gt2.true _ c.line_of.ensures
+pub returns-then-k-gt2-clause-obeyed : goal.returns-then-k-gt2-clause-obeyed
+returns-then-k-gt2-clause-obeyed c = neither _ _ c.requires c.args.i c.value_at-k.result c.value_at-k.ensures c.if-k-gt2.true _ refl
 
 pub count_uses-parts-requires : goal.count_uses-parts-requires
 count_uses-parts-requires c =
     let s = c.args in
-    let a = of_lists s.next.now s.count.now s.ids.now s.kinds.now s.starts.now s.ends.now s.bends.now s.counts.now s.px.now s.py.now s.cycles.now
-    s.steps.now s.bx.now s.by.now in
+    let a = arrays s.sheet.now in
     let r = c.requires in
     let whole = count_asks (held_by a) (ready_sizes a s.t r) (ready_drawing a s.t r) (rows_by a) (ready_indexes a s.t r) s.t r.sums in record {
       n_in_bounds = whole.0;
       cycles_in_bounds = whole.1;
     }
 
-pub returns-then-parts-lt2 : goal.returns-then-parts-lt2
-returns-then-parts-lt2 c =
+pub returns-then-parts-lt2-clause-obeyed : goal.returns-then-parts-lt2-clause-obeyed
+returns-then-parts-lt2-clause-obeyed c =
     let q = counted c.requires c.args.i _ c.value_at-k.ensures c.if-k-eq0.false c.if-k-gt2.false _ c.uses_of-u.ensures _ c.count_uses-parts.ensures in
-    few q c.if-parts-lt2.true _ c.line_of-then-parts-lt2.ensures
+    few q c.if-parts-lt2.true _ refl
 
 pub find-row-requires : goal.find-row-requires
 find-row-requires c = let whole = ready_finds _ _ c.requires in record {
@@ -80,21 +82,20 @@ find-row-requires c = let whole = ready_finds _ _ c.requires in record {
   rising = whole.1.1;
 }
 
-pub offset_bounds-bends-row : goal.offset_bounds-bends-row
-offset_bounds-bends-row c =
+pub offset_bounds-sheet-row : goal.offset_bounds-sheet-row
+offset_bounds-sheet-row c =
     let q = counted c.requires c.args.i _ c.value_at-k.ensures c.if-k-eq0.false c.if-k-gt2.false _ c.uses_of-u.ensures _ c.count_uses-parts.ensures in
     omega (arith, row_in q c.if-parts-lt2.false c.find-row.result c.find-row.ensures, (ready_fits _ _ c.requires).cells)
 
-pub bounds-bends-row : goal.bounds-bends-row
-bounds-bends-row c =
+pub bounds-sheet-row : goal.bounds-sheet-row
+bounds-sheet-row c =
     let q = counted c.requires c.args.i _ c.value_at-k.ensures c.if-k-eq0.false c.if-k-gt2.false _ c.uses_of-u.ensures _ c.count_uses-parts.ensures in
     omega (arith, row_in q c.if-parts-lt2.false c.find-row.result c.find-row.ensures, (ready_fits _ _ c.requires).cells)
 
-pub late_copies-no-requires : goal.late_copies-no-requires
-late_copies-no-requires c =
+pub copies_asked-requires : goal.copies_asked-requires
+copies_asked-requires c =
     let s = c.args in
-    let a = of_lists s.next.now s.count.now s.ids.now s.kinds.now s.starts.now s.ends.now s.bends.now s.counts.now s.px.now s.py.now s.cycles.now
-    s.steps.now s.bx.now s.by.now in
+    let a = arrays s.sheet.now in
     let r = c.requires in
     let q = counted c.requires c.args.i _ c.value_at-k.ensures c.if-k-eq0.false c.if-k-gt2.false _ c.uses_of-u.ensures _ c.count_uses-parts.ensures in
     let w = ready_drawing a s.t r in
@@ -105,17 +106,16 @@ late_copies-no-requires c =
       n_bound = omega (arith, few_parts q);
     }
 
-pub returns-then-no-ne0 : goal.returns-then-no-ne0
-returns-then-no-ne0 c =
+pub returns-in_err-copies_asked-clause-obeyed : goal.returns-in_err-copies_asked-clause-obeyed
+returns-in_err-copies_asked-clause-obeyed c =
     let q = counted c.requires c.args.i _ c.value_at-k.ensures c.if-k-eq0.false c.if-k-gt2.false _ c.uses_of-u.ensures _ c.count_uses-parts.ensures in
-    let z = asked q c.if-parts-lt2.false _ c.find-row.ensures _ c.wide-b.ensures _ c.late_copies-no.ensures in
-    late z c.if-no-ne0.true _ c.line_of-then-no-ne0.ensures
+    let z = asked q c.if-parts-lt2.false _ c.find-row.ensures _ c.wide-b.ensures _ c.copies_asked.ensures in
+    late z (some_no c.in_err-copies_asked.was) _ (handed_on _ c.in_err-copies_asked.was c.from_residual.ensures)
 
 pub copy_uses-requires : goal.copy_uses-requires
 copy_uses-requires c =
     let s = c.args in
-    let a = of_lists s.next.now s.count.now s.ids.now s.kinds.now s.starts.now s.ends.now s.bends.now s.counts.now s.px.now s.py.now s.cycles.now
-    s.steps.now s.bx.now s.by.now in
+    let a = arrays s.sheet.now in
     let r = c.requires in
     let w = ready_drawing a s.t r in
     record {
@@ -130,12 +130,12 @@ copy_uses-requires c =
 pub put_copies-requires : goal.put_copies-requires
 put_copies-requires c =
     let q = counted c.requires c.args.i _ c.value_at-k.ensures c.if-k-eq0.false c.if-k-gt2.false _ c.uses_of-u.ensures _ c.count_uses-parts.ensures in
-    let z = asked q c.if-parts-lt2.false _ c.find-row.ensures _ c.wide-b.ensures _ c.late_copies-no.ensures in
+    let z = asked q c.if-parts-lt2.false _ c.find-row.ensures _ c.wide-b.ensures _ c.copies_asked.ensures in
     record {
-      copies_room = room z c.if-no-ne0.false _ c.copy_uses.ensures;
-      lengths = c.copy_uses.ensures.long;
-      by_value = ready_rows _ _ c.requires;
-      base_value = ready_bends _ _ c.requires;
+      copies_room = room z (all_yes c.in_ok-copies_asked.was) _ c.copy_uses.ensures.uses_copied;
+      lengths = c.copy_uses.ensures.uses_copied.long;
+      by_value = ap normal c.copy_uses.ensures.kept ∙ ready_rows _ _ c.requires;
+      base_value = ready_bends _ _ c.requires ∙ sym (ap (λ (x : Arrays). bend_total (held_by x)) c.copy_uses.ensures.kept);
     }
 
 pub overflow_cast-new : goal.overflow_cast-new
@@ -143,22 +143,13 @@ overflow_cast-new c =
     let q = counted c.requires c.args.i _ c.value_at-k.ensures c.if-k-eq0.false c.if-k-gt2.false _ c.uses_of-u.ensures _ c.count_uses-parts.ensures in
     omega (arith, few_parts q)
 
-pub overflow_add-count : goal.overflow_add-count
-overflow_add-count c =
+pub returns-clause-obeyed : goal.returns-clause-obeyed
+returns-clause-obeyed c =
     let q = counted c.requires c.args.i _ c.value_at-k.ensures c.if-k-eq0.false c.if-k-gt2.false _ c.uses_of-u.ensures _ c.count_uses-parts.ensures in
-    omega (arith, few_parts q, (ready_fits _ _ c.requires).cells)
-
-pub overflow_add-next : goal.overflow_add-next
-overflow_add-next c =
-    let s = c.args in
-    let a = of_lists s.next.now s.count.now s.ids.now s.kinds.now s.starts.now s.ends.now s.bends.now s.counts.now s.px.now s.py.now s.cycles.now
-    s.steps.now s.bx.now s.by.now in
-    let r = c.requires in
-    let q = counted c.requires c.args.i _ c.value_at-k.ensures c.if-k-eq0.false c.if-k-gt2.false _ c.uses_of-u.ensures _ c.count_uses-parts.ensures in
-    omega (arith, few_parts q, next_in_lem (held_by a) (ready_drawing a s.t r))
-
-pub returns : goal.returns
-returns c =
-    let q = counted c.requires c.args.i _ c.value_at-k.ensures c.if-k-eq0.false c.if-k-gt2.false _ c.uses_of-u.ensures _ c.count_uses-parts.ensures in
-    let z = asked q c.if-parts-lt2.false _ c.find-row.ensures _ c.wide-b.ensures _ c.late_copies-no.ensures in
-    obeyed_unglued z c.if-no-ne0.false _ c.copy_uses.ensures _ c.put_copies.ensures refl refl _ refl
+    let z = asked q c.if-parts-lt2.false _ c.find-row.ensures _ c.wide-b.ensures _ c.copies_asked.ensures in
+    let u = c.copy_uses.ensures in
+    let w = c.put_copies.ensures in
+    obeyed_unglued z (all_yes c.in_ok-copies_asked.was) _ u.uses_copied _ w.copies_come
+    (ap (λ (x : Arrays). x.next) w.kept ∙ ap (λ (x : Arrays). x.next + (c.count_uses-parts.result - 1)) u.kept)
+    (ap (λ (x : Arrays). x.count) w.kept ∙ ap (λ (x : Arrays). x.count + (c.count_uses-parts.result - 1)) u.kept)
+    _ refl

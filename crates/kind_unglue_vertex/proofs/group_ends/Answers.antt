@@ -1,15 +1,15 @@
 -- `group_ends` meets its contract: marks, then links and groups. Assumes nothing.
 use native.Mathlib.Omega.{arith}
 use Rattle.ask_unglue.proofs.Found.{fresh_marks}
-use Rattle.lent.specs.Arrays.{rows_by, of_lists}
+use Rattle.lent.specs.Arrays.{rows_by}
+use Rattle.lent.specs.Sheets.{seen}
 use Rattle.lent.proofs.Sums.{ready_fits}
 use Rattle.kind_unglue_vertex.proofs.Linked.{few_steps_lem, linkable}
 use Rattle.kind_unglue_vertex.proofs.group_ends.Goals as goal
 
 pub mark_ends-requires : goal.mark_ends-requires
 mark_ends-requires c =
-    let b = of_lists c.args.next c.args.count c.args.ids.now c.args.kinds.now c.args.starts.now c.args.ends.now c.args.bends.now c.args.counts.now
-    c.args.px.now c.args.py.now c.args.cycles.now c.args.steps.now c.args.bx.now c.args.by.now in
+    let b = seen c.args.view.now in
     let l = c.requires.ready.long in
     let f = (ready_fits b c.args.t c.requires.ready).cells in
     let n = c.requires in record {
@@ -22,8 +22,7 @@ mark_ends-requires c =
 
 pub link_ends-requires : goal.link_ends-requires
 link_ends-requires c =
-    let b = of_lists c.args.next c.args.count c.args.ids.now c.args.kinds.now c.args.starts.now c.args.ends.now c.args.bends.now c.args.counts.now
-    c.args.px.now c.args.py.now c.args.cycles.now c.args.steps.now c.args.bx.now c.args.by.now in
+    let b = seen c.args.view.now in
     let k = c.mark_ends in
     let h = c.if-t-le256.true in
     record {
@@ -34,8 +33,7 @@ link_ends-requires c =
 
 pub link_ends-requires-2 : goal.link_ends-requires-2
 link_ends-requires-2 c =
-    let b = of_lists c.args.next c.args.count c.args.ids.now c.args.kinds.now c.args.starts.now c.args.ends.now c.args.bends.now c.args.counts.now
-    c.args.px.now c.args.py.now c.args.cycles.now c.args.steps.now c.args.bx.now c.args.by.now in
+    let b = seen c.args.view.now in
     let k = c.mark_ends in
     let h = few_steps_lem _ _ c.requires.ready in
     record {

@@ -1,15 +1,15 @@
 -- `link_ends` meets its contract: links, then groups. Assumes nothing.
 use native.Mathlib.Omega.{arith}
 use Rattle.ask_unglue.proofs.Found.{links_ready, groups_found}
-use Rattle.lent.specs.Arrays.{held_by, rows_by, of_lists}
+use Rattle.lent.specs.Arrays.{held_by, rows_by}
+use Rattle.lent.specs.Sheets.{seen}
 use Rattle.lent.proofs.Sums.{ready_cycles, ready_drawing, ready_sizes, ready_indexes}
 use Rattle.kind_unglue_vertex.proofs.Linked.{linked_rows, linked_cycles, linked_steps, few_steps_lem, few_places}
 use Rattle.kind_unglue_vertex.proofs.link_ends.Goals as goal
 
 pub find_links-k-requires : goal.find_links-k-requires
 find_links-k-requires c =
-    let b = of_lists c.args.next c.args.count c.args.ids.now c.args.kinds.now c.args.starts.now c.args.ends.now c.args.bends.now c.args.counts.now
-    c.args.px.now c.args.py.now c.args.cycles.now c.args.steps.now c.args.bx.now c.args.by.now in
+    let b = seen c.args.view.now in
     let r = c.requires.ready in
     let t = c.args.t in
     let p = c.requires in
@@ -22,13 +22,12 @@ find_links-k-requires c =
       cycles_in_bounds_3 = omega (arith, e, p.linkable.rights);
     }
 
-pub overflow_mul-count : goal.overflow_mul-count
-overflow_mul-count c = record { fits = omega (arith, few_places _ _ c.requires.ready) }
+pub overflow_mul-view : goal.overflow_mul-view
+overflow_mul-view c = record { fits = omega (arith, few_places _ _ c.requires.ready) }
 
 pub find_groups-requires : goal.find_groups-requires
 find_groups-requires c =
-    let b = of_lists c.args.next c.args.count c.args.ids.now c.args.kinds.now c.args.starts.now c.args.ends.now c.args.bends.now c.args.counts.now
-    c.args.px.now c.args.py.now c.args.cycles.now c.args.steps.now c.args.bx.now c.args.by.now in
+    let b = seen c.args.view.now in
     let r = c.requires.ready in
     let t = c.args.t in
     let p = c.requires in
@@ -42,8 +41,7 @@ find_groups-requires c =
 
 pub returns : goal.returns
 returns c =
-    let b = of_lists c.args.next c.args.count c.args.ids.now c.args.kinds.now c.args.starts.now c.args.ends.now c.args.bends.now c.args.counts.now
-    c.args.px.now c.args.py.now c.args.cycles.now c.args.steps.now c.args.bx.now c.args.by.now in
+    let b = seen c.args.view.now in
     let r = c.requires.ready in
     let t = c.args.t in
     let p = c.requires in

@@ -13,6 +13,3 @@ use Rattle.lent_cycles.proofs.cycles_good.Given as goal
 
 abbrev pub invariant-loop-i : goal.invariant-loop-i
 invariant-loop-i l = (l.i ≤ l.m) × Going (rows_of l.n l.ids l.kinds l.starts l.ends) l.cycles l.steps l.k l.m l.at l.i
-
-abbrev pub decreases-loop-i : goal.decreases-loop-i
-decreases-loop-i l = l.m - l.i

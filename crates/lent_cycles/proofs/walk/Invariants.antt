@@ -11,6 +11,3 @@ use Rattle.lent_cycles.proofs.walk.Given as goal
 
 abbrev pub invariant-loop-i : goal.invariant-loop-i
 invariant-loop-i l = (l.i ≤ l.m) × Leading (rows_of l.n l.ids l.kinds l.starts l.ends) l.steps l.from l.m l.u l.w l.at l.i
-
-abbrev pub decreases-loop-i : goal.decreases-loop-i
-decreases-loop-i l = l.m - l.i

@@ -16,39 +16,39 @@ use Rattle.lent_row.proofs.row_right.Goals as goal
 abbrev held : goal.After-struct_known-4-1 → Arrays
 held s =
     let a = s.args in
-    bare a.next a.count a.ids.now a.kinds.now a.starts.now a.ends.now a.bends.now a.counts.now a.px.now a.py.now a.cycles.now a.steps.now
+    bare a.view.now.next a.view.now.count a.view.now.ids.now a.view.now.kinds.now a.view.now.starts.now a.view.now.ends.now a.view.now.bends.now a.view.now.counts.now a.view.now.px.now a.view.now.py.now a.view.now.cycles.now a.view.now.steps.now
 
 abbrev held_2 : goal.In_default → Arrays
 held_2 s =
     let a = s.args in
-    bare a.next a.count a.ids.now a.kinds.now a.starts.now a.ends.now a.bends.now a.counts.now a.px.now a.py.now a.cycles.now a.steps.now
+    bare a.view.now.next a.view.now.count a.view.now.ids.now a.view.now.kinds.now a.view.now.starts.now a.view.now.ends.now a.view.now.bends.now a.view.now.counts.now a.view.now.px.now a.view.now.py.now a.view.now.cycles.now a.view.now.steps.now
 
 abbrev held_3 : goal.Then-t-c → Arrays
 held_3 s =
     let a = s.args in
-    bare a.next a.count a.ids.now a.kinds.now a.starts.now a.ends.now a.bends.now a.counts.now a.px.now a.py.now a.cycles.now a.steps.now
+    bare a.view.now.next a.view.now.count a.view.now.ids.now a.view.now.kinds.now a.view.now.starts.now a.view.now.ends.now a.view.now.bends.now a.view.now.counts.now a.view.now.px.now a.view.now.py.now a.view.now.cycles.now a.view.now.steps.now
 
 abbrev held_4 : goal.After-struct_known-then-c-eq0-2-1 → Arrays
 held_4 s =
     let a = s.args in
-    bare a.next a.count a.ids.now a.kinds.now a.starts.now a.ends.now a.bends.now a.counts.now a.px.now a.py.now a.cycles.now a.steps.now
+    bare a.view.now.next a.view.now.count a.view.now.ids.now a.view.now.kinds.now a.view.now.starts.now a.view.now.ends.now a.view.now.bends.now a.view.now.counts.now a.view.now.px.now a.view.now.py.now a.view.now.cycles.now a.view.now.steps.now
 
 abbrev held_5 : goal.Then-t-b → Arrays
 held_5 s =
     let a = s.args in
-    bare a.next a.count a.ids.now a.kinds.now a.starts.now a.ends.now a.bends.now a.counts.now a.px.now a.py.now a.cycles.now a.steps.now
+    bare a.view.now.next a.view.now.count a.view.now.ids.now a.view.now.kinds.now a.view.now.starts.now a.view.now.ends.now a.view.now.bends.now a.view.now.counts.now a.view.now.px.now a.view.now.py.now a.view.now.cycles.now a.view.now.steps.now
 
 abbrev held_6 : goal.Then-not-figure_right → Arrays
 held_6 s =
     let a = s.args in
-    bare a.next a.count a.ids.now a.kinds.now a.starts.now a.ends.now a.bends.now a.counts.now a.px.now a.py.now a.cycles.now a.steps.now
+    bare a.view.now.next a.view.now.count a.view.now.ids.now a.view.now.kinds.now a.view.now.starts.now a.view.now.ends.now a.view.now.bends.now a.view.now.counts.now a.view.now.px.now a.view.now.py.now a.view.now.cycles.now a.view.now.steps.now
 
 abbrev held_7 : goal.Then-not-row_normal → Arrays
 held_7 s =
     let a = s.args in
-    bare a.next a.count a.ids.now a.kinds.now a.starts.now a.ends.now a.bends.now a.counts.now a.px.now a.py.now a.cycles.now a.steps.now
+    bare a.view.now.next a.view.now.count a.view.now.ids.now a.view.now.kinds.now a.view.now.starts.now a.view.now.ends.now a.view.now.bends.now a.view.now.counts.now a.view.now.px.now a.view.now.py.now a.view.now.cycles.now a.view.now.steps.now
 
-below : (s : goal.In-Upto) → s.args.i < 256
+below : (s : goal.In-Some) → s.args.i < 256
 below s = row_in s.requires.upto s.requires.i_lt_count
 
 below_2 : (s : goal.Then-c-eq0) → s.args.i < 256
@@ -97,57 +97,57 @@ left2_6 c = left1_6 c ∙ and_true _ (sym c.row_normal.ensures ∙ c.if-not-row_
 -- the figure is asked of the place in the row
 figure_is : (c : goal.After-struct_known-4-1) →
     let s = c in
-    c.figure_right.result ≡ figure_right (rows_in (held s)) (take s.args.count s.args.bends.now) s.args.i
-    (position_in s.args.px.now s.args.py.now s.args.i)
+    c.figure_right.result ≡ figure_right (rows_in (held s)) (take s.args.view.now.count s.args.view.now.bends.now) s.args.i
+    (position_in s.args.view.now.px.now s.args.view.now.py.now s.args.i)
 figure_is c =
     let s = c in
-    c.figure_right.ensures s.args.bends.now refl
-    ∙ ap (figure_right (rows_in (held s)) (take s.args.count s.args.bends.now) s.args.i) c.vertex_at-p.ensures
+    c.figure_right.ensures s.args.view.now.bends.now refl
+    ∙ ap (figure_right (rows_in (held s)) (take s.args.view.now.count s.args.view.now.bends.now) s.args.i) c.vertex_at-p.ensures
 
 figure_is_2 : (c : goal.In_default) →
     let s = c in
-    c.figure_right.result ≡ figure_right (rows_in (held_2 s)) (take s.args.count s.args.bends.now) s.args.i
-    (position_in s.args.px.now s.args.py.now s.args.i)
+    c.figure_right.result ≡ figure_right (rows_in (held_2 s)) (take s.args.view.now.count s.args.view.now.bends.now) s.args.i
+    (position_in s.args.view.now.px.now s.args.view.now.py.now s.args.i)
 figure_is_2 c =
     let s = c in
-    c.figure_right.ensures s.args.bends.now refl
-    ∙ ap (figure_right (rows_in (held_2 s)) (take s.args.count s.args.bends.now) s.args.i) c.vertex_at-p.ensures
+    c.figure_right.ensures s.args.view.now.bends.now refl
+    ∙ ap (figure_right (rows_in (held_2 s)) (take s.args.view.now.count s.args.view.now.bends.now) s.args.i) c.vertex_at-p.ensures
 
 figure_is_3 : (c : goal.Then-t-c) →
     let s = c in
-    c.figure_right.result ≡ figure_right (rows_in (held_3 s)) (take s.args.count s.args.bends.now) s.args.i
-    (position_in s.args.px.now s.args.py.now s.args.i)
+    c.figure_right.result ≡ figure_right (rows_in (held_3 s)) (take s.args.view.now.count s.args.view.now.bends.now) s.args.i
+    (position_in s.args.view.now.px.now s.args.view.now.py.now s.args.i)
 figure_is_3 c =
     let s = c in
-    c.figure_right.ensures s.args.bends.now refl
-    ∙ ap (figure_right (rows_in (held_3 s)) (take s.args.count s.args.bends.now) s.args.i) c.vertex_at-p.ensures
+    c.figure_right.ensures s.args.view.now.bends.now refl
+    ∙ ap (figure_right (rows_in (held_3 s)) (take s.args.view.now.count s.args.view.now.bends.now) s.args.i) c.vertex_at-p.ensures
 
 figure_is_4 : (c : goal.After-struct_known-then-c-eq0-2-1) →
     let s = c in
-    c.figure_right.result ≡ figure_right (rows_in (held_4 s)) (take s.args.count s.args.bends.now) s.args.i
-    (position_in s.args.px.now s.args.py.now s.args.i)
+    c.figure_right.result ≡ figure_right (rows_in (held_4 s)) (take s.args.view.now.count s.args.view.now.bends.now) s.args.i
+    (position_in s.args.view.now.px.now s.args.view.now.py.now s.args.i)
 figure_is_4 c =
     let s = c in
-    c.figure_right.ensures s.args.bends.now refl
-    ∙ ap (figure_right (rows_in (held_4 s)) (take s.args.count s.args.bends.now) s.args.i) c.vertex_at-p.ensures
+    c.figure_right.ensures s.args.view.now.bends.now refl
+    ∙ ap (figure_right (rows_in (held_4 s)) (take s.args.view.now.count s.args.view.now.bends.now) s.args.i) c.vertex_at-p.ensures
 
 figure_is_5 : (c : goal.Then-t-b) →
     let s = c in
-    c.figure_right.result ≡ figure_right (rows_in (held_5 s)) (take s.args.count s.args.bends.now) s.args.i
-    (position_in s.args.px.now s.args.py.now s.args.i)
+    c.figure_right.result ≡ figure_right (rows_in (held_5 s)) (take s.args.view.now.count s.args.view.now.bends.now) s.args.i
+    (position_in s.args.view.now.px.now s.args.view.now.py.now s.args.i)
 figure_is_5 c =
     let s = c in
-    c.figure_right.ensures s.args.bends.now refl
-    ∙ ap (figure_right (rows_in (held_5 s)) (take s.args.count s.args.bends.now) s.args.i) c.vertex_at-p.ensures
+    c.figure_right.ensures s.args.view.now.bends.now refl
+    ∙ ap (figure_right (rows_in (held_5 s)) (take s.args.view.now.count s.args.view.now.bends.now) s.args.i) c.vertex_at-p.ensures
 
 figure_is_6 : (c : goal.Then-not-figure_right) →
     let s = c in
-    c.figure_right.result ≡ figure_right (rows_in (held_6 s)) (take s.args.count s.args.bends.now) s.args.i
-    (position_in s.args.px.now s.args.py.now s.args.i)
+    c.figure_right.result ≡ figure_right (rows_in (held_6 s)) (take s.args.view.now.count s.args.view.now.bends.now) s.args.i
+    (position_in s.args.view.now.px.now s.args.view.now.py.now s.args.i)
 figure_is_6 c =
     let s = c in
-    c.figure_right.ensures s.args.bends.now refl
-    ∙ ap (figure_right (rows_in (held_6 s)) (take s.args.count s.args.bends.now) s.args.i) c.vertex_at-p.ensures
+    c.figure_right.ensures s.args.view.now.bends.now refl
+    ∙ ap (figure_right (rows_in (held_6 s)) (take s.args.view.now.count s.args.view.now.bends.now) s.args.i) c.vertex_at-p.ensures
 
 left3 : (c : goal.After-struct_known-4-1) → row_right (held c) c.args.i ≡ after_figure (held c) c.args.i
 left3 c = left2 c ∙ and_true _ (sym (figure_is c) ∙ c.if-not-figure_right.false)
@@ -285,4 +285,4 @@ returns c =
     let q = w in
     let s = q in
     row_done s.requires.upto s.requires.i_lt_count _ q.wide-c.ensures (left6 q) _ q.wide-b.ensures _
-    w.cycles_good.ensures _ k.in-Upto.is
+    w.cycles_good.ensures _ k.in-Some.is

@@ -8,6 +8,3 @@ use Rattle.lent_sound.proofs.bends_right.Given as goal
 
 abbrev pub invariant-loop-i : goal.invariant-loop-i
 invariant-loop-i l = Ranging (bend_right l.bx l.by) l.from l.to l.good l.i
-
-abbrev pub decreases-loop-i : goal.decreases-loop-i
-decreases-loop-i l = l.to - l.i

@@ -18,7 +18,7 @@ use Rattle.lent_sound.proofs.visit.Goals as goal
 pub returns-then-not-bounds_right : goal.returns-then-not-bounds_right
 returns-then-not-bounds_right c =
     let a = c.args in
-    let all : Arrays = of_lists a.next a.count a.ids.now a.kinds.now a.starts.now a.ends.now a.bends.now a.counts.now a.px.now a.py.now a.cycles.now a.steps.now a.bx.now a.by.now in
+    let all : Arrays = of_lists a.view.now.next a.view.now.count a.view.now.ids.now a.view.now.kinds.now a.view.now.starts.now a.view.now.ends.now a.view.now.bends.now a.view.now.counts.now a.view.now.px.now a.view.now.py.now a.view.now.cycles.now a.view.now.steps.now a.view.now.bx.now a.view.now.by.now in
     let sized : Lengths all = c.known.ensures in
     let w = walk_out a.look all sized (sym c.bounds_right.ensures ∙ c.if-not-bounds_right.true) in
     record {
@@ -28,12 +28,12 @@ returns-then-not-bounds_right c =
     }
 
 pub fill-requires : goal.fill-requires
-fill-requires c = bounds_few c.args.next c.args.count (sym c.bounds_right.ensures ∙ c.if-not-bounds_right.false)
+fill-requires c = bounds_few c.args.view.now.next c.args.view.now.count (sym c.bounds_right.ensures ∙ c.if-not-bounds_right.false)
 
 pub loop-i-init : goal.loop-i-init
 loop-i-init c =
     let a = c.args in
-    let all : Arrays = of_lists a.next a.count a.ids.now a.kinds.now a.starts.now a.ends.now a.bends.now a.counts.now a.px.now a.py.now a.cycles.now a.steps.now a.bx.now a.by.now in
+    let all : Arrays = of_lists a.view.now.next a.view.now.count a.view.now.ids.now a.view.now.kinds.now a.view.now.starts.now a.view.now.ends.now a.view.now.bends.now a.view.now.counts.now a.view.now.px.now a.view.now.py.now a.view.now.cycles.now a.view.now.steps.now a.view.now.bx.now a.view.now.by.now in
     let sized : Lengths all = c.known.ensures in
     let bounded : bounds_right all.next all.count ≡ true = sym c.bounds_right.ensures ∙ c.if-not-bounds_right.false in
     let few : all.count ≤ 256 = bounds_few all.next all.count bounded in
@@ -50,7 +50,7 @@ row_right-requires c =
 pub returns-in_default : goal.returns-in_default
 returns-in_default c =
     let a = c.args in
-    let all : Arrays = of_lists a.next a.count a.ids.now a.kinds.now a.starts.now a.ends.now a.bends.now a.counts.now a.px.now a.py.now a.cycles.now a.steps.now a.bx.now a.by.now in
+    let all : Arrays = of_lists a.view.now.next a.view.now.count a.view.now.ids.now a.view.now.kinds.now a.view.now.starts.now a.view.now.ends.now a.view.now.bends.now a.view.now.counts.now a.view.now.px.now a.view.now.py.now a.view.now.cycles.now a.view.now.steps.now a.view.now.bx.now a.view.now.by.now in
     let sized : Lengths all = c.known.ensures in
     let bounded : bounds_right all.next all.count ≡ true = sym c.bounds_right.ensures ∙ c.if-not-bounds_right.false in
     let few : all.count ≤ 256 = bounds_few all.next all.count bounded in
@@ -65,25 +65,25 @@ returns-in_default c =
 pub bends_asked-requires : goal.bends_asked-requires
 bends_asked-requires c =
     let a = c.args in
-    let all : Arrays = of_lists a.next a.count a.ids.now a.kinds.now a.starts.now a.ends.now a.bends.now a.counts.now a.px.now a.py.now a.cycles.now a.steps.now a.bx.now a.by.now in
+    let all : Arrays = of_lists a.view.now.next a.view.now.count a.view.now.ids.now a.view.now.kinds.now a.view.now.starts.now a.view.now.ends.now a.view.now.bends.now a.view.now.counts.now a.view.now.px.now a.view.now.py.now a.view.now.cycles.now a.view.now.steps.now a.view.now.bx.now a.view.now.by.now in
     let sized : Lengths all = c.known.ensures in
     let bounded : bounds_right all.next all.count ≡ true = sym c.bounds_right.ensures ∙ c.if-not-bounds_right.false in
     let few : all.count ≤ 256 = bounds_few all.next all.count bounded in
-    let summed : Upto (bare_of all) (c.loop-i.i + 1) c.in-Sums.u =
-    rows_turn (bare_of all) (bare_long all sized) few c.loop-i.i (omega arith) _ c.row_right.ensures _ c.in-Sums.is in
+    let summed : Upto (bare_of all) (c.loop-i.i + 1) c.in-Some.u =
+    rows_turn (bare_of all) (bare_long all sized) few c.loop-i.i (omega arith) _ c.row_right.ensures _ c.in-Some.is in
     summed.bends
 
 pub returns-then-not-bends_asked : goal.returns-then-not-bends_asked
 returns-then-not-bends_asked c =
     let a = c.args in
-    let all : Arrays = of_lists a.next a.count a.ids.now a.kinds.now a.starts.now a.ends.now a.bends.now a.counts.now a.px.now a.py.now a.cycles.now a.steps.now a.bx.now a.by.now in
+    let all : Arrays = of_lists a.view.now.next a.view.now.count a.view.now.ids.now a.view.now.kinds.now a.view.now.starts.now a.view.now.ends.now a.view.now.bends.now a.view.now.counts.now a.view.now.px.now a.view.now.py.now a.view.now.cycles.now a.view.now.steps.now a.view.now.bx.now a.view.now.by.now in
     let sized : Lengths all = c.known.ensures in
     let bounded : bounds_right all.next all.count ≡ true = sym c.bounds_right.ensures ∙ c.if-not-bounds_right.false in
     let few : all.count ≤ 256 = bounds_few all.next all.count bounded in
     let right : row_right all c.loop-i.i ≡ true =
-    row_holds (bare_of all) (bare_long all sized) few c.loop-i.i (omega arith) _ c.row_right.ensures _ c.in-Sums.is in
-    let summed : Upto (bare_of all) (c.loop-i.i + 1) c.in-Sums.u =
-    rows_turn (bare_of all) (bare_long all sized) few c.loop-i.i (omega arith) _ c.row_right.ensures _ c.in-Sums.is in
+    row_holds (bare_of all) (bare_long all sized) few c.loop-i.i (omega arith) _ c.row_right.ensures _ c.in-Some.is in
+    let summed : Upto (bare_of all) (c.loop-i.i + 1) c.in-Some.u =
+    rows_turn (bare_of all) (bare_long all sized) few c.loop-i.i (omega arith) _ c.row_right.ensures _ c.in-Some.is in
     let w = walk_bent a.look all sized bounded c.loop-i.i (omega arith) c.loop-i.invariant.1 c.loop-i.invariant.2
     right c.loop-i.t _ c.loop-i.invariant.3 summed _ c.bends_asked.ensures c.if-not-bends_asked.true in
     record {
@@ -95,14 +95,14 @@ returns-then-not-bends_asked c =
 pub loop-i-preserved : goal.loop-i-preserved
 loop-i-preserved c =
     let a = c.args in
-    let all : Arrays = of_lists a.next a.count a.ids.now a.kinds.now a.starts.now a.ends.now a.bends.now a.counts.now a.px.now a.py.now a.cycles.now a.steps.now a.bx.now a.by.now in
+    let all : Arrays = of_lists a.view.now.next a.view.now.count a.view.now.ids.now a.view.now.kinds.now a.view.now.starts.now a.view.now.ends.now a.view.now.bends.now a.view.now.counts.now a.view.now.px.now a.view.now.py.now a.view.now.cycles.now a.view.now.steps.now a.view.now.bx.now a.view.now.by.now in
     let sized : Lengths all = c.known.ensures in
     let bounded : bounds_right all.next all.count ≡ true = sym c.bounds_right.ensures ∙ c.if-not-bounds_right.false in
     let few : all.count ≤ 256 = bounds_few all.next all.count bounded in
     let right : row_right all c.loop-i.i ≡ true =
-    row_holds (bare_of all) (bare_long all sized) few c.loop-i.i (omega arith) _ c.row_right.ensures _ c.in-Sums.is in
-    let summed : Upto (bare_of all) (c.loop-i.i + 1) c.in-Sums.u =
-    rows_turn (bare_of all) (bare_long all sized) few c.loop-i.i (omega arith) _ c.row_right.ensures _ c.in-Sums.is in
+    row_holds (bare_of all) (bare_long all sized) few c.loop-i.i (omega arith) _ c.row_right.ensures _ c.in-Some.is in
+    let summed : Upto (bare_of all) (c.loop-i.i + 1) c.in-Some.u =
+    rows_turn (bare_of all) (bare_long all sized) few c.loop-i.i (omega arith) _ c.row_right.ensures _ c.in-Some.is in
     let w = walk_turn a.look all sized bounded c.loop-i.i (omega arith) c.loop-i.invariant.1 c.loop-i.invariant.2
     right c.loop-i.t _ c.loop-i.invariant.3 summed _ c.bends_asked.ensures c.if-not-bends_asked.false in
     (omega arith, w.0, w.1, summed)
@@ -110,7 +110,7 @@ loop-i-preserved c =
 pub returns : goal.returns
 returns c =
     let a = c.args in
-    let all : Arrays = of_lists a.next a.count a.ids.now a.kinds.now a.starts.now a.ends.now a.bends.now a.counts.now a.px.now a.py.now a.cycles.now a.steps.now a.bx.now a.by.now in
+    let all : Arrays = of_lists a.view.now.next a.view.now.count a.view.now.ids.now a.view.now.kinds.now a.view.now.starts.now a.view.now.ends.now a.view.now.bends.now a.view.now.counts.now a.view.now.px.now a.view.now.py.now a.view.now.cycles.now a.view.now.steps.now a.view.now.bx.now a.view.now.by.now in
     let sized : Lengths all = c.known.ensures in
     let bounded : bounds_right all.next all.count ≡ true = sym c.bounds_right.ensures ∙ c.if-not-bounds_right.false in
     let w = walk_end a.look all sized bounded c.loop-i.i c.loop-i.t (omega arith) c.loop-i.invariant.1 c.loop-i.invariant.2 c.loop-i.invariant.3 in

@@ -17,8 +17,5 @@ use Rattle.lent_sound.proofs.visit.Given as goal
 
 abbrev pub invariant-loop-i : goal.invariant-loop-i
 invariant-loop-i l =
-    let a = of_lists l.next l.count l.ids l.kinds l.starts l.ends l.bends l.counts l.px l.py l.cycles l.steps l.bx l.by in
-    (l.i ≤ l.count) × Counting (right_at l.look a) l.count l.i × Visiting (right_at l.look a) l.count l.i × Upto (bare_of a) l.i l.t
-
-abbrev pub decreases-loop-i : goal.decreases-loop-i
-decreases-loop-i l = l.count - l.i
+    let a = of_lists l.view.next l.view.count l.view.ids.now l.view.kinds.now l.view.starts.now l.view.ends.now l.view.bends.now l.view.counts.now l.view.px.now l.view.py.now l.view.cycles.now l.view.steps.now l.view.bx.now l.view.by.now in
+    (l.i ≤ l.view.count) × Counting (right_at l.look a) l.view.count l.i × Visiting (right_at l.look a) l.view.count l.i × Upto (bare_of a) l.i l.t

@@ -15,6 +15,6 @@ pub returns : goal.returns
 returns c =
     let v = c in
     record {
-      result_value = visited_yes _ v.visit.result v.visit.ensures.result_value _ c.in-All.is;
+      result_value = visited_yes _ v.visit.result v.visit.ensures.result_value _ c.in-Ok.is;
       lengths = v.visit.ensures.lengths;
     }

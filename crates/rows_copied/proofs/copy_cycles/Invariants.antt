@@ -17,6 +17,3 @@ use Rattle.rows_copied.proofs.copy_cycles.Given as goal
 abbrev pub invariant-loop-j : goal.invariant-loop-j
 invariant-loop-j l =
     (l.j ≤ l.n) × Passing (uses_in l.u l.i) (copied l.u l.i l.next) l.k0 l.cycles l.initial.steps l.j l.from l.k l.steps
-
-abbrev pub decreases-loop-j : goal.decreases-loop-j
-decreases-loop-j l = l.n - l.j

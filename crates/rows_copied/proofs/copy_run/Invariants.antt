@@ -9,6 +9,3 @@ use Rattle.rows_copied.proofs.copy_run.Given as goal
 abbrev pub invariant-loop-j : goal.invariant-loop-j
 invariant-loop-j l =
     (l.j ≤ l.n) × Running l.each l.i l.next l.k0 l.initial.l l.j l.k l.l
-
-abbrev pub decreases-loop-j : goal.decreases-loop-j
-decreases-loop-j l = l.n - l.j

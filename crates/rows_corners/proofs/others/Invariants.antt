@@ -12,6 +12,3 @@ use Rattle.rows_corners.proofs.others.Given as goal
 
 abbrev pub invariant-loop-i : goal.invariant-loop-i
 invariant-loop-i l = (l.i ≤ 512) × Mapping not l.flags l.i l.out × (length l.out ≡ 512)
-
-abbrev pub decreases-loop-i : goal.decreases-loop-i
-decreases-loop-i l = 512 - l.i

@@ -10,6 +10,3 @@ use Rattle.rows_ends.proofs.mark_ends.Given as goal
 
 abbrev pub invariant-loop-j : goal.invariant-loop-j
 invariant-loop-j l = (l.j ≤ l.n) × (length l.at ≡ length l.initial.at) × EndMarks l.kinds l.starts l.ends l.v l.j l.at
-
-abbrev pub decreases-loop-j : goal.decreases-loop-j
-decreases-loop-j l = l.n - l.j

@@ -9,6 +9,3 @@ use Rattle.rows_ends.proofs.new_ends.Given as goal
 
 abbrev pub invariant-loop-j : goal.invariant-loop-j
 invariant-loop-j l = (l.j ≤ l.n) × NewEnds l.side l.at l.groups l.v l.next l.j l.initial.ends l.ends
-
-abbrev pub decreases-loop-j : goal.decreases-loop-j
-decreases-loop-j l = l.n - l.j

@@ -17,6 +17,3 @@ use Rattle.rows_euler.proofs.euler_rows.Given as goal
 
 abbrev pub invariant-loop-i : goal.invariant-loop-i
 invariant-loop-i l = (l.i ≤ l.n) × (l.up ≡ total gain_in (take l.i l.kinds)) × (l.down ≡ losses_in (take l.i l.kinds) (take l.i l.counts))
-
-abbrev pub decreases-loop-i : goal.decreases-loop-i
-decreases-loop-i l = l.n - l.i

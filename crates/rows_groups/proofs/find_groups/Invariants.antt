@@ -9,6 +9,3 @@ use Rattle.rows_groups.proofs.find_groups.Given as goal
 
 abbrev pub invariant-loop-p : goal.invariant-loop-p
 invariant-loop-p l = (l.p ≤ l.n) × (length l.groups ≡ length l.initial.groups) × Sorting l.at l.xs l.ys l.m l.p l.g l.groups
-
-abbrev pub decreases-loop-p : goal.decreases-loop-p
-decreases-loop-p l = l.n - l.p

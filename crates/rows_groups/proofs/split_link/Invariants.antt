@@ -12,6 +12,3 @@ use Rattle.rows_groups.proofs.split_link.Given as goal
 
 abbrev pub invariant-loop-i : goal.invariant-loop-i
 invariant-loop-i l = (l.i ≤ l.m) × ((j : ℕ) → j < l.i → splits l.groups l.xs l.ys l.g j ≡ false)
-
-abbrev pub decreases-loop-i : goal.decreases-loop-i
-decreases-loop-i l = l.m - l.i

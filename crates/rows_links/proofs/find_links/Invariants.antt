@@ -14,6 +14,3 @@ use Rattle.rows_links.proofs.find_links.Given as goal
 abbrev pub invariant-loop-j : goal.invariant-loop-j
 invariant-loop-j l =
     (l.j ≤ l.m) × (l.from ≡ width_sum (take l.j l.cycles)) × Linking (take l.n l.ids) l.at (turns_of (cycles_from (take l.j l.cycles) l.steps)) 0 l.initial.xs l.initial.ys l.from l.k l.xs l.ys
-
-abbrev pub decreases-loop-j : goal.decreases-loop-j
-decreases-loop-j l = l.m - l.j

@@ -13,6 +13,3 @@ use Rattle.rows_links.proofs.path_links.Given as goal
 abbrev pub invariant-loop-j : goal.invariant-loop-j
 invariant-loop-j l =
     (l.j ≤ l.c) × Linking (take l.n l.ids) l.at (take l.j (passages (map halfedge_of (take l.c l.l)))) l.used l.initial.xs l.initial.ys (l.used + l.j) l.k l.xs l.ys
-
-abbrev pub decreases-loop-j : goal.decreases-loop-j
-decreases-loop-j l = l.c - l.j

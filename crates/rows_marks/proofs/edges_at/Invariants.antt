@@ -8,6 +8,3 @@ use Rattle.rows_marks.proofs.edges_at.Given as goal
 
 abbrev pub invariant-loop-i : goal.invariant-loop-i
 invariant-loop-i l = (l.i ≤ l.n) × EdgesMarked l.id l.kinds l.starts l.ends l.i l.marks
-
-abbrev pub decreases-loop-i : goal.decreases-loop-i
-decreases-loop-i l = l.n - l.i

@@ -16,6 +16,3 @@ use Rattle.rows_marks.proofs.face_marked.Given as goal
 abbrev pub invariant-loop-j : goal.invariant-loop-j
 invariant-loop-j l =
     (l.j ≤ l.k) × Walking (cycle_marked (take l.n l.ids) (take l.n l.marks) l.v) l.mark (drop l.first l.cycles) l.steps l.from l.j l.marked l.next
-
-abbrev pub decreases-loop-j : goal.decreases-loop-j
-decreases-loop-j l = l.k - l.j

@@ -13,6 +13,3 @@ use Rattle.rows_marks.proofs.mark_faces.Given as goal
 abbrev pub invariant-loop-i : goal.invariant-loop-i
 invariant-loop-i l =
     (l.i ≤ l.n) × Facing (cycle_marked (take l.n l.ids) (take l.n l.marks) l.v) l.n l.counts l.cycles l.steps l.initial.out l.i l.first l.from l.out
-
-abbrev pub decreases-loop-i : goal.decreases-loop-i
-decreases-loop-i l = l.n - l.i

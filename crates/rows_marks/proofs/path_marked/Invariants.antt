@@ -11,6 +11,3 @@ use Rattle.rows_marks.proofs.path_marked.Given as goal
 
 abbrev pub invariant-loop-i : goal.invariant-loop-i
 invariant-loop-i l = (l.i ≤ l.m) × Seeking (λ (s : ℕ). step_marked (take l.n l.ids) (take l.n l.marks) (halfedge_of s)) l.steps l.from l.m l.i
-
-abbrev pub decreases-loop-i : goal.decreases-loop-i
-decreases-loop-i l = l.m - l.i

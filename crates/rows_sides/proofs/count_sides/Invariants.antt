@@ -17,6 +17,3 @@ invariant-loop-j l =
     Walked l.cycles l.steps l.n l.j l.from × (l.forward ≡ total (forward_in l.e) (cycles_from (take l.j l.cycles) l.steps))
     × (l.backward ≡ total (backward_in l.e) (cycles_from (take l.j l.cycles) l.steps)) × (l.forward ≤ l.from)
     × (l.backward ≤ l.from)
-
-abbrev pub decreases-loop-j : goal.decreases-loop-j
-decreases-loop-j l = l.n - l.j

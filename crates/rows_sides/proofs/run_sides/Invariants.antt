@@ -15,6 +15,3 @@ abbrev pub invariant-loop-j : goal.invariant-loop-j
 invariant-loop-j l =
     (l.j ≤ l.n) × (l.forward ≡ total (λ (s : ℕ). forward_use l.e (halfedge_of s)) (take l.j l.l))
     × (l.backward ≡ total (λ (s : ℕ). backward_use l.e (halfedge_of s)) (take l.j l.l)) × (l.forward ≤ l.j) × (l.backward ≤ l.j)
-
-abbrev pub decreases-loop-j : goal.decreases-loop-j
-decreases-loop-j l = l.n - l.j

@@ -20,8 +20,8 @@ overflow_add-from c =
     c.next_stretch-s.result c.next_stretch-s.ensures in
     omega (arith, x.within, p.counts_bound)
 
-pub slide_points-requires : goal.slide_points-requires
-slide_points-requires c =
+pub slide-requires : goal.slide-requires
+slide-requires c =
     let a = c.args in
     let p = c.requires in
     let l = c.loop-i in
@@ -29,10 +29,19 @@ slide_points-requires c =
     c.next_stretch-s.result c.next_stretch-s.ensures in
     record {
       to_le_from = omega (arith, x.below);
-      n_in_bounds = (
-        omega (arith, x.within, p.counts_bound, p.dead_len.2, l.invariant.1.packing.size),
-        omega (arith, x.within, p.counts_bound, p.dead_len.3, l.invariant.2.packing.size),
-      );
+      n_in_bounds = omega (arith, x.within, p.counts_bound, p.dead_len.2, l.invariant.1.packing.size);
+    }
+
+pub slide-requires-in-loop-i : goal.slide-requires-in-loop-i
+slide-requires-in-loop-i c =
+    let a = c.args in
+    let p = c.requires in
+    let l = c.loop-i in
+    let x = stretch_turn a.dead.now a.counts.now a.n p.n_le_cells_most p.dead_len.0 p.dead_len.1 a.bx.now _ p.counts_bound p.dead_len.2 l.i l.at l.to l.bx l.invariant.1
+    c.next_stretch-s.result c.next_stretch-s.ensures in
+    record {
+      to_le_from = omega (arith, x.below);
+      n_in_bounds = omega (arith, x.within, p.counts_bound, p.dead_len.3, l.invariant.2.packing.size);
     }
 
 pub overflow_add-at : goal.overflow_add-at
@@ -65,7 +74,7 @@ loop-i-preserved c =
     c.next_stretch-s.result c.next_stretch-s.ensures in
     let y = stretch_turn a.dead.now a.counts.now a.n p.n_le_cells_most p.dead_len.0 p.dead_len.1 a.by.now _ p.counts_bound p.dead_len.3 l.i l.at l.to l.by l.invariant.2
     c.next_stretch-s.result c.next_stretch-s.ensures in
-    (c.next_stretch-s.ensures.living.within, x.again _ c.slide_points.ensures.0, y.again _ c.slide_points.ensures.1)
+    (c.next_stretch-s.ensures.living.within, x.again _ c.slide.ensures, y.again _ c.slide-in-loop-i.ensures)
 
 pub returns : goal.returns
 returns c =

@@ -75,8 +75,8 @@ place_sum-k-requires c =
     v.invariant c.next_stretch-s.result c.next_stretch-s.ensures in
     record { n_in_bounds = omega (arith, w.0); counts_bound = omega (arith, w.1) }
 
-pub slide_numbers-requires : goal.slide_numbers-requires
-slide_numbers-requires c =
+pub slide-requires : goal.slide-requires
+slide-requires c =
     let a = c.args in
     let p = c.requires in
     let v = c.loop-i in
@@ -85,8 +85,8 @@ slide_numbers-requires c =
     c.place_sum.result c.place_sum-k.result c.place_sum.ensures c.place_sum-k.ensures in
     record { to_le_from = omega (arith, t.below); n_in_bounds = omega (arith, t.within, p.cycles_bound, p.dead_len.3, v.invariant.2.packing.size) }
 
-pub slide_numbers-requires-in-loop-i : goal.slide_numbers-requires-in-loop-i
-slide_numbers-requires-in-loop-i c =
+pub slide-requires-in-loop-i : goal.slide-requires-in-loop-i
+slide-requires-in-loop-i c =
     let a = c.args in
     let p = c.requires in
     let v = c.loop-i in
@@ -147,7 +147,7 @@ loop-i-preserved c =
     let u = beside a.dead.now a.counts.now a.n a.cycles.now a.steps.now p.n_le_cells_most p.counts_bound p.cycles_bound p.dead_len v.i v.at v.to v.step_at v.step_to v.cycles v.steps
     v.invariant c.next_stretch-s.result c.next_stretch-s.ensures
     c.place_sum.result c.place_sum-k.result c.place_sum.ensures c.place_sum-k.ensures in
-    (c.next_stretch-s.ensures.living.within, t.again _ c.slide_numbers-in-loop-i.ensures, u.again _ c.slide_numbers.ensures)
+    (c.next_stretch-s.ensures.living.within, t.again _ c.slide-in-loop-i.ensures, u.again _ c.slide.ensures)
 
 pub returns : goal.returns
 returns c =

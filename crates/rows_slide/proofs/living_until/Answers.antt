@@ -8,7 +8,7 @@ use Rattle.rows_slide.proofs.Sliding.{seen_turn, seen_stop, seen_all}
 use Rattle.rows_slide.proofs.living_until.Goals as goal
 
 pub loop-k-init : goal.loop-k-init
-loop-k-init c = c.living_eights-k.ensures
+loop-k-init c = c.living_eights-eights.ensures
 
 pub returns-then-dead-k : goal.returns-then-dead-k
 returns-then-dead-k c = seen_stop c.loop-k.invariant c.if-dead-k.true

@@ -13,6 +13,3 @@ use Rattle.rows_spans.proofs.place_sum.Given as goal
 
 abbrev pub invariant-loop-i : goal.invariant-loop-i
 invariant-loop-i l = (l.i ≤ l.n) × (l.sum ≡ total (places_of l.z) (take l.i (drop l.from l.counts)))
-
-abbrev pub decreases-loop-i : goal.decreases-loop-i
-decreases-loop-i l = l.n - l.i

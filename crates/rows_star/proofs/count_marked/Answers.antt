@@ -8,14 +8,14 @@ use native.Mathlib.Omega.{arith}
 use Rattle.complex.specs.Lists.{total}
 use Rattle.store.specs.Places.{bit}
 use Rattle.rows_marks.proofs.Marking.{sum_on}
-use Rattle.rows_star.proofs.Marking.{bit_most}
+use Rattle.rows_star.proofs.Marking.{bit_most, one_is}
 use Rattle.rows_star.proofs.count_marked.Goals as goal
 
 pub overflow_add-sum : goal.overflow_add-sum
 overflow_add-sum c =
     let at = c in
     let m = bit_most (get_or at.args.marks.now at.loop-i.i false) in
-    record { fits = omega (arith, m, c.one_if-sum.ensures, at.loop-i.invariant) }
+    record { fits = omega (arith, m, one_is (get_or at.args.marks.now at.loop-i.i false), at.loop-i.invariant) }
 
 pub loop-i-preserved : goal.loop-i-preserved
 loop-i-preserved c =
@@ -23,9 +23,9 @@ loop-i-preserved c =
     let a = at.args in
     let m = bit_most (get_or a.marks.now at.loop-i.i false) in (
       omega arith,
-      omega (arith, m, c.one_if-sum.ensures, at.loop-i.invariant),
+      omega (arith, m, one_is (get_or a.marks.now at.loop-i.i false), at.loop-i.invariant),
       sum_on bit a.marks.now a.n at.loop-i.i false (omega arith) (omega
-          arith) at.loop-i.sum at.loop-i.invariant.2 _ c.one_if-sum.ensures,
+          arith) at.loop-i.sum at.loop-i.invariant.2 _ (one_is _),
     )
 
 pub returns : goal.returns

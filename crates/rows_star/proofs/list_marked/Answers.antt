@@ -4,10 +4,10 @@ use Prim.Native.Nat.{◌≤◌, ◌-◌}
 use mathlib.Core.Path.{◌≡◌, refl, ◌∙◌}
 use mathlib.Core.Bool.{false}
 use native.Mathlib.Omega.{arith}
-use lib.ListN.{length}
+use lib.ListN.{length, get_or}
 use Rattle.store.specs.Places.{bit}
 use Rattle.rows_marks.proofs.Marking.{sum_within}
-use Rattle.rows_star.proofs.Marking.{Picking, picking_turn}
+use Rattle.rows_star.proofs.Marking.{one_is, Picking, picking_turn}
 use Rattle.rows_star.proofs.list_marked.Goals as goal
 
 pub loop-i-init : goal.loop-i-init
@@ -27,7 +27,7 @@ overflow_add-at c =
     let s = at in
     let a = s.args in
     let w = sum_within bit a.marks.now a.n at.loop-i.i false (omega arith) (omega arith) at.loop-i.at at.loop-i.invariant.2.count _
-    c.one_if-at.ensures in
+    (one_is _) in
     record { fits = omega (arith, w, s.requires.marks_in_bounds, s.well_formed) }
 
 pub loop-i-preserved : goal.loop-i-preserved
@@ -36,7 +36,7 @@ loop-i-preserved c =
     let s = at in
     let a = s.args in
     let i = at.loop-i.i in
-    let e = c.one_if-at.ensures in
+    let e = one_is (get_or a.marks.now i false) in
     let w = sum_within bit a.marks.now a.n i false (omega arith) (omega arith) at.loop-i.at at.loop-i.invariant.2.count _ e in (
       omega arith,
       c.put_if.auto.out ∙ at.loop-i.invariant.1,

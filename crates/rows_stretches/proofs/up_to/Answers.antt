@@ -10,4 +10,4 @@ with_length : (at count from : ℕ) {m n : ℕ} → m ≡ n → ◌≡◌ {A = S
 with_length at count from {m} {n} e = ap (λ (k : ℕ). record { at = at; count = count; from = from; len = k }) e
 
 pub returns : goal.returns
-returns c = let a = c.args in with_length a.p.at a.p.count (a.s + 1) c.steps_between.ensures
+returns c = let a = c.args in with_length a.p.at a.p.count (a.s + 1) c.between.ensures

@@ -15,6 +15,3 @@ use Rattle.rows_uses.proofs.count_uses.Given as goal
 abbrev pub invariant-loop-j : goal.invariant-loop-j
 invariant-loop-j l =
     Walked l.cycles l.steps l.n l.j l.from × (l.sum ≡ total (uses_in l.u l.i) (cycles_from (take l.j l.cycles) l.steps)) × (l.sum ≤ l.from)
-
-abbrev pub decreases-loop-j : goal.decreases-loop-j
-decreases-loop-j l = l.n - l.j

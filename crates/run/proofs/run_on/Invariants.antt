@@ -1,13 +1,15 @@
 -- `run_on` meets its contract: each turn is a command of the script. Assumes nothing.
-use Rattle.std.proofs.Common.{◌-◌, length, arith}
-use Rattle.lent.specs.Arrays.{Arrays, of_lists}
-use Rattle.entry_run.proofs.Turning.{arrays_of}
-use Rattle.run.proofs.Coming.{Come, come_start, come_turn, come_end}
+use Rattle.std.proofs.Common.{◌-◌, length}
+use Rattle.lent.specs.Sheets.{arrays, Same}
+use Rattle.run.proofs.Coming.{Come}
 use Rattle.run.proofs.run_on.Given as goal
 
 abbrev pub invariant-loop-at : goal.invariant-loop-at
 invariant-loop-at l =
-    Come (arrays_of l.initial.next l.initial.count l.initial.ids l.initial.kinds l.initial.starts l.initial.ends l.initial.bends l.initial.counts l.initial.px l.initial.py l.initial.cycles l.initial.steps l.initial.bx l.initial.by) l.script (arrays_of l.next l.count l.ids l.kinds l.starts l.ends l.bends l.counts l.px l.py l.cycles l.steps l.bx l.by) l.at l.commands
+    record {
+      come : Come (arrays l.initial.sheet) l.script (arrays l.sheet) l.at l.commands;
+      same : Same l.initial.sheet l.sheet;
+    }
 
 abbrev pub decreases-loop-at : goal.decreases-loop-at
 decreases-loop-at l = length l.script - l.at

@@ -1,11 +1,12 @@
 -- `read` meets its contract: the drawing of the arrays that a file was read into, empty before. Assumes nothing.
-use borrow.Author.Rules.{rules}
-use mathlib.Core.Path.{refl}
+use mathlib.Core.Path.{ap, ◌∙◌}
+use Rattle.lent.specs.Arrays.{held_by}
 use Rattle.call_asked.proofs.Questions.{begun}
 use Rattle.struct_read.proofs.Opened.{file_read}
 use Rattle.struct_read.proofs.read.Goals as goal
 
 pub returns : goal.returns
 returns c =
-    let w = c in
-    file_read _ _ _ w.read-number.result w.read-number.ensures (begun _ refl refl) _ c.put_together-drawing.ensures
+    let z = c.empty-own.ensures in
+    file_read _ _ _ c.read-number.result c.read-number.ensures.read_in (begun _ z.next z.count) _
+    (c.put_together-drawing.ensures ∙ ap held_by c.view.ensures)

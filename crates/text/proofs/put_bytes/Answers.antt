@@ -1,6 +1,9 @@
 -- `text::put_bytes` meets its contract. Assumes nothing.
 use native.Mathlib.Omega.{arith}
-use mathlib.Core.Path.{refl}
+use Prim.Native.Nat.{ℕ, ◌+◌}
+use mathlib.Core.Path.{◌≡◌, refl, subst}
+use lib.ListN.{length}
+use Rattle.text.specs.Texts.{TextPut}
 use Rattle.text.proofs.Puts.{put_length, upto_more, upto_all}
 use Rattle.text.proofs.put_bytes.Goals as goal
 
@@ -15,12 +18,6 @@ overflow_add-out c = let l = c in omega (arith, l.well_formed.1.0.0)
 
 pub bounds-out-at : goal.bounds-out-at
 bounds-out-at c = let l = c in let e = put_length l.loop-i.invariant.1 in omega arith
-
-pub overflow_add-i : goal.overflow_add-i
-overflow_add-i c = omega arith
-
-pub loop-i-smaller : goal.loop-i-smaller
-loop-i-smaller c = omega arith
 
 pub loop-i-preserved : goal.loop-i-preserved
 loop-i-preserved c =
@@ -38,4 +35,6 @@ pub returns : goal.returns
 returns c =
     let l = c in
     let a = l.args in
-    upto_all a.out.now a.at a.text.now l.loop-i.i l.loop-i.out l.loop-i.invariant c.loop-i-test.false
+    let e : l.loop-i.i ≡ length a.text.now = omega (arith, l.loop-i.invariant.0) in
+    subst (λ (k : ℕ). TextPut a.out.now a.at a.text.now (length a.text.now) l.loop-i.out (a.at + k)) e
+    (upto_all a.out.now a.at a.text.now l.loop-i.i l.loop-i.out l.loop-i.invariant c.loop-i-test.false)
