@@ -4,7 +4,6 @@ use lib.Dec.{lit≤}
 use mathlib.Core.Path.{◌≡◌, ap}
 use Rattle.std.specs.Prelude.{Ok}
 use Rattle.complex.specs.Cells.{Sheet}
-use Rattle.complex.specs.Decode.{uncut}
 use Rattle.complex.specs.Sound.{ids_end}
 use Rattle.complex.specs.Uncut.{uncut_case, uncut_result}
 use Rattle.store.specs.View.{sheet_of}
@@ -19,10 +18,8 @@ use Rattle.ask_uncut_uses.specs.Uses.{use_at, case_of}
 use Rattle.law_uncut_edge.specs.Needs.{more_cycles, Takes}
 use Rattle.lent.specs.Arrays.{Arrays, held_by}
 use Rattle.lent.specs.declared.Change.{Change}
-use Rattle.lent.specs.declared.Line.{Line}
-use Rattle.lent.specs.Replies.{line_says, Ready, Obeyed, Holds}
+use Rattle.lent.specs.Replies.{line_says, Ready, Holds}
 use Rattle.lent.proofs.Sums.{ready_fits, ready_drawing, ready_small}
-use Rattle.kernel_reface.proofs.Left.{less_line}
 use Rattle.kind_uncut_edge.specs.Left.{Leaves}
 use Rattle.kind_uncut_edge.proofs.Leads.{small, large, room_by, edge_no, case_is, fewer, edge_obeyed, few_more}
 use Rattle.answer.proofs.Questions.{all_yes, some_no}
@@ -45,9 +42,6 @@ module _ {a : Arrays} {t : Totals} (y : Ready a t) (e : ℕ) (k : Between) (u w 
   module _ (out : Arrays) (eo : out.next ≡ a.next) (o : Holds (result a e k u w) out) where
     gone_asks : (out.count ≤ a.count) × (a.count ≤ 256)
     gone_asks = (fewer a t y e k u w h n en r er z out eo o, (ready_fits a t y).cells)
-
-    answered : (l : Line) → l ≡ less_line (a.count - out.count) → Obeyed a (uncut e) out l
-    answered = edge_obeyed a t y e k u w h n en r er z out eo o
 
 next_in : {a : Arrays} {t : Totals} → Ready a t → a.next ≤ ids_end
 next_in {a} {t} y = next_in_lem (held_by a) (ready_drawing a t y)
@@ -83,8 +77,8 @@ gone-requires c =
 
 pub returns-then-few-clause-obeyed : goal.returns-then-few-clause-obeyed
 returns-then-few-clause-obeyed c =
-    answered c.requires.ready c.args.e c.args.k c.args.u c.args.w c.requires.e_value
-    c.more_cycles.ensures c.late_asked.ensures (all_yes c.in_ok-late_asked.was) _ (ap (λ (b : Arrays). b.next) c.take_out.ensures.kept) c.take_out.ensures.holds _
+    edge_obeyed _ _ c.requires.ready c.args.e c.args.k c.args.u c.args.w c.requires.e_value
+    _ c.more_cycles.ensures _ c.late_asked.ensures (all_yes c.in_ok-late_asked.was) _ (ap (λ (b : Arrays). b.next) c.take_out.ensures.kept) c.take_out.ensures.holds _
     (ap (λ (u : Change). line_says (Ok u)) c.gone.ensures)
 
 pub take_out-requires-2 : goal.take_out-requires-2
@@ -101,6 +95,6 @@ gone-requires-2 c =
 
 pub returns-clause-obeyed : goal.returns-clause-obeyed
 returns-clause-obeyed c =
-    answered c.requires.ready c.args.e c.args.k c.args.u c.args.w c.requires.e_value
-    c.more_cycles.ensures c.late_asked.ensures (all_yes c.in_ok-late_asked.was) _ (ap (λ (b : Arrays). b.next) c.take_out-2.ensures.kept) c.take_out-2.ensures.holds _
+    edge_obeyed _ _ c.requires.ready c.args.e c.args.k c.args.u c.args.w c.requires.e_value
+    _ c.more_cycles.ensures _ c.late_asked.ensures (all_yes c.in_ok-late_asked.was) _ (ap (λ (b : Arrays). b.next) c.take_out-2.ensures.kept) c.take_out-2.ensures.holds _
     (ap (λ (u : Change). line_says (Ok u)) c.gone-2.ensures)
