@@ -1,6 +1,6 @@
 -- What a decoded command says, read with the script that its lists stay in. Definitions only.
 use Rattle.std.specs.Prelude.{Option, Some, None}
-use Rattle.std.specs.Prelude.{ℕ, ◌+◌, ◌*◌, ◌≤◌, ◌≡◌, List, Float, length, drop}
+use Rattle.std.specs.Prelude.{ℕ, ◌+◌, ◌*◌, ◌≤◌, ◌≡◌, Bool, true, false, List, Float, length, drop}
 use Rattle.number.specs.Readers.{Read}
 use Rattle.number.specs.Said.{Said, done, no, found_or}
 use Rattle.number.specs.Numbers.{read_number}
@@ -83,3 +83,8 @@ MakesOfTwo kind made = (a b : ℕ) (c : Command) → made a b c → Is c (kind a
 
 abbrev pub MakesOfPlace : (ℕ → Position → bytes.Command) → (ℕ → Float → Float → Command → Type 0) → Type 0
 MakesOfPlace kind made = (n : ℕ) (p : Position) (c : Command) → made n p.x p.y c → Is c (kind n p)
+
+-- the two kinds that are a cell and a position: 0B, a face; or 05
+abbrev pub place_kind : Bool → ℕ → Position → bytes.Command
+place_kind true = bytes.cut_face_vertex
+place_kind false = bytes.move

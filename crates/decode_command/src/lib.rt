@@ -4,7 +4,7 @@
 // command and the place after it, if one stands there.
 ghost use Rattle.std.specs.Prelude.{drop};
 ghost use Rattle.complex.specs.Decode.{read_vertex, read_create, read_cell_only, read_two, read_place, read_glue_edges, edits};
-ghost use Rattle.decode_command.specs.View.{Decodes, MakesOfCell, MakesOfTwo, MakesOfPlace};
+ghost use Rattle.decode_command.specs.View.{Decodes, MakesOfCell, MakesOfTwo, MakesOfPlace, place_kind};
 
 #[derive(Clone, Copy)]
 pub enum Command {
@@ -102,8 +102,8 @@ pub fn decode_glue_edges(script: &[u8], at: usize) -> Option<(Command, usize)>
     Some((Command::GlueEdges(a, b, flag), next))
 }
 
-// 05: vertex, position; 0B: face, position
-pub fn decode_place<F: FnOnce(u32, f64, f64) -> Command>(
+// A cell and a position
+pub fn decode_placed<F: FnOnce(u32, f64, f64) -> Command>(
     script: &[u8],
     at: usize,
     make: F,
@@ -118,4 +118,14 @@ pub fn decode_place<F: FnOnce(u32, f64, f64) -> Command>(
         return None;
     };
     Some((make(cell, p.x, p.y), next))
+}
+
+// 05: vertex, position; 0B: face, position
+pub fn decode_place(script: &[u8], at: usize, face: bool) -> Option<(Command, usize)>
+    ensures { Decodes script.now at (edits (read_place (place_kind face)) (drop at script.now)) result }
+{
+    if face {
+        return decode_placed(script, at, Command::CutFaceVertex);
+    }
+    decode_placed(script, at, Command::Move)
 }

@@ -42,7 +42,7 @@ returns-in-4 c = let whole = kind 4 c.decode_face.ensures c.if-script-eq0.false 
 }
 
 pub returns-in-5 : goal.returns-in-5
-returns-in-5 c = let whole = kind 5 (c.decode_place.ensures bytes.move (λ n p c e. alone e (λ s. refl) (λ s. tt))) c.if-script-eq0.false c.in-5.is in record {
+returns-in-5 c = let whole = kind 5 c.decode_place.ensures c.if-script-eq0.false c.in-5.is in record {
   result_value = whole.0;
   decoded_end = whole.1;
 }
@@ -78,7 +78,7 @@ returns-in-10 c = let whole = kind 10 (c.decode_two-in-10.ensures bytes.cut_edge
 }
 
 pub returns-in-11 : goal.returns-in-11
-returns-in-11 c = let whole = kind 11 (c.decode_place-in-11.ensures bytes.cut_face_vertex (λ n p c e. alone e (λ s. refl) (λ s. tt))) c.if-script-eq0.false c.in-11.is in record {
+returns-in-11 c = let whole = kind 11 c.decode_place-in-11.ensures c.if-script-eq0.false c.in-11.is in record {
   result_value = whole.0;
   decoded_end = whole.1;
 }

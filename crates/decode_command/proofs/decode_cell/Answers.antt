@@ -1,5 +1,4 @@
 -- `decode_command::decode_cell` meets its contract: it reads a cell. Assumes nothing.
-use borrow.Author.Rules.{rules}
 use Rattle.decode_parts.proofs.Fields.{number_heard}
 use Rattle.decode_command.proofs.Decides.{unread, made}
 use Rattle.decode_command.proofs.decode_cell.Goals as goal

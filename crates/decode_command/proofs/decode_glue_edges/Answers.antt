@@ -1,6 +1,5 @@
 -- `decode_command::decode_glue_edges` meets its contract: it reads a, b, flag. Assumes nothing.
 use mathlib.Core.Path.{refl}
-use borrow.Author.Rules.{rules}
 use Rattle.decode_fields.specs.Fields.{three_says}
 use Rattle.decode_parts.proofs.Fields.{heard}
 use Rattle.decode_command.proofs.Decides.{unread, whole, of_three}

@@ -1,20 +1,24 @@
--- `decode_command::decode_place` meets its contract: it reads a cell and a position. Assumes nothing.
-use borrow.Author.Rules.{rules}
-use Rattle.coordinate.specs.Positions.{read_position}
-use Rattle.decode_parts.proofs.Fields.{number_heard, position_heard}
-use Rattle.decode_fields.proofs.Pairs.{pair_none, pair_half, pair_both}
-use Rattle.decode_command.proofs.Decides.{unread, made, of_place}
+-- `decode_command::decode_place` meets its contract: of the two kinds it takes the one that the flag names. Assumes nothing.
+use Rattle.std.specs.Prelude.{Option}
+use Prim.Native.Nat.{ℕ}
+use mathlib.Core.Path.{◌≡◌, refl, sym, subst}
+use mathlib.Core.Bool.{Bool}
+use mathlib.Core.List.{List}
+use lib.ListN.{drop}
+use Rattle.complex.specs.Decode.{read_place, edits}
+use Rattle.complex.specs.Decode as bytes
+use Rattle.decode_command.specs.declared.Command.{Command}
+use Rattle.decode_command.specs.View.{Decodes, place_kind}
+use Rattle.decode_command.proofs.Decides.{alone}
 use Rattle.decode_command.proofs.decode_place.Goals as goal
 
-pub returns-in_default : goal.returns-in_default
-returns-in_default g c = λ kind m. of_place kind (unread _ (pair_none read_position (number_heard c.read_number.ensures c.in_default.is)))
+-- a flag that is known
+known : {s : List ℕ} {at : ℕ} {a b : Bool} {d : Option (Command × ℕ)} → a ≡ b
+    → Decodes s at (edits (read_place (place_kind b)) (drop at s)) d → Decodes s at (edits (read_place (place_kind a)) (drop at s)) d
+known {s} {at} {d = d} e h = subst (λ (k : Bool). Decodes s at (edits (read_place (place_kind k)) (drop at s)) d) (sym e) h
 
-pub returns-in_default-read_position : goal.returns-in_default-read_position
-returns-in_default-read_position g c = λ kind m.
-    of_place kind (unread _ (pair_half (number_heard c.read_number.ensures c.in-Some.is)
-    (position_heard c.read_position.ensures c.in_default-read_position.is)))
+pub returns-then-face : goal.returns-then-face
+returns-then-face c = known c.if-face.true (c.decode_placed.ensures bytes.cut_face_vertex (λ n p c e. alone e (λ s. refl) (λ s. tt)))
 
 pub returns : goal.returns
-returns g c = λ kind m. of_place kind (made _
-    (pair_both (number_heard c.read_number.ensures c.in-Some.is) (position_heard c.read_position.ensures c.in-Some-read_position.is))
-    (m c.in-Some.cell c.in-Some-read_position.p c.make.result c.make.ensures))
+returns c = known c.if-face.false (c.decode_placed-2.ensures bytes.move (λ n p c e. alone e (λ s. refl) (λ s. tt)))

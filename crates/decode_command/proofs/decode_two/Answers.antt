@@ -1,5 +1,4 @@
 -- `decode_command::decode_two` meets its contract: it reads two numbers. Assumes nothing.
-use borrow.Author.Rules.{rules}
 use Rattle.decode_fields.specs.Fields.{two_says}
 use Rattle.decode_parts.proofs.Fields.{heard}
 use Rattle.decode_command.proofs.Decides.{unread, made, of_two}

@@ -1,6 +1,5 @@
 -- `decode_command::decode_vertex` meets its contract: it reads a position. Assumes nothing.
 use mathlib.Core.Path.{refl}
-use borrow.Author.Rules.{rules}
 use Rattle.coordinate.specs.Positions.{read_position}
 use Rattle.complex.specs.Cells.{vertex}
 use Rattle.decode_parts.proofs.Fields.{position_heard}
