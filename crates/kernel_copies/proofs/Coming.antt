@@ -34,7 +34,7 @@ use Rattle.rows_uses.specs.Uses.{uses_in}
 use Rattle.rows_copied.specs.Copying.{copied}
 use Rattle.rows_copied.proofs.Dealt.{stepped_is, copied_cells}
 use Rattle.lent.specs.Arrays.{Arrays, shape_by, shape_at, position_in, positions_in, held_by, row_normal, normal_at, normal, Lengths}
-use Rattle.lent.specs.Growing.{with_row, row_put}
+use Rattle.lent.specs.Growing.{with_row}
 use Rattle.lent.proofs.Held.{all_at, cells_shape, cells_told, held_sizes, told, positions_at_lem, positions_set, positions_length, place_other, place_same}
 use Rattle.lent.proofs.Grown.{row_long, row_held, row_normal_lem}
 use Rattle.kernel_copies.specs.Copies.{filled_rows, numbered_rows, RowsPut, CopiesCome, UsesCopied}
@@ -64,45 +64,10 @@ bend_put us₀ vs₀ us vs us' vs' base n first k i j p l₀ m₀ l m e ei h g t
     ap₂ positions_in eu ev ∙ positions_set us vs (base + j) p ∙ ap (set ps (base + j)) at
     ∙ bend_more ps₀ ps base n first k j p e h (omega (arith, g, z, l₀)) t
 
--- ---- the lists of rows, one turn at a time
-fill_more : {A : Type 0} {m m' : List A} (l : List A) (at : ℕ) (x : A) (i : ℕ) → m ≡ filled_rows l at x i → m' ≡ set m (at + i) x
-    → m' ≡ filled_rows l at x (i + 1)
-fill_more {A} l at x i e f = f ∙ ap (λ (q : List A). set q (at + i) x) e ∙ ap (filled_rows l at x) (sym (add-one i))
-
-pub rows_turn : (a b d : Arrays) (row i id : ℕ) (p : Position) (us vs : List Float)
-    → RowsPut a.next a.count row i a.ids a.kinds a.starts a.ends a.bends a.counts a.px a.py b.ids b.kinds b.starts b.ends b.bends b.counts b.px b.py
-    → id ≡ a.next + i → p ≡ position_in a.px a.py row
-    → d ≡ row_put b (a.count + i) id (get_or a.kinds row 0) (get_or a.starts row 0) (get_or a.ends row 0) (get_or a.bends row 0) (get_or a.counts row 0)
-    → us ≡ set d.px (a.count + i) p.x → vs ≡ set d.py (a.count + i) p.y
-    → RowsPut a.next a.count row (i + 1) a.ids a.kinds a.starts a.ends a.bends a.counts a.px a.py d.ids d.kinds d.starts d.ends d.bends d.counts us vs
-rows_turn a b d row i id p us vs r ei ep e eu ev =
-    let n = a.count in
-    record {
-      ids =
-          ap (λ (q : Arrays). q.ids) e ∙ ap₂ (λ (l : List ℕ) (x : ℕ). set l (n + i) x) r.ids ei
-          ∙ ap (numbered_rows a.ids n a.next) (sym (add-one i));
-      kinds = fill_more a.kinds n (get_or a.kinds row 0) i r.kinds (ap (λ (q : Arrays). q.kinds) e);
-      starts = fill_more a.starts n (get_or a.starts row 0) i r.starts (ap (λ (q : Arrays). q.starts) e);
-      ends = fill_more a.ends n (get_or a.ends row 0) i r.ends (ap (λ (q : Arrays). q.ends) e);
-      bends = fill_more a.bends n (get_or a.bends row 0) i r.bends (ap (λ (q : Arrays). q.bends) e);
-      counts = fill_more a.counts n (get_or a.counts row 0) i r.counts (ap (λ (q : Arrays). q.counts) e);
-      px =
-          fill_more a.px n (get_or a.px row nan) i (ap (λ (q : Arrays). q.px) e ∙ r.px)
-          (eu ∙ ap (λ (q : Position). set d.px (n + i) q.x) ep);
-      py =
-          fill_more a.py n (get_or a.py row nan) i (ap (λ (q : Arrays). q.py) e ∙ r.py)
-          (ev ∙ ap (λ (q : Position). set d.py (n + i) q.y) ep);
-    }
-
+-- ---- the lists of rows
 -- b with what is no list of rows from a
 abbrev pub rows_only : Arrays → Arrays → Arrays
 rows_only a b = record b { next = a.next; count = a.count; cycles = a.cycles; steps = a.steps; bx = a.bx; by = a.by }
-
-pub rows_kept : (a b d : Arrays) (row id k s e n c : ℕ) (us vs : List Float) → b ≡ rows_only a b → d ≡ row_put b row id k s e n c
-    → record d { px = us; py = vs } ≡ rows_only a (record d { px = us; py = vs })
-rows_kept a b d row id k s e n c us vs kept put =
-    subst (λ (q : Arrays). record q { px = us; py = vs } ≡ rows_only a (record q { px = us; py = vs }))
-    (sym (put ∙ ap (λ (q : Arrays). row_put q row id k s e n c) kept)) refl
 
 -- ---- a row more
 -- b has i of n rows of the shape s more, with the next ids

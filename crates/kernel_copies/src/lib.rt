@@ -10,9 +10,10 @@ ghost use Rattle.rows_new.specs.Runs.{run_at};
 ghost use Rattle.rows_new.specs.Copies.{repeated};
 ghost use Rattle.rows_new.specs.Requirements.{CopiesRoom};
 ghost use Rattle.lent.specs.Arrays.{held_by, positions_in, normal, Lengths};
-ghost use Rattle.kernel_copies.specs.Copies.{RowsPut, CopiesCome, UsesCopied};
+ghost use Rattle.kernel_copies.specs.Copies.{filled_rows, numbered_rows, RowsPut, CopiesCome, UsesCopied};
 ghost use Rattle.lent.specs.Sheets.{arrays, Same};
 
+use coordinate::Position;
 use lent::SheetMut;
 use rows_uses::Use;
 
@@ -51,7 +52,42 @@ fn put_bends(
     }
 }
 
-// n rows like one of those in use, after the last, with the ids from the next one on.
+// x is written into n rows from one on.
+fn fill_rows(l: &mut [u32; 256], at: usize, n: usize, x: u32)
+    requires { at + n ≤ cells_most }
+    ensures { l.new ≡ filled_rows l.old at x n }
+{
+    for i in 0..n {
+        l[at + i] = x;
+    }
+}
+
+// The numbers from x on are written into n rows from one on.
+fn number_rows(l: &mut [u32; 256], at: usize, n: usize, x: u32)
+    requires room { at + n ≤ cells_most }
+    requires few { x + n ≤ ids_end }
+    ensures { l.new ≡ numbered_rows l.old at x n }
+{
+    let mut id = x;
+    for i in 0..n {
+        l[at + i] = id;
+        id = id + 1;
+    }
+}
+
+// A position is written into n rows from one on.
+fn fill_positions(px: &mut [f64; 256], py: &mut [f64; 256], at: usize, n: usize, p: Position)
+    requires { at + n ≤ cells_most }
+    ensures px_after { px.new ≡ filled_rows px.old at p.x n }
+    ensures py_after { py.new ≡ filled_rows py.old at p.y n }
+{
+    for i in 0..n {
+        lent::put_position(px, py, at + i, p);
+    }
+}
+
+// n rows like one of those in use, after the last, with the ids from the next one on: one list of rows after another, which is
+// faster than row by row.
 fn put_rows(sheet: &mut SheetMut<'_>, row: usize, n: usize)
     requires row_lt_count { row < sheet.old.count.now }
     requires n_bound { sheet.old.count.now + n ≤ cells_most }
@@ -60,19 +96,20 @@ fn put_rows(sheet: &mut SheetMut<'_>, row: usize, n: usize)
     ensures same { Same sheet.old sheet.new }
     ensures kept { arrays sheet.new ≡ record (arrays sheet.new) { next = sheet.old.next.now; count = sheet.old.count.now; cycles = sheet.old.cycles.now; steps = sheet.old.steps.now; bx = sheet.old.bx.now; by = sheet.old.by.now } }
 {
+    let at = *sheet.count;
     let kind = sheet.kinds[row];
     let start = sheet.starts[row];
     let end = sheet.ends[row];
     let bend = sheet.bends[row];
     let cycle = sheet.counts[row];
     let p = lent::vertex_at(sheet.px, sheet.py, row);
-    let count = *sheet.count;
-    let mut id = *sheet.next;
-    for i in 0..n {
-        lent::put_row(sheet, count + i, id, kind, start, end, bend, cycle);
-        lent::put_position(sheet.px, sheet.py, count + i, p);
-        id = id + 1;
-    }
+    number_rows(sheet.ids, at, n, *sheet.next);
+    fill_rows(sheet.kinds, at, n, kind);
+    fill_rows(sheet.starts, at, n, start);
+    fill_rows(sheet.ends, at, n, end);
+    fill_rows(sheet.bends, at, n, bend);
+    fill_rows(sheet.counts, at, n, cycle);
+    fill_positions(sheet.px, sheet.py, at, n, p);
 }
 
 // n copies of the vertex or edge in a row, their bends after the `base` bends in use.
