@@ -5,7 +5,8 @@ ghost use Rattle.std.specs.Prelude.{◌≤◌, length};
 ghost use Rattle.decode_parts.specs.Lists.{Found};
 ghost use Rattle.decode_fields.specs.Fields.{read_two_numbers, read_three_numbers, read_cut_lists, two_says, three_says, cut_says, CutLie};
 
-// Two numbers and the place after them, if they stand there.
+// Two numbers and the place after them, if they stand there. Put into its callers: a file has two such numbers for each cell.
+#[inline(always)]
 pub fn two_numbers(script: &[u8], at: usize) -> Option<(u32, u32, usize)>
     ensures { Found read_two_numbers script.now at (two_says result) }
 {
