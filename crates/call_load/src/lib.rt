@@ -18,8 +18,11 @@ const CELLS_MOST: usize = 256;
 
 const BENDS_MOST: usize = 2048;
 
+// Every function below is put into its callers: there it is known whether the bends are kept.
+
 // The cycles of a shape, from a place on where its bends stand before them: the place after them and what is in use with them. There must be
 // room and bytes for both.
+#[inline(always)]
 fn load_parts(
     s: &[u8],
     first: usize,
@@ -51,6 +54,7 @@ fn load_parts(
 
 // The n bends from a place on are put into arrays from another place on where they are kept; else they are only looked at: whether they, and
 // those before them, lie in bounds.
+#[inline(always)]
 fn bends_taken(
     s: &[u8],
     first: usize,
@@ -79,6 +83,7 @@ fn bends_taken(
 
 // The n cells from a place on, with nothing after them, and whether the bends that were looked at lie in bounds; none where the bytes are not
 // such cells, or there is no room. Bends that are not kept are looked at in the bytes.
+#[inline(always)]
 fn load_cells(s: &[u8], at: usize, n: usize, sheet: &mut SheetMut<'_>, keep: bool) -> Option<bool>
     requires at_in_bounds { at ≤ length s.now }
     requires n_le_cells_most { n ≤ cells_most }
@@ -124,6 +129,7 @@ fn load_cells(s: &[u8], at: usize, n: usize, sheet: &mut SheetMut<'_>, keep: boo
 }
 
 // What a file begins with: the next id, the number of cells and the place after them, if it does.
+#[inline(always)]
 fn counts_at(bytes: &[u8]) -> Option<(u32, usize, usize)>
     ensures { CountsRead bytes.now result }
 {
@@ -143,6 +149,7 @@ fn counts_at(bytes: &[u8]) -> Option<(u32, usize, usize)>
 // The drawing whose file the bytes are, sound or not, whatever the arrays held: its next id, its number of cells and whether the bends that were
 // looked at lie in bounds. None where the bytes are not, all of them, a next id and cells that keep the ceilings. Where the bends are not kept,
 // their arrays stay.
+#[inline(always)]
 pub fn load(bytes: &[u8], sheet: &mut SheetMut<'_>, keep: bool) -> Option<(u32, usize, bool)>
     ensures rows_loaded { RowsLoaded keep bytes.now (λ next n xs ys. exit_of n (arrays sheet.new) xs ys next) sheet.new.bx.now sheet.new.by.now result }
     ensures stays { Stays keep sheet.old.bx.now sheet.old.by.now sheet.new.bx.now sheet.new.by.now }

@@ -19,7 +19,8 @@ pub fn two_numbers(script: &[u8], at: usize) -> Option<(u32, u32, usize)>
     Some((a, b, next))
 }
 
-// Three numbers and the place after them, if they stand there.
+// Three numbers and the place after them, if they stand there. Put into its callers: a file has three such numbers for each open edge.
+#[inline(always)]
 pub fn three_numbers(script: &[u8], at: usize) -> Option<(u32, u32, u32, usize)>
     ensures { Found read_three_numbers script.now at (three_says result) }
 {

@@ -29,8 +29,11 @@ pub struct Used {
     pub steps: usize,
 }
 
+// Every function below is put into its callers, which read a file's cells in one loop.
+
 // ---- a shape, or a cell, up to its bends or cycles, and the place after that, if one stands there
 
+#[inline(always)]
 fn vertex_at(s: &[u8], at: usize) -> Option<(Shape, usize)>
     ensures { ShapeRead vertex_shape s.now at result }
 {
@@ -40,6 +43,7 @@ fn vertex_at(s: &[u8], at: usize) -> Option<(Shape, usize)>
     Some((Shape::Vertex(p), next))
 }
 
+#[inline(always)]
 fn open_at(s: &[u8], at: usize) -> Option<(Shape, usize)>
     ensures { ShapeRead open_shape s.now at result }
 {
@@ -50,6 +54,7 @@ fn open_at(s: &[u8], at: usize) -> Option<(Shape, usize)>
 }
 
 // A face up to its cycles, or a closed edge up to its bends.
+#[inline(always)]
 fn counted_at(s: &[u8], at: usize, face: bool) -> Option<(Shape, usize)>
     ensures { ShapeRead (counted_shape face) s.now at result }
 {
@@ -62,6 +67,7 @@ fn counted_at(s: &[u8], at: usize, face: bool) -> Option<(Shape, usize)>
     Some((Shape::Closed { bends: n }, next))
 }
 
+#[inline(always)]
 fn shape_at(s: &[u8], at: usize, kind: u32) -> Option<(Shape, usize)>
     ensures { ShapeRead (read_shape kind) s.now at result }
 {
@@ -75,6 +81,7 @@ fn shape_at(s: &[u8], at: usize, kind: u32) -> Option<(Shape, usize)>
 }
 
 // A cell up to its bends or cycles.
+#[inline(always)]
 pub fn head_at(s: &[u8], at: usize) -> Option<(Cell, usize)>
     ensures { HeadRead s.now at result }
 {
@@ -88,6 +95,7 @@ pub fn head_at(s: &[u8], at: usize) -> Option<(Cell, usize)>
 }
 
 // The m numbers from a place on, put into out, and the place after them, if they stand there.
+#[inline(always)]
 fn put_numbers(s: &[u8], at: usize, m: usize, out: &mut [u32], used: usize) -> Option<usize>
     requires at_in_bounds { at ≤ length s.now }
     requires m_in_bounds { used + m ≤ length out.old }
@@ -106,6 +114,7 @@ fn put_numbers(s: &[u8], at: usize, m: usize, out: &mut [u32], used: usize) -> O
 
 // The cycle at a place: its number of steps put into cycles, and its steps, or its lone vertex,
 // into steps. The place after it and what is in use with it, if a sound drawing's file can have it there.
+#[inline(always)]
 fn load_cycle(
     s: &[u8],
     at: usize,
@@ -143,6 +152,7 @@ fn load_cycle(
 }
 
 // The n cycles from a place on, in the same way.
+#[inline(always)]
 pub fn load_cycles(
     s: &[u8],
     at: usize,
